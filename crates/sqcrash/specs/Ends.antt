@@ -4,32 +4,13 @@ use Rattle.sqcrash.specs.Refused.{IsRefusal}
 use Rattle.sqcrash.specs.Refusals.{IsOfFiles}
 use Rattle.sqcrash.specs.Rigs.{IsJudgment}
 use Rattle.sqcrash.specs.Surveys.{IsClean}
-use Rattle.sqcrash.specs.Sectors.{IsSectorAsked}
-use Rattle.sqcrash.specs.Words.{AsksVersion, HasVersion, AsksHelp}
+use Rattle.sqcrash.specs.Words.{Asks}
 use Rattle.sqcrash.specs.declared.outcome.Refusal.{Refusal}
 use Rattle.sqcrash.specs.declared.plan.Plan.{Plan}
 use Rattle.sqcrash.specs.declared.requests.LineError.{LineError}
 use Rattle.sqcrash.specs.declared.requests.LineError.TheVariants.{NotUnderstood, Help, Version, NoMemory}
 use Rattle.sqcrash.specs.declared.requests.Request.{Request}
 use Rattle.sqcrash.specs.declared.survey.Tally.{Tally}
-
--- why words ask for nothing: a text is printed only where a word asks for it
-abbrev pub IsRefusedAs : (words : List (List ℕ)) → LineError → Type 0
-IsRefusedAs words (Help text) = AsksHelp words
-IsRefusedAs words Version = HasVersion words
-IsRefusedAs words (NotUnderstood text) = Unit {0}
-IsRefusedAs words NoMemory = Unit {0}
-
--- a part is none
-abbrev pub IsOfPart : LineError → Type 0
-IsOfPart (NotUnderstood text) = Unit {0}
-IsOfPart NoMemory = Unit {0}
-IsOfPart _ = ⊥
-
--- what words ask for, or why they ask for nothing
-abbrev pub IsReadAs : (words : List (List ℕ)) → Result Request LineError → Type 0
-IsReadAs words (Ok request) = IsSectorAsked request.plan.sector
-IsReadAs words (Err error) = IsRefusedAs words error
 
 -- What comes of the trace that is asked for: the judgment of what its file gives, with one point or more; or that isn't
 -- read, or refused.
@@ -58,7 +39,6 @@ EndsAs (Err Version) status = IsTold 0 status
 EndsAs (Err (NotUnderstood text)) status = IsTold 2 status
 EndsAs (Err NoMemory) status = status ≡ 3
 
--- How the program ends whose words are these. Where the first one asks for the version nothing else is read.
+-- How the program ends whose words are these.
 abbrev pub Ends : (words : List (List ℕ)) → (status : ℕ) → Type 0
-Ends words status =
-    (read : Result Request LineError) × IsReadAs words read × (AsksVersion words → read ≡ Err Version) × EndsAs read status
+Ends words status = (read : Result Request LineError) × Asks words read × EndsAs read status

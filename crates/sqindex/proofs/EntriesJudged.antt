@@ -20,9 +20,50 @@ use Rattle.sqindex.specs.Keys.{values_of, has_rowid, IsKeyed}
 use Rattle.sqindex.specs.Rules.{width}
 use Rattle.sqindex.specs.Indexes.{EntryRefused}
 use Rattle.sqindex.specs.internal.Held.{nothing, held_in, entry_in, held_by}
-use Rattle.sqindex.specs.internal.Judging.{IsTie, IsNumbered}
+use Rattle.sqindex.specs.internal.Judging.{at_place, IsBehind, IsSoundAt, AreJudged, AreSoundEntries, IsTie, IsNumbered, JudgeRefused, TwiceRefused}
 use Rattle.sqindex.proofs.Places.{some_once, of_all, all_of, map_get, get_map, contained, place_of}
 use Rattle.sqindex.proofs.RowidsOfEntries.{has_own}
+
+pub none_judged : (key : IndexKey) (xs : List Stored) (ps : List Held) → AreJudged key xs ps 0
+none_judged key xs ps i p less at = absurd (omega (arith, less))
+
+-- one more of them is
+pub one_judged : (key : IndexKey) (xs : List Stored) (old new : List Held) (many : ℕ) (rowid : ℤ) → AreJudged key xs old many → ((p : Held) × (slice_get new many ≡ Some p) × (p.rowid ≡ rowid))
+    → ((j : ℕ) → j ≢ many → slice_get new j ≡ slice_get old j) → IsSoundAt key xs many rowid → AreJudged key xs new (many + 1)
+one_judged key xs old new many rowid judged here others sound i q less at = ⊎_elim
+    (λ (before : i < many). judged i q before (sym (others i (λ e. omega (arith, e, before))) ∙ at))
+    (λ (not : many ≤ i).
+    let same : i ≡ many = omega (arith, less, not) in
+    let one : here.0 ≡ q = some_once here.0 q (sym here.1 ∙ subst (λ k. slice_get new k ≡ Some q) same at) in
+    subst (λ k. IsSoundAt key xs k q.rowid) (sym same) (subst (IsSoundAt key xs many) (sym here.2 ∙ ap (λ (p : Held). p.rowid) one) sound))
+    (cases_lt i many)
+
+module _ (key : IndexKey) (xs : List Stored) (old : Entries) (same : held_by old ≡ xs) (judged : AreJudged key xs old.list.items (length xs)) where
+  -- what is said of the entry at a place
+  said : (i : ℕ) (x : Stored) → slice_get xs i ≡ Some x → (rowid : ℤ) × IsSoundAt key xs i rowid × (at_place xs i ≡ x)
+  said i x at =
+      let g = get_map (held_in old.bytes.items) old.list.items i x (subst (λ (z : List Stored). slice_get z i ≡ Some x) (sym same) at) in
+      (g.0.rowid, judged i g.0 (slice_get_within xs i x at) g.1, get_or_from_slice_get xs i x nothing at)
+
+  behind : (i : ℕ) (a b : Stored) → slice_get xs i ≡ Some a → slice_get xs (i + 1) ≡ Some b → IsBehind key (values_of a) (values_of b)
+  behind i a b at next =
+      let m = said i a at in
+      let n = said (i + 1) b next in
+      subst (λ z. IsBehind key (values_of z) (values_of b)) m.2 (subst (λ z. IsBehind key (values_of (at_place xs i)) (values_of z)) n.2 (n.1.behind i refl))
+
+  pub sound_entries : AreSoundEntries key xs
+  sound_entries = record {
+    formed = all_of (λ x. (rowid : ℤ) × IsKeyed (width key) rowid (values_of x)) xs
+        (λ i x at. let m = said i x at in (m.0, subst (λ z. IsKeyed (width key) m.0 (values_of z)) m.2 m.1.keyed));
+    ascend = λ i a b at next. (behind i a b at next).behind;
+    apart = λ unique i a b at next. (behind i a b at next).apart unique;
+  }
+
+  pub each_numbered : All (IsNumbered key old) old.list.items
+  each_numbered = all_of (IsNumbered key old) old.list.items (λ i p at.
+      let there : slice_get xs i ≡ Some (entry_in old p) = subst (λ (z : List Stored). slice_get z i ≡ Some (entry_in old p)) same (map_get (held_in old.bytes.items) old.list.items i p at) in
+      let m = judged i p (slice_get_within xs i (entry_in old p) there) at in
+      subst (λ (z : Stored). IsKeyed (width key) p.rowid (values_of z)) (get_or_from_slice_get xs i (entry_in old p) nothing there) m.keyed)
 
 -- what is said of entries when they are sorted
 pub sorted_same : (key : IndexKey) (old new : Entries) → new.bytes ≡ old.bytes → IsPermutation old.list.items new.list.items → All (IsNumbered key old) old.list.items
@@ -34,6 +75,12 @@ sorted_same key old new bytes moved each =
       subst (λ (z : List ℕ). IsPermutation (map (held_in z) new.list.items) (held_by old)) (sym b)
           (IsPermutation-sym (map f old.list.items) (map f new.list.items) (IsPermutation-map f old.list.items new.list.items moved)),
     )
+
+pub twice_judged : (key : IndexKey) (xs : List Stored) (e : IndexError) → TwiceRefused key xs e → JudgeRefused key xs e
+twice_judged key xs (errors.Table e) h = absurd h
+twice_judged key xs (errors.Index e) h = h
+twice_judged key xs (errors.Entry e) h = let there = place_of xs h.0 h.1 in (there.0, h.0, there.1, h.2, h.3, subst (EntryRefused key xs there.0 h.0) (sym h.4) h.5)
+twice_judged key xs errors.TooLarge h = absurd h
 
 -- two elements next to each other pass a test
 two_pass : {X : Type 0} (test : X → Bool) (xs : List X) (i : ℕ) (a b : X) → slice_get xs i ≡ Some a → slice_get xs (i + 1) ≡ Some b → test a ≡ true → test b ≡ true → 2 ≤ count_by test xs

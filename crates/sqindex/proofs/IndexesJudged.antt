@@ -9,9 +9,16 @@ use Rattle.sqindex.specs.declared.error.IndexError.TheVariants as errors
 use Rattle.sqindex.specs.Stored.{Stored}
 use Rattle.sqindex.specs.Rules.{HasKeyedRows, HasEntries}
 use Rattle.sqindex.specs.Indexes.{EntryRefused, StandsInIndex, ReadRefused, NoEntries, IndexRefused}
+use Rattle.sqindex.specs.internal.Judging.{EntriesRefused, JudgeRefused}
 use Rattle.sqindex.specs.internal.Joining.{BothRefused}
 
 module _ (d : Database) (table index : ℕ) (key : IndexKey) (limit : ℕ) where
+  pub entries_refused : (few : ℕ) (e : IndexError) → EntriesRefused d index few limit e → ¬ (e ≡ errors.TooLarge) → IndexRefused d table index key limit e
+  entries_refused few (errors.Table e) h other = absurd h
+  entries_refused few (errors.Index e) h other = h
+  entries_refused few (errors.Entry e) h other = absurd h
+  entries_refused few errors.TooLarge h other = absurd (other refl)
+
   pub stands : (xs : List Stored) (i : ℕ) (x : Stored) (fault : IndexFault) (page cell : ℕ) → HasEntries d index xs → slice_get xs i ≡ Some x → x.page ≡ page → x.cell ≡ cell → EntryRefused key xs i x fault
       → StandsInIndex d table index key fault page cell
   stands xs i x faults.EntryForm page cell has at p c h = (xs, i, x, has, at, p, c, h)
@@ -20,6 +27,12 @@ module _ (d : Database) (table index : ℕ) (key : IndexKey) (limit : ℕ) where
   stands xs i x faults.RowTwice page cell has at p c h = (xs, i, x, has, at, p, c, h)
   stands xs i x faults.EntryOfNoRow page cell has at p c h = absurd h
   stands xs i x faults.RowWithoutEntry page cell has at p c h = absurd h
+
+  pub judge_refused : (xs : List Stored) (e : IndexError) → HasEntries d index xs → JudgeRefused key xs e → IndexRefused d table index key limit e
+  judge_refused xs (errors.Table e) has h = absurd h
+  judge_refused xs (errors.Index e) has h = subst (ReadRefused d index limit (NoEntries d index)) (sym h) tt
+  judge_refused xs (errors.Entry e) has h = stands xs h.0 h.1 e.fault e.page e.cell has h.2 h.3 h.4 h.5
+  judge_refused xs errors.TooLarge has h = absurd h
 
   pub both : (xs rows : List Stored) (fault : IndexFault) (page cell : ℕ) → HasEntries d index xs → HasKeyedRows d table rows → BothRefused key xs rows fault page cell → StandsInIndex d table index key fault page cell
   both xs rows faults.EntryOfNoRow page cell has keyed h = (rows, xs, h.0, h.1, keyed, has, h.2, h.3.0, h.3.1, h.4)

@@ -1,5 +1,5 @@
 -- Elements of lists by their places.
-use Rattle.std.proofs.Common.{◌≡◌, ◌≢◌, ◌<◌, ◌⊎◌, inl, inr, ⊎_elim, ℕ, zero, suc, List, [], ◌∷◌, ◌++◌, length, map, get_or, slice_get, slice_set, Some, refl, sym, ap, ◌∙◌, subst, arith, All, Contains, ◌+◌}
+use Rattle.std.proofs.Common.{◌≡◌, ◌≢◌, ◌<◌, ◌⊎◌, inl, inr, ⊎_elim, ℕ, zero, suc, List, [], ◌∷◌, ◌++◌, length, map, get_or, slice_get, slice_set, Some, refl, sym, ap, ◌∙◌, subst, arith, All, Contains}
 use Rattle.std.proofs.lemmas.Option.{slice_get_within, slice_get-get_or, get_or_from_slice_get}
 use Rattle.std.specs.List.{AllZip}
 
@@ -18,14 +18,6 @@ module _ {X : Type 0} where
   pub get_here : (xs : List X) (x : X) (more : List X) → slice_get (xs ++ x ∷ more) (length xs) ≡ Some x
   get_here [] x more = refl
   get_here (z ∷ xs) x more = get_here xs x more
-
-  pub get_right : (xs ys : List X) (i : ℕ) (x : X) → slice_get ys i ≡ Some x → slice_get (xs ++ ys) (length xs + i) ≡ Some x
-  get_right [] ys i x h =
-      let e : 0 + i ≡ i = omega arith in
-      subst (λ k. slice_get ys k ≡ Some x) (sym e) h
-  get_right (z ∷ xs) ys i x h =
-      let e : length (z ∷ xs) + i ≡ suc (length xs + i) = omega arith in
-      subst (λ k. slice_get (z ∷ (xs ++ ys)) k ≡ Some x) (sym e) (get_right xs ys i x h)
 
   -- an element of a list to which one was added
   pub get_push : (xs : List X) (x : X) (i : ℕ) (y : X) → slice_get (xs ++ x ∷ []) i ≡ Some y → (slice_get xs i ≡ Some y) ⊎ ((i ≡ length xs) × (y ≡ x))

@@ -160,6 +160,15 @@ nothing_matched key above rows xs none =
     let xs' = none_kept (λ x. passed above (number_in (width key) x)) xs (λ i x at. bad (number_in (width key) x)) in
     subst (λ (l : List Stored). Match key l (entries_to key above xs)) (sym rows') (subst (λ (l : List Stored). Match key [] l) (sym xs') ([], IsPermutation-refl [], tt))
 
+-- the rows of all rowids
+pub rows_all : (span : Span) (rows : List Stored) → span.above ≡ None → span.last ≡ None → rows_in span rows ≡ rows
+rows_all span rows above last = all_kept (λ row. in_span span.above span.last (rowid_of row)) rows
+    (λ x. ap (λ (a : Option ℤ). in_span a span.last (rowid_of x)) above ∙ ap (λ (b : Option ℤ). in_span None b (rowid_of x)) last)
+
+pub entries_all : (key : IndexKey) (span : Span) (xs : List Stored) → span.above ≡ None → span.last ≡ None → entries_in key span xs ≡ xs
+entries_all key span xs above last = all_kept (λ x. in_span span.above span.last (number_in (width key) x)) xs
+    (λ x. ap (λ (a : Option ℤ). in_span a span.last (number_in (width key) x)) above ∙ ap (λ (b : Option ℤ). in_span None b (number_in (width key) x)) last)
+
 -- the rowid of an entry
 pub number_is : (n : ℕ) (r : ℤ) (x : Stored) → IsKeyed n r (values_of x) → number_in n x ≡ r
 number_is n r x keyed = ap int_of (get_or_from_slice_get (values_of x) n (Int r) Null keyed.last)

@@ -1,6 +1,6 @@
 //! The entries of an index in memory (own).
 ghost use Rattle.std.specs.Prelude.{◌≡◌, ◌≢◌, ◌≤◌, ◌+◌, ◌<◌, ℕ, [], ◌∷◌, ◌++◌, All, IfOk, OnOk, MatchOption, Some};
-ghost use Rattle.std.specs.Prelude.{None, length, take, slice_get, slice_index_or, nat_le, if◌then◌else◌};
+ghost use Rattle.std.specs.Prelude.{length, take, slice_get, slice_index_or, nat_le, if◌then◌else◌};
 ghost use Rattle.std.specs.List.Sorted.{IsPermutation, IsSortedByKey};
 ghost use Rattle.std.specs.Ordering.{int_cmp};
 ghost use Rattle.sqindex.specs.declared.entries.Held.{Held as SpecHeld};
@@ -12,9 +12,6 @@ use std::alloc::{AllocError, Global};
 
 /// The most bytes of a payload that lies in its entry, and not behind the others.
 pub(crate) const INSIDE: usize = 16;
-
-/// How many bytes an entry takes beside a payload that lies behind the others.
-pub(crate) const HELD: u64 = 40;
 
 /// An entry: its payload, or where that lies, and where the entry stands in the index.
 #[derive(Clone, Copy, Debug)]
@@ -28,19 +25,6 @@ pub(crate) struct Held {
     pub(crate) body: [u8; 16],
 }
 
-impl Held {
-    /// Where it was found.
-    fn found(self) -> Found
-        ensures { (result.page ≡ self.page) × (result.cell ≡ self.cell) × (result.rowid ≡ None) }
-    {
-        Found {
-            page: self.page,
-            cell: self.cell as usize,
-            rowid: None,
-        }
-    }
-}
-
 /// The entries of an index, in its order or by rowid.
 #[derive(Drop)]
 pub(crate) struct Entries {
@@ -48,11 +32,6 @@ pub(crate) struct Entries {
     /// The payloads that don't lie in the entries, one behind another.
     pub(crate) bytes: Vec<u8>,
     ghost within: { All (λ held. 16 < held.size → held.start + held.size ≤ length bytes.items) list.items },
-}
-
-/// A number about halfway from one to a greater one.
-fn halfway(low: i64, high: i64) -> i64 {
-    low.saturating_add(i64::try_from(high.abs_diff(low) / 2).unwrap_or(0))
 }
 
 /// A payload of a few bytes, and zeros behind it.
@@ -91,7 +70,6 @@ fn keep_behind(bytes: &mut Vec<u8>, payload: &[u8]) -> Result<(), AllocError>
 
 impl Entries {
     ghost use Rattle.sqindex.specs.internal.Held.{held_by, nothing, plain};
-    ghost use Rattle.sqindex.specs.internal.Spans.{IsSame, KeepsTo};
 
     /// None.
     pub(crate) fn new(alloc: Global) -> Entries
@@ -149,6 +127,16 @@ impl Entries {
         Some(held.rowid)
     }
 
+    /// Puts the rowid of entry `i` there.
+    pub(crate) fn put(&mut self, i: usize, rowid: i64)
+        requires { i < length (held_by self.old) }
+        ensures same { held_by self.new ≡ held_by self.old }
+        ensures here { (p : SpecHeld) × (slice_get self.new.list.items i ≡ Some p) × (p.rowid ≡ rowid) }
+        ensures others { (j : ℕ) → j ≢ i → slice_get self.new.list.items j ≡ slice_get self.old.list.items j }
+    {
+        self.list[i].rowid = rowid;
+    }
+
     /// Adds one behind the others, with this rowid. Refused where memory runs out, and where its place or its size
     /// takes more than 32 bits.
     pub(crate) fn add(&mut self, found: Found, rowid: i64, payload: &[u8]) -> Result<(), AllocError>
@@ -171,86 +159,13 @@ impl Entries {
         Ok(())
     }
 
-    /// Sorts them by rowid, in place.
-    pub(crate) fn sort(&mut self)
+    /// Sorts them by rowid; those of one rowid stay in their order.
+    pub(crate) fn sort(&mut self) -> Result<(), AllocError>
         ensures same { IsPermutation self.old.list.items self.new.list.items }
         ensures bytes { self.new.bytes ≡ self.old.bytes }
-        ensures sorted { IsSortedByKey (λ p. p.rowid) int_cmp self.new.list.items }
+        ensures sorted { OnOk result (IsSortedByKey (λ p. p.rowid) int_cmp self.new.list.items) }
     {
-        self.list.sort_unstable_by_key(|p| p.rowid);
-    }
-
-    /// How many bytes they take, and half of them that are kept beside all, where payloads lie behind the others.
-    pub(crate) fn memory(&self) -> u64 {
-        let list = (self.list.len() as u64).saturating_mul(HELD);
-        let bytes = self.bytes.len() as u64;
-        list.saturating_add(bytes).saturating_add(bytes / 2)
-    }
-
-    /// How many have a rowid up to this one.
-    fn many_to(&self, last: i64) -> usize {
-        self.list.iter().filter(|p| p.rowid <= last).count()
-    }
-
-    /// A rowid below the greatest that about half of them are up to, as far as there is one.
-    pub(crate) fn middle(&self) -> Option<i64> {
-        let mut low = self.list.iter().map(|p| p.rowid).min()?;
-        let greatest = self.list.iter().map(|p| p.rowid).max()?;
-        let mut high = greatest.checked_sub(1)?;
-        let eighth = self.list.len() / 8;
-        'halves: for _ in 0..64 {
-            if low >= high {
-                return Some(high);
-            }
-            let middle = halfway(low, high);
-            let many = self.many_to(middle);
-            if many / 3 < eighth {
-                low = middle.saturating_add(1);
-            } else if many / 5 > eighth {
-                high = middle;
-            } else {
-                return Some(middle);
-            }
-        }
-        Some(high)
-    }
-
-    /// Keeps those whose rowids are up to this one, in their order.
-    fn retain_to(&mut self, last: i64)
-        ensures { KeepsTo last self.old self.new }
-    {
-        self.list.retain(|p| p.rowid <= last);
-    }
-
-    /// The same, beside no payloads of others.
-    fn packed(&self, alloc: Global) -> Result<Entries, AllocError>
-        ensures { IfOk result (IsSame self.now) }
-    {
-        let mut kept = Entries::new(alloc);
-        'entries: for i in 0..self.len() {
-            let held = self.list[i];
-            kept.add(held.found(), held.rowid, self.payload(i))?;
-        }
-        Ok(kept)
-    }
-
-    /// Keeps those whose rowids are up to this one, in their order.
-    pub(crate) fn keep_to(&mut self, alloc: Global, last: i64) -> Result<(), AllocError>
-        ensures { OnOk result (KeepsTo last self.old self.new) }
-    {
-        self.retain_to(last);
-        if self.bytes.is_empty() {
-            return Ok(());
-        }
-        *self = self.packed(alloc)?;
+        self.list.sort_by_key(|p| p.rowid)?;
         Ok(())
-    }
-
-    /// Keeps none of them.
-    pub(crate) fn clear(&mut self)
-        ensures { held_by self.new ≡ [] }
-    {
-        self.list.clear();
-        self.bytes.clear();
     }
 }

@@ -1,11 +1,11 @@
 //! The rows of a table beside the entries of its index (fileformat2, 2.4).
-ghost use Rattle.std.specs.Prelude.{List, IfOk, IfErr, OnOk, IsTrue, unwrap_or, pos};
+ghost use Rattle.std.specs.Prelude.{List, IfOk, IfErr, OnOk};
 ghost use Rattle.sqpage.specs.Source.{KeepsPages};
 ghost use Rattle.sqindex.specs.Stored.{Stored};
 ghost use Rattle.sqindex.specs.internal.Reading.{stored_of};
 ghost use Rattle.sqindex.specs.internal.Judging.{AreByRowid};
 ghost use Rattle.sqindex.specs.internal.Joining.{JudgesRow, Sees, EndTells, IsAbove, NotAbove};
-ghost use Rattle.sqindex.specs.internal.Matching.{SeesIn, IsPast, IsMatchedIn, MatchRefusedIn};
+ghost use Rattle.sqindex.specs.internal.Matching.{SeesIn, IsMatchedIn, MatchRefusedIn};
 
 use crate::compare::compare_entry;
 use crate::entries::Entries;
@@ -87,22 +87,6 @@ fn see_in(key: &IndexKey, part: &Part, join: Join, found: Found, row: &[u8]) -> 
     see(key, &part.entries, join, found, row)
 }
 
-/// Whether a row is behind the range, and each entry of that was found to be a row's.
-fn is_past(part: &Part, join: Join, found: Found) -> bool
-    ensures { IsTrue result → IsPast part.now join (unwrap_or found.rowid (pos 0)) }
-{
-    if join.fault.is_some() {
-        return false;
-    }
-    if join.at < part.entries.len() {
-        return false;
-    }
-    match part.span.last {
-        Some(last) => last < found.rowid.unwrap_or(0),
-        None => false,
-    }
-}
-
 /// What is told behind the last row: the first fault, or that an entry is left.
 fn end(entries: &Entries, join: Join) -> Result<(), IndexError>
     ensures { EndTells entries.now join result }
@@ -132,8 +116,7 @@ pub(crate) fn above(last: Option<i64>, rowid: Option<i64>) -> Result<Option<i64>
 }
 
 /// Judges that the entries by rowid are those of the rows of the table in their range, of each row one. Refused by
-/// EntryOfNoRow and RowWithoutEntry, and where the rows can't be read or their rowids don't rise. Behind the range they
-/// are read only where a fault was found.
+/// EntryOfNoRow and RowWithoutEntry, and where the rows can't be read or their rowids don't rise.
 pub(crate) fn match_rows<S: PageSource>(
     alloc: Global,
     source: &mut S,
@@ -162,9 +145,6 @@ pub(crate) fn match_rows<S: PageSource>(
         match above(last, found.rowid) {
             Ok(rowid) => last = rowid,
             Err(refusal) => return Err(IndexError::Table(refusal)),
-        }
-        if is_past(part, join, found) {
-            return Ok(());
         }
         join = see_in(key, part, join, found, &walk.payload);
     }

@@ -17,7 +17,6 @@ mod number;
 mod order;
 mod part;
 mod read;
-mod room;
 mod row_fault;
 mod span;
 mod spans;

@@ -1,98 +1,48 @@
 //! The entries of an index whose rowids are in a range.
-ghost use Rattle.std.specs.Prelude.{◌≡◌, [], IfOk, IfErr, OnOk};
+ghost use Rattle.std.specs.Prelude.{◌≡◌, List, IfOk, IfErr};
 ghost use Rattle.sqpage.specs.Source.{KeepsPages};
-ghost use Rattle.sqindex.specs.internal.Held.{held_by};
-ghost use Rattle.sqindex.specs.internal.Parts.{Cuts, CutRefused, TakesIn, Gathers, GatherRefused, IsPart, PartRefused};
-ghost use Rattle.sqindex.specs.internal.Spans.{GoesOn};
-ghost use Rattle.sqindex.specs.declared.error.IndexError.TheVariants as errors;
-ghost use Rattle.sqindex.specs.declared.error.ReadError.TheVariants.{NoMemory};
+ghost use Rattle.sqindex.specs.Rules.{HasEntries};
+ghost use Rattle.sqindex.specs.Stored.{Stored};
+ghost use Rattle.sqindex.specs.internal.Parts.{Gathers, GatherRefused, IsPart, PartRefused};
 
-use crate::entries::{Entries, HELD};
+use crate::entries::Entries;
 use crate::error::{EntryError, IndexError, ReadError};
 use crate::fault::IndexFault;
 use crate::fields::rowid_in;
-use crate::order::sort_entries;
-use crate::room::Room;
+use crate::read::cost;
 use crate::span::Span;
 use crate::walk::{Found, Walk};
 use sqkeys::IndexKey;
 use sqpage::PageSource;
 use std::alloc::Global;
 
-/// The entries of a range.
+/// Entries of a range, and whether they are all of it.
 #[derive(Drop)]
 pub(crate) struct Part {
     pub(crate) entries: Entries,
     pub(crate) span: Span,
+    pub(crate) whole: bool,
 }
 
-/// Ends a range where about half of its entries are before, and drops the others. Refused where they have one rowid.
-fn cut(alloc: Global, part: &mut Part) -> Result<(), IndexError>
-    ensures ok { OnOk result (Cuts part.old part.new) }
-    ensures err { IfErr result (CutRefused part.old) }
-{
-    let last = part.entries.middle().unwrap_or(i64::MIN);
-    let Some(span) = part.span.up_to(last) else {
-        sort_entries(&mut part.entries)?;
-        return Err(IndexError::Index(ReadError::NoMemory));
-    };
-    part.span = span;
-    match part.entries.keep_to(alloc, last) {
-        Ok(()) => Ok(()),
-        Err(_) => Err(IndexError::Index(ReadError::NoMemory)),
-    }
+/// How many bytes may be held, and how many an entry may have.
+#[derive(Clone, Copy, Debug)]
+pub(crate) struct Room {
+    pub(crate) held: u64,
+    pub(crate) longest: u64,
 }
 
-/// Whether an entry with this rowid is of the range, and there is no room for it where so many bytes may be held. There
-/// is for one alone.
-fn is_full(part: &Part, rowid: i64, entry: &[u8], held: u64) -> bool {
-    let more = HELD.saturating_add(entry.len() as u64);
-    let all = part.entries.memory().saturating_add(more);
-    part.span.has(rowid) && part.entries.len() > 1 && all > held
-}
-
-/// Makes room for an entry with this rowid where so many bytes may be held.
-fn make_room(
-    alloc: Global,
-    part: &mut Part,
-    rowid: i64,
-    entry: &[u8],
-    held: u64,
-) -> Result<(), IndexError>
-    ensures ok { OnOk result (Cuts part.old part.new) }
-    ensures err { IfErr result (CutRefused part.old) }
-{
-    if is_full(part, rowid, entry, held) {
-        return cut(alloc, part);
-    }
-    Ok(())
-}
-
-/// Adds an entry with this rowid, where that is in the range.
-fn take_in(part: &mut Part, found: Found, rowid: i64, entry: &[u8]) -> Result<(), IndexError>
-    ensures ok { OnOk result (TakesIn part.old found rowid entry.now part.new) }
-    ensures err { IfErr result (λ e. e ≡ errors.Index NoMemory) }
-{
-    if !part.span.has(rowid) {
-        return Ok(());
-    }
-    match part.entries.add(found, rowid, entry) {
-        Ok(()) => Ok(()),
-        Err(_) => Err(IndexError::Index(ReadError::NoMemory)),
-    }
-}
-
-/// Adds what the walk came to, where its rowid is in the range. The range ends sooner where there is no room.
-pub(crate) fn gather(
-    alloc: Global,
+/// Adds what the walk came to, where its rowid is in the range and so many bytes are left, or one entry alone is held.
+/// Answers how many bytes are left then. None where there is no room.
+fn gather(
     key: &IndexKey,
-    part: &mut Part,
+    span: Span,
+    entries: &mut Entries,
     found: Found,
     entry: &[u8],
-    held: u64,
-) -> Result<(), IndexError>
-    ensures ok { OnOk result (Gathers key.now part.old found entry.now part.new) }
-    ensures err { IfErr result (GatherRefused key.now part.old found entry.now) }
+    left: u64,
+) -> Result<Option<u64>, IndexError>
+    ensures ok { IfOk result (λ rest. Gathers key.now span entries.old found entry.now rest entries.new) }
+    ensures err { IfErr result (GatherRefused key.now found entry.now) }
 {
     if found.rowid.is_some() {
         return Err(IndexError::Index(ReadError::OtherKind));
@@ -104,27 +54,37 @@ pub(crate) fn gather(
             cell: found.cell,
         }));
     };
-    make_room(alloc, part, rowid, entry, held)?;
-    take_in(part, found, rowid, entry)
+    if !span.has(rowid) {
+        return Ok(Some(left));
+    }
+    let more = cost(entry);
+    if more > left && entries.len() > 1 {
+        return Ok(None);
+    }
+    match entries.add(found, rowid, entry) {
+        Ok(()) => Ok(Some(left.saturating_sub(more))),
+        Err(_) => Err(IndexError::Index(ReadError::NoMemory)),
+    }
 }
 
-/// The entries of the index whose rowids are in a range of which none is held yet. It ends sooner where there is no
-/// room for all. Refused where the index can't be read.
+/// The entries whose rowids are in a range, as far as there is room for them. Refused where the index can't be read.
 pub(crate) fn read_part<S: PageSource>(
     alloc: Global,
     source: &mut S,
     index: u32,
     key: &IndexKey,
-    mut part: Part,
+    span: Span,
     room: Room,
 ) -> Result<Part, IndexError>
-    requires { held_by part.entries ≡ [] }
-    ensures ok { S.gives_pages source.old → IfOk result (IsPart (S.pages source.old) index key.now) }
-    ensures span { IfOk result (λ new. GoesOn part.span new.span) }
+    ensures ok { S.gives_pages source.old → (xs : List Stored) → HasEntries (S.pages source.old) index xs
+        → IfOk result (λ part. IsPart key.now xs part) }
+    ensures span { IfOk result (λ part. part.span ≡ span) }
     ensures err { S.gives_pages source.old
         → IfErr result (PartRefused (S.pages source.old) index key.now room.longest) }
     ensures keeps { KeepsPages S.pages S.size S.reads_right S.gives_pages source.old source.new }
 {
+    let mut entries = Entries::new(alloc);
+    let mut left = room.held;
     let mut walk = match Walk::new(alloc, source, index, room.longest) {
         Ok(walk) => walk,
         Err(refusal) => return Err(IndexError::Index(ReadError::Tree(refusal))),
@@ -132,10 +92,23 @@ pub(crate) fn read_part<S: PageSource>(
     'turns: for _ in 0..u64::MAX {
         let found = match walk.advance(source) {
             Ok(Some(found)) => found,
-            Ok(None) => return Ok(part),
+            Ok(None) => {
+                return Ok(Part {
+                    entries,
+                    span,
+                    whole: true,
+                });
+            }
             Err(refusal) => return Err(IndexError::Index(ReadError::of_cell(refusal))),
         };
-        gather(alloc, key, &mut part, found, &walk.payload, room.held)?;
+        let Some(rest) = gather(key, span, &mut entries, found, &walk.payload, left)? else {
+            return Ok(Part {
+                entries,
+                span,
+                whole: false,
+            });
+        };
+        left = rest;
     }
     Err(IndexError::Index(ReadError::NoMemory))
 }

@@ -16,7 +16,7 @@ use std::alloc::Global;
 const BESIDE: u64 = 64;
 
 /// What an entry takes that has this payload.
-fn cost(payload: &[u8]) -> u64
+pub(crate) fn cost(payload: &[u8]) -> u64
     ensures { result ≡ cost_of payload.now }
 {
     if payload.len() <= INSIDE {

@@ -1,5 +1,5 @@
 //! A range of rowids (own).
-ghost use Rattle.std.specs.Prelude.{◌≡◌, MatchOption, None, Some, ⊤, true, ℤ};
+ghost use Rattle.std.specs.Prelude.{◌≡◌, MatchOption, None, Some, ⊤, false, ℤ};
 ghost use Rattle.sqindex.specs.internal.Spans.{up_to, passed};
 
 /// The rowids behind one, where there is one, and up to another.
@@ -49,12 +49,12 @@ impl Span {
         !is_passed(self.above, rowid) && is_up_to(self.last, rowid)
     }
 
-    /// Those of them up to this one. None where it isn't one of them.
+    /// Those of them up to this one. None where that was passed.
     pub(crate) fn up_to(self, last: i64) -> Option<Span>
         ensures { MatchOption result ⊤ (λ span. (span.above ≡ self.above) × (span.last ≡ Some last)
-            × (in_span self.above self.last last ≡ true)) }
+            × (passed self.above last ≡ false)) }
     {
-        if !self.has(last) {
+        if is_passed(self.above, last) {
             return None;
         }
         Some(Span {

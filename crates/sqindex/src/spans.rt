@@ -1,53 +1,30 @@
 //! An index against its table, one range of rowids after another (fileformat2, 2.4).
-ghost use Rattle.std.specs.Prelude.{◌≡◌, List, IfOk, IfErr, OnOk, None, Some};
+ghost use Rattle.std.specs.Prelude.{◌≡◌, List, IfErr, OnOk, MatchOption, None, Some, ⊤};
 ghost use Rattle.sqpage.specs.Source.{KeepsPages};
 ghost use Rattle.sqindex.specs.Rules.{HasEntries};
 ghost use Rattle.sqindex.specs.Stored.{Stored};
 ghost use Rattle.sqindex.specs.Indexes.{IndexRefused};
 ghost use Rattle.sqindex.specs.internal.Judging.{AreSoundEntries, AreByRowid};
 ghost use Rattle.sqindex.specs.internal.Matching.{IsMatched, MatchesNext};
-ghost use Rattle.sqindex.specs.internal.Parts.{IsPart, PartRefused};
-ghost use Rattle.sqindex.specs.internal.Spans.{IsFirst};
-ghost use Rattle.sqindex.specs.internal.Streaming.{StartsIndex};
+ghost use Rattle.sqindex.specs.internal.Spans.{IsOpen};
 
+use crate::entries::Entries;
 use crate::error::{IndexError, ReadError};
 use crate::join::match_rows;
 use crate::order::sort_entries;
-use crate::part::{Part, read_part};
+use crate::part::{Part, Room, read_part};
 use crate::span::Span;
-use crate::stream::Start;
 use sqkeys::IndexKey;
 use sqpage::PageSource;
 use std::alloc::Global;
 
-/// The entries of the first range.
-fn first_part<S: PageSource>(
-    alloc: Global,
-    source: &mut S,
-    index: u32,
-    key: &IndexKey,
-    start: Start,
-) -> Result<Part, IndexError>
-    ensures ok { S.gives_pages source.old → StartsIndex (S.pages source.old) index key.now start
-        → IfOk result (λ part. IsPart (S.pages source.old) index key.now part × IsFirst part.span) }
-    ensures err { S.gives_pages source.old
-        → IfErr result (PartRefused (S.pages source.old) index key.now start.room.longest) }
-    ensures keeps { KeepsPages S.pages S.size S.reads_right S.gives_pages source.old source.new }
+/// The range up to the entry by rowid behind which a quarter of these come, and one at least. None where it was passed.
+fn narrowed(span: Span, entries: &Entries) -> Option<Span>
+    ensures { MatchOption result ⊤ (λ less. (less.above ≡ span.above) × IsOpen less) }
 {
-    if start.held {
-        return Ok(start.part);
-    }
-    let mut entries = start.part.entries;
-    entries.clear();
-    let span = Span::all();
-    read_part(
-        alloc,
-        source,
-        index,
-        key,
-        Part { entries, span },
-        start.room,
-    )
+    let last = entries.len().saturating_sub(1);
+    let rowid = entries.rowid(last.saturating_sub(last / 4 + 1))?;
+    span.up_to(rowid)
 }
 
 /// Matches the entries of a range, unless a fault was found before.
@@ -92,29 +69,32 @@ pub(crate) fn match_spans<S: PageSource>(
     table: u32,
     index: u32,
     key: &IndexKey,
-    start: Start,
+    room: Room,
 ) -> Result<(), IndexError>
-    ensures ok { S.gives_pages source.old → StartsIndex (S.pages source.old) index key.now start
-        → (xs : List Stored) → HasEntries (S.pages source.old) index xs
+    ensures ok { S.gives_pages source.old → (xs : List Stored) → HasEntries (S.pages source.old) index xs
         → AreSoundEntries key.now xs → OnOk result (IsMatched (S.pages source.old) table key.now xs) }
-    ensures err { S.gives_pages source.old → StartsIndex (S.pages source.old) index key.now start
-        → (xs : List Stored) → HasEntries (S.pages source.old) index xs → AreSoundEntries key.now xs
-        → IfErr result (IndexRefused (S.pages source.old) table index key.now start.room.longest) }
+    ensures err { S.gives_pages source.old → (xs : List Stored) → HasEntries (S.pages source.old) index xs
+        → AreSoundEntries key.now xs
+        → IfErr result (IndexRefused (S.pages source.old) table index key.now room.longest) }
     ensures keeps { KeepsPages S.pages S.size S.reads_right S.gives_pages source.old source.new }
 {
-    let room = start.room;
-    let mut part = first_part(alloc, source, index, key, start)?;
+    let mut span = Span::all();
     let mut fault = None;
     'spans: for _ in 0..u64::MAX {
+        let mut part = read_part(alloc, source, index, key, span, room)?;
         sort_entries(&mut part.entries)?;
+        if !part.whole {
+            let Some(less) = narrowed(span, &part.entries) else {
+                return Err(IndexError::Index(ReadError::NoMemory));
+            };
+            span = less;
+            continue;
+        }
         fault = match_next(alloc, source, table, key, &part, fault);
-        let Some(next) = part.span.next() else {
+        let Some(next) = span.next() else {
             return end(fault);
         };
-        part.entries.clear();
-        part.span = next;
-        let more = read_part(alloc, source, index, key, part, room)?;
-        part = more;
+        span = next;
     }
     Err(IndexError::Index(ReadError::NoMemory))
 }

@@ -5,31 +5,23 @@ ghost use Rattle.sqindex.specs.Stored.{Stored};
 ghost use Rattle.sqindex.specs.internal.KeyedScanning.{IsBefore};
 ghost use Rattle.sqindex.specs.internal.Reading.{stored_of};
 ghost use Rattle.sqindex.specs.internal.Streaming.{MayStand, MayNotStand, IsStream, StreamEnds};
-ghost use Rattle.sqindex.specs.internal.Streaming.{IsStartOf, StartsIndex, StreamRefused};
-ghost use Rattle.sqindex.specs.internal.Held.{plain};
+ghost use Rattle.sqindex.specs.internal.Streaming.{HasSoundEntries, StreamRefused};
 
-use crate::entries::Entries;
 use crate::error::{EntryError, IndexError, ReadError};
 use crate::fault::IndexFault;
 use crate::fields::rowid_in;
 use crate::keyed_rows::{held, keep};
 use crate::order::judge_next;
-use crate::part::{Part, gather};
-use crate::room::Room;
-use crate::span::Span;
 use crate::walk::{Found, Walk};
 use sqkeys::IndexKey;
 use sqpage::PageSource;
 use std::alloc::Global;
 
-/// How many entries an index has, and those of a range from the first rowid on, as far as they are held.
-#[derive(Drop)]
-pub(crate) struct Start {
+/// How many entries an index has, and how many bytes their payloads have in all, at most 2^64 - 1.
+#[derive(Clone, Copy, Debug)]
+pub(crate) struct Count {
     pub(crate) many: u64,
-    pub(crate) part: Part,
-    pub(crate) held: bool,
-    /// What there is room for in the ranges behind.
-    pub(crate) room: Room,
+    pub(crate) bytes: u64,
 }
 
 /// Judges an entry beside the one before it, where there is one. Refused by EntryForm, EntryOrder and KeyTwice.
@@ -70,72 +62,31 @@ fn see(
     }
 }
 
-/// Goes on with the entries of the first range, where those before are held and no fault was found.
-fn gather_first(
-    alloc: Global,
-    key: &IndexKey,
-    start: &mut Start,
-    fault: Option<EntryError>,
-    found: Found,
-    entry: &[u8],
-)
-    ensures starts { (xs : List Stored) → IsStartOf key.now start.old.part start.old.held xs
-        → IsStartOf key.now start.new.part start.new.held (xs ++ plain found entry.now ∷ []) }
-    ensures room { start.new.room ≡ start.old.room }
+/// What is told behind the last entry: the first fault, or how many there are.
+fn end(fault: Option<EntryError>, many: u64, bytes: u64) -> Result<Count, IndexError>
+    ensures { StreamEnds fault many result }
 {
-    if !start.held {
-        return;
+    match fault {
+        Some(fault) => Err(IndexError::Entry(fault)),
+        None => Ok(Count { many, bytes }),
     }
-    if fault.is_some() {
-        start.held = false;
-        return;
-    }
-    start.held = gather(alloc, key, &mut start.part, found, entry, start.room.held).is_ok();
 }
 
-/// What is told behind the last entry: the first fault, or how many there are, whose payloads have so many bytes.
-fn end(
-    fault: Option<EntryError>,
-    mut start: Start,
-    many: u64,
-    bytes: u64,
-) -> Result<Start, IndexError>
-    ensures { StreamEnds fault start many result }
-{
-    if let Some(fault) = fault {
-        return Err(IndexError::Entry(fault));
-    }
-    start.many = many;
-    start.room = Room::of(many, bytes, start.room.longest);
-    Ok(start)
-}
-
-/// Judges the entries of an index by themselves, counts them, and holds those of a range, as many as there is room for.
-/// Refused by the first one, in the index's order, that EntryForm, EntryOrder or KeyTwice stands at, and where they
-/// can't be read. It holds the payloads of two beside.
+/// Judges the entries of an index by themselves, and counts them. Refused by the first one, in the index's order, that
+/// EntryForm, EntryOrder or KeyTwice stands at, and where they can't be read. It holds the payloads of two.
 pub(crate) fn order_index<S: PageSource>(
     alloc: Global,
     source: &mut S,
     index: u32,
     key: &IndexKey,
     limit: u64,
-) -> Result<Start, IndexError>
+) -> Result<Count, IndexError>
     ensures ok { S.gives_pages source.old
-        → IfOk result (StartsIndex (S.pages source.old) index key.now) }
-    ensures room { IfOk result (λ start. start.room.longest ≡ limit) }
+        → IfOk result (λ count. HasSoundEntries (S.pages source.old) index key.now count.many) }
     ensures err { S.gives_pages source.old
         → IfErr result (StreamRefused (S.pages source.old) index key.now limit) }
     ensures keeps { KeepsPages S.pages S.size S.reads_right S.gives_pages source.old source.new }
 {
-    let entries = Entries::new(alloc);
-    let span = Span::all();
-    let room = Room::of(0, 0, limit);
-    let mut start = Start {
-        many: 0,
-        part: Part { entries, span },
-        held: true,
-        room,
-    };
     let mut fault = None;
     let mut bytes: u64 = 0;
     let mut before = Vec::new(alloc);
@@ -147,14 +98,13 @@ pub(crate) fn order_index<S: PageSource>(
     'turns: for i in 0..u64::MAX {
         let found = match walk.advance(source) {
             Ok(Some(found)) => found,
-            Ok(None) => return end(fault, start, i, bytes),
+            Ok(None) => return end(fault, i, bytes),
             Err(refusal) => return Err(IndexError::Index(ReadError::of_cell(refusal))),
         };
         if found.rowid.is_some() {
             return Err(IndexError::Index(ReadError::OtherKind));
         }
         fault = see(key, fault, held(some, &before), found, &walk.payload);
-        gather_first(alloc, key, &mut start, fault, found, &walk.payload);
         bytes = bytes.saturating_add(walk.payload.len() as u64);
         some = true;
         keep(&mut before, &mut walk);

@@ -1,25 +1,45 @@
 -- What a command comes to, by what it found.
 use Rattle.std.proofs.Common.{◌≡◌, ◌⊎◌, inl, inr, ⊎_elim, ℕ, List, Option, refl, sym, subst}
-use Rattle.std.specs.Prelude.{Result, Ok, Err, IsErrAnd}
+use Rattle.std.specs.Prelude.{Bool, None, Some, Result, Ok, Err, IsErrAnd}
+use Rattle.sqval.specs.Limits.{Bounds}
+use Rattle.sqview.specs.LogView.{pages_of}
 use Rattle.sqwords.specs.declared.requests.Options.{Options}
 use Rattle.sqfacts.specs.declared.outcome.Refusal.{Refusal}
+use Rattle.sqfacts.specs.declared.outcome.Refusal.TheVariants.{NoMemory}
 use Rattle.sqopen.specs.declared.opened_file.OpenedFile.{OpenedFile}
 use Rattle.sqshown.specs.Contents.{AreGiven, contents_of}
-use Rattle.sqshown.specs.Found.{fault_in}
+use Rattle.sqshown.specs.Errors.{IfRefused}
+use Rattle.sqshown.specs.Found.{IsFoundOf, fault_in}
 use Rattle.sqshown.specs.declared.contents.Contents.{Contents}
 use Rattle.sqshown.specs.declared.error.ShowError.{ShowError}
-use Rattle.sqshown.specs.declared.error.ShowError.TheVariants.{Refused}
-use Rattle.cli_job.specs.Answers.{IsUntold, Tells, answer_of_finding}
-use Rattle.cli_job.proofs.FaultsFound.{fault_had}
-use Rattle.sqrescue.specs.Comes.{Answers, Comes, IsUnread}
-use Rattle.cli_job.specs.Commands.{Finds}
-use Rattle.cli_job.specs.Opened.{Counted, FindsOpened, Settles, all_opened, opened_of}
-use Rattle.cli_job.specs.declared.answers.Answer.{Answer}
-use Rattle.cli_job.specs.declared.commands.Command.{Command}
-use Rattle.cli_job.specs.declared.commands.Command.TheVariants.{Check, Pages, Show, Rows}
-use Rattle.cli_job.specs.declared.commands.Finding.{Finding}
-use Rattle.cli_job.specs.declared.commands.Finding.TheVariants.{Checked, Surveyed, Shown, Printed}
-use Rattle.cli_job.specs.declared.sources.Source.{Source}
+use Rattle.sqshown.specs.declared.error.ShowError.TheVariants.{Refused, Unwritten}
+use Rattle.sqshown.specs.declared.surveys.Found.{Found}
+use Rattle.sqshown.specs.declared.surveys.Found.TheVariants as surveys
+use Rattle.sqrescue.specs.Answers.{IsUntold, Tells, answer_of_finding}
+use Rattle.sqrescue.specs.Comes.{Answers, Comes, HaveFault, IsUnread}
+use Rattle.sqrescue.specs.Commands.{Finds, IsPartUnshown}
+use Rattle.sqrescue.specs.Opened.{Counted, FindsOpened, Settles, all_opened, opened_of}
+use Rattle.sqrescue.specs.declared.answers.Answer.{Answer}
+use Rattle.sqrescue.specs.declared.commands.Command.{Command}
+use Rattle.sqrescue.specs.declared.commands.Command.TheVariants.{Check, Pages, Show, Rows}
+use Rattle.sqrescue.specs.declared.commands.Finding.{Finding}
+use Rattle.sqrescue.specs.declared.commands.Finding.TheVariants.{Checked, Surveyed, Shown, Printed}
+use Rattle.sqrescue.specs.declared.sources.Source.{Source}
+
+-- the fault that was found is one that the files have
+fault_had : {F : Type 0} (maps : Bool) (limits : Bounds) (bytes : F → List ℕ) (at : Option ℕ) (files : Contents (List ℕ)) (found : Found F)
+    → IsFoundOf maps limits bytes at files found → HaveFault maps limits at files (fault_in found)
+fault_had maps limits bytes None files (surveys.Pages found) is =
+    inl (found.view.page_size, pages_of bytes found.view, is.view.shows, (Ok found.survey, is.survey, refl))
+fault_had maps limits bytes (Some m) files (surveys.Pages found) is =
+    inl (found.view.page_size, pages_of bytes found.view, is.view.shows, (Ok found.survey, is.survey, refl))
+fault_had maps limits bytes at files (surveys.Nothing error) is =
+    ⊎_elim inr (λ s. inl (s.0, s.1, s.2, (Err error, s.3, refl))) is
+
+-- a refusal that holds, or that memory ran out
+either : (P Q : Refusal → Type 0) (error : ShowError) → IfRefused P error → IfRefused (λ refusal. Q refusal ⊎ P refusal) error
+either P Q (Refused refusal) is = inr is
+either P Q Unwritten is = tt
 
 module _ {F : Type 0} (bytes : F → List ℕ) (gives : F → Type 0) (options : Options) (files : Contents F) (before after : Option (List ℕ)) where
   answers_found : (command : Command) (found : Finding F) → Finds bytes gives command options files (Ok found) before after → AreGiven gives files
@@ -36,7 +56,7 @@ module _ {F : Type 0} (bytes : F → List ℕ) (gives : F → Type 0) (options :
   answers_found (Show part) (Checked found) finds given = absurd finds
   answers_found (Show part) (Surveyed found) finds given = absurd finds
   answers_found (Show part) (Shown (Ok front)) finds given = (refl, (before, after, finds.0 given))
-  answers_found (Show part) (Shown (Err error)) finds given = finds.1 given
+  answers_found (Show part) (Shown (Err error)) finds given = either (IsPartUnshown part options (contents_of bytes files)) (λ refusal. refusal ≡ NoMemory) error (finds.1 given)
   answers_found (Show part) (Printed found) finds given = absurd finds
   answers_found (Rows wanted) (Checked found) finds given = absurd finds
   answers_found (Rows wanted) (Surveyed found) finds given = absurd finds

@@ -1,1 +1,4 @@
+pub mod FoldedLogs
+pub mod OpenedLooks
 pub mod ComesOfFound
+pub mod ScriptsOfFound

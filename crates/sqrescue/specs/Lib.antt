@@ -1,4 +1,10 @@
+pub mod Answers
 pub mod Comes
+pub mod Commands
+pub mod Jobs
 pub mod Locking
+pub mod Opened
+pub mod Plans
 pub mod Reads
 pub mod Runs
+pub mod Sources

@@ -1,5 +1,5 @@
 -- What a run of the program comes to (own).
-use Rattle.std.specs.Prelude.{◌≡◌, ◌⊎◌, ℕ, ◌++◌, List, Option, None, Some, Result, Err, codes}
+use Rattle.std.specs.Prelude.{◌≡◌, ◌⊎◌, ℕ, ◌++◌, Bool, List, Option, None, Some, Result, Err, codes}
 use Rattle.std.specs.Borrow.{Bor}
 use Rattle.std.specs.List.{Contains}
 use Rattle.sqfacts.specs.Statuses.{status_code}
@@ -15,10 +15,10 @@ use Rattle.sqwords.specs.Line.{Asks}
 use Rattle.sqwords.specs.declared.requests.Options.{Options}
 use Rattle.sqwords.specs.declared.requests.Request.{Request}
 use Rattle.sqwords.specs.declared.requests.Request.TheVariants as requests
-use Rattle.cli_job.specs.Answers.{status_named, IsDoneOr}
+use Rattle.sqrescue.specs.Answers.{status_named}
 use Rattle.sqrescue.specs.Locking.{refusal_of}
-use Rattle.sqrescue.specs.Reads.{IsRead}
-use Rattle.cli_job.specs.declared.answers.Answer.{Answer}
+use Rattle.sqrescue.specs.Reads.{IsDoneOr, IsRead}
+use Rattle.sqrescue.specs.declared.answers.Answer.{Answer}
 use Rattle.sqrescue.specs.declared.program.Under.{Under}
 use Rattle.sqrescue.specs.declared.program.Under.TheVariants as under
 use Rattle.sqrescue.specs.declared.readings.Look.TheVariants.{Part, Damage, Rows}

@@ -1,14 +1,15 @@
 //! What a command comes to, by what it found.
-ghost use Rattle.std.specs.Prelude.{◌≡◌, Err, IfErr};
+ghost use Rattle.std.specs.Prelude.{◌≡◌};
 ghost use Rattle.sqopen.specs.Files.{opened_bytes};
-ghost use Rattle.cli_job.specs.Answers.{Tells, answer_of_finding, answer_of_shown};
-ghost use Rattle.cli_job.specs.Opened.{GivesBytes};
+ghost use Rattle.sqrescue.specs.Answers.{Tells, answer_named, answer_of_finding, answer_of_shown};
 ghost use Rattle.sqrescue.specs.Comes.{Comes};
+ghost use Rattle.sqrescue.specs.Opened.{GivesBytes};
 
 use crate::checking::write_checked;
+use crate::commands::{Command, Finding};
+use crate::jobs::Job;
 use crate::pages::write_surveyed;
-use cli_job::{Answer, Command, Finding, Job};
-use cli_report::write_printed;
+use crate::rows::write_printed;
 use sqfacts::{Front, Notes, Refusal, SystemFile};
 use sqopen::{Count, Paths};
 use sqshown::ShowError;
@@ -18,10 +19,44 @@ use std::alloc::Global;
 use std::io::{BufWriter, Write};
 use std::rt::Files;
 use std::time::Clock;
+use thiserror::Error;
 
 /// How many bytes of lines are kept back, so that nothing is printed of files that changed: as many as a header and
 /// what a page itself holds come to.
 pub(crate) const KEPT: usize = 1 << 19;
+
+/// What a command comes to.
+#[derive(Clone, Copy, Debug, PartialEq, Eq)]
+pub(crate) enum Answer {
+    Done,
+    /// It found damage, which was told.
+    Damaged,
+    /// It is refused for this, which is to be told behind what was printed.
+    Refused(Untold),
+}
+
+/// Why rows are refused behind what was printed.
+#[derive(Clone, Copy, Debug, PartialEq, Eq, Error)]
+pub(crate) enum Untold {
+    #[error("no such table")]
+    NoSuchTable,
+    /// Why was noted.
+    #[error("not understood")]
+    NotUnderstood,
+}
+
+impl Answer {
+    /// That of a database, by whether it is damaged.
+    pub(crate) fn of(is_damaged: bool) -> Answer
+        ensures { result ≡ answer_named is_damaged }
+    {
+        if is_damaged {
+            Answer::Damaged
+        } else {
+            Answer::Done
+        }
+    }
+}
 
 /// Carries out a command that reads the files of a database, and prints what it finds. No file is opened for writing,
 /// and none is made. Refused by `FileChanged` where a file changed meanwhile; of a part that is shown and of rows,
@@ -82,9 +117,7 @@ fn write_shown<W: Write, E: Write>(
     shown: Result<Option<Front>, ShowError>,
     notes: &mut Notes<'_, E>,
 ) -> Result<Answer, ShowError>
-    ensures told { Tells (answer_of_shown shown) result }
-    // What isn't shown is told as that, and not as a line that couldn't be written, nor for want of memory.
-    ensures err { IfErr shown (λ error. result ≡ Err error) }
+    ensures { Tells (answer_of_shown shown) result }
 {
     match shown {
         Ok(_) => {

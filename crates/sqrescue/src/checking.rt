@@ -3,9 +3,9 @@ ghost use Rattle.std.specs.Prelude.{Ok, OnOk};
 ghost use Rattle.std.specs.Io.KnownBytes.{Appends};
 ghost use Rattle.sqdeepshown.specs.Lines.{found_text};
 ghost use Rattle.sqdeepjudge.specs.Verdicts.{is_damaged};
-ghost use Rattle.cli_job.specs.Answers.{Tells, answer_named};
+ghost use Rattle.sqrescue.specs.Answers.{Tells, answer_named};
 
-use cli_job::Answer;
+use crate::answers::Answer;
 use sqdeepjudge::DeepVerdict;
 use sqdeepshown::write_found;
 use sqfacts::{Notes, Quoted};

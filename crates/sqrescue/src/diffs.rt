@@ -1,7 +1,9 @@
 //! What `diff` prints.
-use crate::answers::KEPT;
-use cli_job::{Answer, Job, Wants, open_all};
-use cli_report::write_printed;
+use crate::answers::{Answer, KEPT};
+use crate::commands::PIECE;
+use crate::jobs::Job;
+use crate::opening::open_all;
+use crate::rows::write_printed;
 use sqdump::{Printed, show_changes, show_history};
 use sqfacts::{Notes, Refusal, SystemFile};
 use sqhistory::Files as Lent;
@@ -124,7 +126,7 @@ where
         at,
         notes,
     ) {
-        Ok(files) => read_ahead(job.rt.alloc(), files, Wants::UNCOUNTED.ahead),
+        Ok(files) => read_ahead(job.rt.alloc(), files, PIECE),
         Err(refusal) => Err(refusal),
     }
 }

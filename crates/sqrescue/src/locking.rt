@@ -2,8 +2,8 @@
 ghost use Rattle.std.specs.Prelude.{◌≡◌, ◌≤◌, IfOk};
 ghost use Rattle.sqheld.specs.Todo.{texts};
 ghost use Rattle.sqopen.specs.Files.{opened_bytes};
-ghost use Rattle.cli_job.specs.Opened.{GivesBytes};
 ghost use Rattle.sqrescue.specs.Locking.{refusal_of};
+ghost use Rattle.sqrescue.specs.Opened.{GivesBytes};
 ghost use Rattle.sqrescue.specs.Runs.{EndsLine};
 
 use crate::program::{self, Under};

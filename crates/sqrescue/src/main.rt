@@ -4,15 +4,29 @@
 ghost use Rattle.std.specs.Prelude.{◌≤◌, IfOk};
 
 mod answers;
+mod attempts;
 mod checking;
+mod commands;
+mod copies;
 mod diffs;
 mod each;
 mod hints;
+mod jobs;
 mod locking;
+mod metered;
+mod opening;
+mod outcomes;
+mod outputs;
 mod pages;
+mod plans;
 mod prefixed;
 mod program;
 mod readings;
+mod recovering;
+mod reports;
+mod rows;
+mod salvages;
+mod sources;
 mod unread;
 
 use sqfacts::SystemFile;

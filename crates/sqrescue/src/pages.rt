@@ -1,9 +1,9 @@
 //! What `show --pages` prints.
 ghost use Rattle.std.specs.Prelude.{◌≡◌, IfOk, Ok};
 ghost use Rattle.sqshown.specs.Found.{fault_in};
-ghost use Rattle.cli_job.specs.Answers.{Tells, answer_of_fault};
+ghost use Rattle.sqrescue.specs.Answers.{Tells, answer_of_fault};
 
-use cli_job::Answer;
+use crate::answers::Answer;
 use sqfacts::Refusal;
 use sqshown::{Found, ShowError, write_pages, write_verdict};
 use sqview::FileBytes;

@@ -1,18 +1,22 @@
 //! The program over a runtime's files and two writers.
 ghost use Rattle.std.specs.Prelude.{◌≡◌, ◌⊎◌, IsTrue, map};
 ghost use Rattle.sqopen.specs.Files.{opened_bytes};
-ghost use Rattle.cli_job.specs.Answers.{status_named};
-ghost use Rattle.cli_job.specs.Opened.{GivesBytes};
+ghost use Rattle.sqrescue.specs.Answers.{status_named};
+ghost use Rattle.sqrescue.specs.Opened.{GivesBytes};
 ghost use Rattle.sqrescue.specs.Reads.{IsRead, ReadsTo};
 ghost use Rattle.sqrescue.specs.Runs.{AsksHelp, ComesUnder, Ends, EndsUnasked, MayAskHelp};
 
-use crate::answers::answered;
+use crate::answers::{Answer, answered};
+use crate::attempts::{Begun, Until};
+use crate::copies::recover_to;
 use crate::diffs::print_diff;
 use crate::hints::next_step;
+use crate::jobs::Job;
 use crate::readings::{Read, Reading, read_for};
-use cli_job::{Answer, Begun, Job, Source, Until, Watch, alone, source_of};
-use cli_recover::{recover, recover_to};
-use cli_report::{VERSION, report_to, salvage_to};
+use crate::recovering::recover;
+use crate::reports::report_to;
+use crate::salvages::salvage_to;
+use crate::sources::{Source, Watch, alone, source_of};
 use sqcommands::{LineError, request};
 use sqfacts::{NoteWriter, Notes, Refusal, Status, SystemFile};
 use sqheld::Locks;
@@ -23,6 +27,9 @@ use std::fmt::Display;
 use std::io::{self, IsTerminal, Write};
 use std::rt::Files;
 use std::time::Clock;
+
+/// The line of `--version`.
+pub(crate) const VERSION: &str = "sqrescue 0.1.0";
 
 /// Under which locks a request is carried out, or why it isn't.
 #[derive(Clone, Copy)]

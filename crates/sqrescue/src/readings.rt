@@ -3,7 +3,7 @@ ghost use Rattle.std.specs.Prelude.{◌≡◌, Some};
 ghost use Rattle.sqrescue.specs.Reads.{asked_named, command_of, is_of_log};
 ghost use Rattle.sqrescue.specs.Runs.{read_for, read_named};
 
-use cli_job::Command;
+use crate::commands::Command;
 use sqcheck::Options as Maps;
 use sqdump::Wanted;
 use sqshown::{Asked, limits_of};

@@ -1,4 +1,3 @@
 pub mod TextsOfValues
 pub mod RowsWritten
 pub mod NamesWritten
-pub mod RunsWritten

@@ -1,6 +1,5 @@
 //! Values as texts.
-ghost use Rattle.std.specs.Prelude.{◌≡◌, ◌≢◌, ◌<◌, ◌≤◌, ℕ, ◌+◌, ◌*◌, ◌∷◌, ◌++◌, [], List, OnOk, IsTrue, false, length};
-ghost use Rattle.std.specs.Prelude.{slice_index};
+ghost use Rattle.std.specs.Prelude.{◌≡◌, ℕ, ◌+◌, ◌*◌, ◌∷◌, ◌++◌, [], List, OnOk, IsTrue, false, length};
 ghost use Rattle.std.specs.Io.KnownBytes.{Appends};
 ghost use Rattle.std.specs.List.{flat_map};
 ghost use Rattle.std.specs.Fmt.{signed_decimal};
@@ -15,7 +14,6 @@ ghost use Rattle.sqrowlines.specs.Lines.{has_zero as has_zero_byte, IsPlain};
 
 use crate::form::Form;
 use byteorder::{BigEndian, ByteOrder};
-use memchr::memchr;
 use ryu::Buffer;
 use sqlines::write_hex;
 use sqval::Value;
@@ -24,14 +22,6 @@ use std::str;
 
 /// The integers that JSON's readers take as they are.
 const SAFE: i64 = 9_007_199_254_740_992;
-
-/// How many bytes come before the first mark.
-fn before_mark(mark: u8, bytes: &[u8]) -> usize
-    ensures within { result ≤ length bytes.now }
-    ensures plain { (k : ℕ) → k < result → slice_index bytes.now k ≢ mark }
-{
-    memchr(mark, bytes).unwrap_or(bytes.len())
-}
 
 /// A byte between two marks, twice where it is one.
 fn write_doubled<W: Write>(out: &mut W, mark: u8, byte: u8) -> io::Result<()>
@@ -44,29 +34,14 @@ fn write_doubled<W: Write>(out: &mut W, mark: u8, byte: u8) -> io::Result<()>
     }
 }
 
-/// Bytes of which each mark is there twice. Those between two are written at once.
-fn write_all_doubled<W: Write>(out: &mut W, mark: u8, bytes: &[u8]) -> io::Result<()>
-    ensures { OnOk result (Appends (W.contents out.old) (W.contents out.new) (flat_map (doubled mark) bytes.now)) }
-{
-    let mut rest = bytes;
-    'marks: while !rest.is_empty() {
-        let (front, behind) = rest.split_at(before_mark(mark, rest));
-        out.write_all(front)?;
-        let Some((byte, others)) = behind.split_first() else {
-            return Ok(());
-        };
-        write_doubled(out, mark, *byte)?;
-        rest = others;
-    }
-    Ok(())
-}
-
 /// Bytes between two marks, of which each that stands in them is there twice. An error of the writer.
 pub fn write_between<W: Write>(out: &mut W, mark: u8, bytes: &[u8]) -> io::Result<()>
     ensures { OnOk result (Appends (W.contents out.old) (W.contents out.new) (between_marks mark bytes.now)) }
 {
     out.write_all(&[mark])?;
-    write_all_doubled(out, mark, bytes)?;
+    for byte in bytes {
+        write_doubled(out, mark, *byte)?;
+    }
     out.write_all(&[mark])
 }
 
@@ -85,49 +60,14 @@ fn write_escaped<W: Write>(out: &mut W, byte: u8) -> io::Result<()>
     }
 }
 
-/// Whether a byte stands as it is in a string of JSON.
-fn stands(byte: u8) -> bool
-    ensures { IsTrue result → escaped byte ≡ byte ∷ [] }
-{
-    byte >= 32 && byte != b'"' && byte != b'\\'
-}
-
-/// How many bytes come before the first one that doesn't stand as it is.
-fn before_escape(bytes: &[u8]) -> usize
-    ensures within { result ≤ length bytes.now }
-    ensures plain { (k : ℕ) → k < result → escaped (slice_index bytes.now k) ≡ slice_index bytes.now k ∷ [] }
-{
-    for i in 0..bytes.len() {
-        if !stands(bytes[i]) {
-            return i;
-        }
-    }
-    bytes.len()
-}
-
-/// The bytes of a string of JSON. Those that stand as they are are written at once.
-fn write_all_escaped<W: Write>(out: &mut W, bytes: &[u8]) -> io::Result<()>
-    ensures { OnOk result (Appends (W.contents out.old) (W.contents out.new) (flat_map escaped bytes.now)) }
-{
-    let mut rest = bytes;
-    'escapes: while !rest.is_empty() {
-        let (front, behind) = rest.split_at(before_escape(rest));
-        out.write_all(front)?;
-        let Some((byte, others)) = behind.split_first() else {
-            return Ok(());
-        };
-        write_escaped(out, *byte)?;
-        rest = others;
-    }
-    Ok(())
-}
-
 /// A string of JSON (RFC 8259). An error of the writer.
 pub fn write_string<W: Write>(out: &mut W, bytes: &[u8]) -> io::Result<()>
     ensures { OnOk result (Appends (W.contents out.old) (W.contents out.new) (json_string bytes.now)) }
 {
     out.write_all(b"\"")?;
-    write_all_escaped(out, bytes)?;
+    for byte in bytes {
+        write_escaped(out, *byte)?;
+    }
     out.write_all(b"\"")
 }
 

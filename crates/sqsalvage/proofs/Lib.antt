@@ -1,7 +1,5 @@
 -- Which pages are marked.
 pub mod MarkedPages
--- Pieces that are named.
-pub mod NamedPieces
 -- What a page is that was read.
 pub mod PagesOfTrees
 -- What is to come, page by page.

@@ -1,22 +1,20 @@
 -- What a page is that was read.
-use Rattle.std.proofs.Common.{◌≡◌, ◌≢◌, ◌↔◌, ◌⊎◌, ℕ, suc, ◌<◌, ◌≤◌, List, [], ◌∷◌, length, take, Bool, true, false, refl, sym, ap, subst, ◌∙◌, inl, inr, arith, append-nil}
+use Rattle.std.proofs.Common.{◌≡◌, ◌≢◌, ◌⊎◌, ℕ, suc, ◌+◌, ◌<◌, ◌≤◌, List, [], ◌∷◌, length, take, refl, sym, ap, subst, ◌∙◌, inl, inr, arith}
+use Rattle.std.proofs.lemmas.Bool.{cases_eq}
 use Rattle.sqval.specs.Database.{Database, page}
 use Rattle.sqpage.specs.declared.kind.Kind.{Kind}
-use Rattle.sqpage.specs.declared.kind.Kind.TheVariants.{TableLeaf, TableInterior, IndexLeaf, IndexInterior}
+use Rattle.sqpage.specs.declared.kind.Kind.TheVariants.{TableLeaf, TableInterior}
 use Rattle.sqpage.specs.Freelist.{IsPage, usable_size}
 use Rattle.sqpage.specs.Header.{byte}
-use Rattle.sqpage.specs.Page.{Page, head_at, code_of, cell_count, pointers_end_in, has_payload, is_interior, is_table}
+use Rattle.sqpage.specs.Page.{Page, head_at, code_of, cell_count, pointers_end_in}
 use Rattle.sqcheck.specs.Places.{used_in, page_as, HasKind}
 use Rattle.sqrows.specs.Trees.{IsChild}
 use Rattle.sqrows.proofs.moves.StepsOfPage.{kind_once}
 use Rattle.sqsalvage.specs.declared.page.TreePage.{TreePage}
-use Rattle.sqsalvage.specs.declared.cursor.Piece.{Piece}
-use Rattle.sqsalvage.specs.declared.cursor.Piece.TheVariants.{Whole, Part}
 use Rattle.sqsalvage.specs.TreePages.{page_of, IsTreePage, IsPageRead}
-use Rattle.sqsalvage.specs.Reached.{leaf_kind, interior_kind, IsLeaf, IsInterior, IsOfTree, IsPiece}
-use Rattle.sqsalvage.specs.SalvageCursor.{IsMarked}
+use Rattle.sqsalvage.specs.Reached.{IsLeaf, NamesChild}
 use Rattle.sqsalvage.specs.internal.Opening.{IsOpened, IsNoPage, IsNoTreePage}
-use Rattle.sqsalvage.specs.internal.Taking.{IsCellPart, IsPartFrom, Names, Opens}
+use Rattle.sqsalvage.specs.internal.Taking.{IsChildOf, IsChildFrom}
 
 three : (f : List ℕ → ℕ → Kind → Page) (a a' : List ℕ) (b b' : ℕ) (k k' : Kind) → a ≡ a' → b ≡ b' → k ≡ k' → f a b k ≡ f a' b' k'
 three f a a' b b' k k' p q r = cc
@@ -41,139 +39,54 @@ opened_read d p usable t u o = record { is = page_is; tree = (typed, ends) }
 pub none_read : (d : Database) (p usable : ℕ) → usable ≡ usable_size d → IsNoPage (page d p) usable p → IsNoTreePage d p
 none_read d p usable u none = subst (λ (n : ℕ). IsNoPage (page d p) n p) u none
 
--- its kind is that of a leaf or of an interior page
-pub kind_of_leaf : (k : Kind) (table : Bool) → is_table k ≡ table → is_interior k ≡ false → k ≡ leaf_kind table
-kind_of_leaf TableLeaf true e f = refl
-kind_of_leaf TableLeaf false e f = cc
-kind_of_leaf TableInterior table e f = cc
-kind_of_leaf IndexLeaf true e f = cc
-kind_of_leaf IndexLeaf false e f = refl
-kind_of_leaf IndexInterior table e f = cc
+-- a page that is none of a tree is no leaf, and has no child
+pub none_leaf : (d : Database) (p : ℕ) → IsNoTreePage d p → ¬ IsLeaf d p
+none_leaf d p none leaf = let lt = none TableLeaf leaf.1.0 in let le = leaf.1.1 in omega (arith, lt, le)
 
-pub kind_of_interior : (k : Kind) (table : Bool) → is_table k ≡ table → is_interior k ≡ true → k ≡ interior_kind table
-kind_of_interior TableInterior true e f = refl
-kind_of_interior TableInterior false e f = cc
-kind_of_interior TableLeaf table e f = cc
-kind_of_interior IndexInterior true e f = cc
-kind_of_interior IndexInterior false e f = refl
-kind_of_interior IndexLeaf table e f = cc
-
-pub leaf_has_payload : (k : Kind) → is_interior k ≡ false → has_payload k ≡ true
-leaf_has_payload TableLeaf e = refl
-leaf_has_payload TableInterior e = cc
-leaf_has_payload IndexLeaf e = refl
-leaf_has_payload IndexInterior e = cc
-
-leaf_table : (table : Bool) → is_table (leaf_kind table) ≡ table
-leaf_table true = refl
-leaf_table false = refl
-
-interior_table : (table : Bool) → is_table (interior_kind table) ≡ table
-interior_table true = refl
-interior_table false = refl
-
-interior_not_leaf : (table : Bool) → interior_kind table ≡ leaf_kind table → ⊥
-interior_not_leaf true e = cc
-interior_not_leaf false e = cc
-
--- a page that is none of a tree
-pub none_of_tree : (d : Database) (table : Bool) (p : ℕ) → IsNoTreePage d p → ¬ IsOfTree d table p
-none_of_tree d table p none (inl leaf) = let lt = none (leaf_kind table) leaf.1.0 in let le = leaf.1.1 in omega (arith, lt, le)
-none_of_tree d table p none (inr interior) = let lt = none (interior_kind table) interior.1.0 in let le = interior.1.1 in omega (arith, lt, le)
-
-pub none_leaf : (d : Database) (p : ℕ) → IsNoTreePage d p → ¬ IsLeaf d true p
-none_leaf d p none leaf = none_of_tree d true p none (inl leaf)
+pub none_child : (d : Database) (p c : ℕ) → IsNoTreePage d p → ¬ NamesChild d p c
+none_child d p c none names = let lt = none TableInterior names.1.0 in let le = names.1.1 in omega (arith, lt, le)
 
 -- a page of another kind
-pub same_kind : (d : Database) (p : ℕ) (t : TreePage) (k : Kind) → IsPageRead d p t → IsTreePage d k p → t.kind ≡ k
-same_kind d p t k r is = kind_once t.kind k (sym r.tree.0 ∙ is.0)
+pub other_leaf : (d : Database) (p : ℕ) (t : TreePage) → IsPageRead d p t → t.kind ≢ TableLeaf → ¬ IsLeaf d p
+other_leaf d p t r other leaf = other (kind_once t.kind TableLeaf (sym r.tree.0 ∙ leaf.1.0))
 
-pub other_tree : (d : Database) (table : Bool) (p : ℕ) (t : TreePage) → IsPageRead d p t → is_table t.kind ≢ table → ¬ IsOfTree d table p
-other_tree d table p t r other (inl leaf) = other (ap (λ k. is_table k) (same_kind d p t (leaf_kind table) r leaf.1) ∙ leaf_table table)
-other_tree d table p t r other (inr interior) = other (ap (λ k. is_table k) (same_kind d p t (interior_kind table) r interior.1) ∙ interior_table table)
+pub other_child : (d : Database) (p c : ℕ) (t : TreePage) → IsPageRead d p t → t.kind ≢ TableInterior → ¬ NamesChild d p c
+other_child d p c t r other names = other (kind_once t.kind TableInterior (sym r.tree.0 ∙ names.1.0))
 
-pub other_leaf : (d : Database) (p : ℕ) (t : TreePage) → IsPageRead d p t → t.kind ≢ TableLeaf → ¬ IsLeaf d true p
-other_leaf d p t r other leaf = other (same_kind d p t TableLeaf r leaf.1)
+-- what was read of a leaf
+pub leaf_read : (d : Database) (p : ℕ) (t : TreePage) → IsPage d p → IsPageRead d p t → t.kind ≡ TableLeaf → IsLeaf d p
+leaf_read d p t page r is = (page, subst (λ (k : Kind). IsTreePage d k p) is r.tree)
 
--- no page is a leaf and an interior one
-pub not_both : (d : Database) (table : Bool) (p : ℕ) → IsInterior d table p → ¬ IsLeaf d table p
-not_both d table p interior leaf = interior_not_leaf table (kind_once (interior_kind table) (leaf_kind table) (sym interior.1.0 ∙ leaf.1.0))
+-- the children of an interior page
+pub children_forth : (d : Database) (p : ℕ) (t : TreePage) → IsPage d p → IsPageRead d p t → t.kind ≡ TableInterior → (c : ℕ) → IsChildOf t c → NamesChild d p c
+children_forth d p t page r is c h =
+    (page, subst (λ (k : Kind). IsTreePage d k p) is r.tree, h.0, subst (λ (b : Page). IsChild b h.0 c) (r.is ∙ ap (λ (k : Kind). page_as d k p) is) h.1)
 
--- a leaf or an interior page that was read
-pub leaf_read : (d : Database) (table : Bool) (p : ℕ) (t : TreePage) → IsPage d p → IsPageRead d p t → t.kind ≡ leaf_kind table → IsLeaf d table p
-leaf_read d table p t page r is = (page, subst (λ (k : Kind). IsTreePage d k p) is r.tree)
+pub children_back : (d : Database) (p : ℕ) (t : TreePage) → IsPageRead d p t → t.kind ≡ TableInterior → (c : ℕ) → NamesChild d p c → IsChildOf t c
+children_back d p t r is c h = (h.2, subst (λ (b : Page). IsChild b h.2 c) (sym (r.is ∙ ap (λ (k : Kind). page_as d k p) is)) h.3)
 
-pub interior_read : (d : Database) (table : Bool) (p : ℕ) (t : TreePage) → IsPage d p → IsPageRead d p t → t.kind ≡ interior_kind table → IsInterior d table p
-interior_read d table p t page r is = (page, subst (λ (k : Kind). IsTreePage d k p) is r.tree)
+-- children from the last one on
+pub none_behind : (t : TreePage) (i c : ℕ) → cell_count (page_of t) < i → IsChildFrom t i c → ⊥
+none_behind t i c above (k, le, inl x) = let lt : k < cell_count (page_of t) = x.1.0 in omega (arith, lt, le, above)
+none_behind t i c above (k, le, inr x) = let e : k ≡ cell_count (page_of t) = x.0 in omega (arith, e, le, above)
 
-page_same : (d : Database) (table : Bool) (p : ℕ) (t : TreePage) → IsPageRead d p t → t.kind ≡ interior_kind table → page_of t ≡ page_as d (interior_kind table) p
-page_same d table p t r is = r.is ∙ ap (λ (k : Kind). page_as d k p) is
+pub from_more : (t : TreePage) (i j c : ℕ) → i ≡ j + 1 → IsChildFrom t i c → IsChildFrom t j c
+from_more t i j c e h = (h.0, let le : i ≤ h.0 = h.1 in omega (arith, le, e), h.2)
 
--- a page of the database is marked
-marks_page : (d : Database) (p : ℕ) (old new : List Bool) → IsPage d p → ((q : ℕ) → IsMarked new q ↔ (IsMarked old q ⊎ (IsPage d q × (q ≡ p)))) → (q : ℕ) → IsMarked new q ↔ (IsMarked old q ⊎ (q ≡ p))
-marks_page d p old new page marked q = (
-  λ h. elim ((marked q).0 h) [ inl before ↦ inl before | inr w ↦ inr w.1 ],
-  λ h. elim h [ inl before ↦ (marked q).1 (inl before) | inr e ↦ (marked q).1 (inr (subst (λ (n : ℕ). IsPage d n) (sym e) page, e)) ],
-)
+pub from_here : (t : TreePage) (j c : ℕ) → IsChild (page_of t) j c → IsChildFrom t j c
+from_here t j c h = (j, omega arith, h)
 
--- what a leaf names, and what an interior page does
-pub leaf_opens : (d : Database) (table : Bool) (p : ℕ) (old new : List Bool) (pending more : List Piece) → IsLeaf d table p → ¬ IsMarked old p → length new ≡ length old
-    → ((q : ℕ) → IsMarked new q ↔ (IsMarked old q ⊎ (IsPage d q × (q ≡ p)))) → more ≡ pending → Opens d table p old new pending more
-leaf_opens d table p old new pending more leaf un size marked same = record {
-  fresh = (inl leaf, un);
-  sized = size;
-  marked = marks_page d p old new leaf.0 marked;
-  items = [];
-  behind = same ∙ sym (append-nil pending);
-  pages = λ c. (λ i. absurd i, λ names. absurd (not_both d table p names.0 leaf));
-  cells = λ q i. (λ a. absurd a, λ h. absurd (not_both d table p (subst (λ (n : ℕ). IsInterior d table n) h.0 h.1.0) leaf));
-  once = tt;
-}
+pub from_cases : (t : TreePage) (i j c : ℕ) → i ≡ j + 1 → IsChildFrom t j c → IsChildFrom t i c ⊎ IsChild (page_of t) j c
+from_cases t i j c e h = elim (cases_eq h.0 j) [
+  | inl same ↦ inr (subst (λ (k : ℕ). IsChild (page_of t) k c) same h.2)
+  | inr ne ↦ inl (h.0, (let le : j ≤ h.0 = h.1 in omega (arith, le, e, ne)), h.2)
+]
 
-pub interior_opens : (d : Database) (table : Bool) (p : ℕ) (t : TreePage) (old new : List Bool) (pending more : List Piece) → IsPage d p → IsPageRead d p t → t.kind ≡ interior_kind table → ¬ IsMarked old p
-    → length new ≡ length old → ((q : ℕ) → IsMarked new q ↔ (IsMarked old q ⊎ (IsPage d q × (q ≡ p)))) → Names (IsPartFrom (page_of t) 0) pending more → Opens d table p old new pending more
-interior_opens d table p t old new pending more page r is un size marked n = record {
-  fresh = (inr interior, un);
-  sized = size;
-  marked = marks_page d p old new page marked;
-  items = n.items;
-  behind = n.behind;
-  pages = λ c. (
-    λ i. (let h = (n.all (Whole c)).0 i in (interior, h.0, subst (λ (b : Page). IsChild b h.0 c) same h.2)),
-    λ names. (n.all (Whole c)).1 (names.1, omega arith, subst (λ (b : Page). IsChild b names.1 c) (sym same) names.2),
-  );
-  cells = λ q i. (
-    λ a. (let h = subst (λ (b : Page). IsCellPart b i (Part q i)) same ((n.all (Part q i)).0 a).1 in
-        (h.0, (subst (λ (m : ℕ). IsInterior d table m) (sym h.0) interior, h.2, subst (λ (m : ℕ). i < cell_count (page_as d (interior_kind table) m)) (sym h.0) h.3))),
-    λ h. (n.all (Part q i)).1 (omega arith, subst (λ (b : Page). IsCellPart b i (Part q i)) (sym same) (h.0, refl, h.1.1, subst (λ (m : ℕ). i < cell_count (page_as d (interior_kind table) m)) h.0 h.1.2)),
-  );
-  once = n.once;
-}
-  where
-    interior : IsInterior d table p
-    interior = interior_read d table p t page r is
+pub from_first : (t : TreePage) (i c : ℕ) → i ≡ 0 → IsChildOf t c → IsChildFrom t i c
+from_first t i c e h = (h.0, omega (arith, e), h.1)
 
-    same : page_of t ≡ page_as d (interior_kind table) p
-    same = page_same d table p t r is
-
--- a cell of an interior page
-pub cell_in : (d : Database) (table : Bool) (p i : ℕ) (t : TreePage) → IsPage d p → IsPageRead d p t → t.kind ≡ interior_kind table → has_payload t.kind ≡ true → i < cell_count (page_of t)
-    → IsPiece d table (Part p i)
-cell_in d table p i t page r is payload lt = (
-  interior_read d table p t page r is,
-  subst (λ (k : Kind). has_payload k ≡ true) is payload,
-  subst (λ (b : Page). i < cell_count b) (page_same d table p t r is) lt,
-)
-
-pub no_cell_in : (d : Database) (table : Bool) (p i : ℕ) (t : TreePage) → IsPageRead d p t → (t.kind ≡ interior_kind table → has_payload t.kind ≡ true → i < cell_count (page_of t) → ⊥) → ¬ IsPiece d table (Part p i)
-no_cell_in d table p i t r none h =
-    let is = same_kind d p t (interior_kind table) r h.0.1 in
-    none is (subst (λ (k : Kind). has_payload k ≡ true) (sym is) h.1) (subst (λ (b : Page). i < cell_count b) (sym (page_same d table p t r is)) h.2)
-
--- where there is no such page
-pub outside_tree : (d : Database) (table : Bool) (p : ℕ) → ¬ IsPage d p → ¬ IsOfTree d table p
-outside_tree d table p none (inl leaf) = none leaf.0
-outside_tree d table p none (inr interior) = none interior.0
+pub child_from : (t : TreePage) (i c : ℕ) → IsChildFrom t i c → IsChildOf t c
+child_from t i c h = (h.0, h.2)
 
 -- where there is no page, no byte is usable
 pub none_usable : (d : Database) → length d ≡ 0 → usable_size d < 480

@@ -1,102 +1,50 @@
 -- One turn of the walk over a tree, and its end.
-use Rattle.std.proofs.Common.{◌≡◌, ◌↔◌, ◌⊎◌, ℕ, Bool, List, [], ◌∷◌, ◌++◌, Some, None, sym, subst, ◌∙◌, inl, inr}
+use Rattle.std.proofs.Common.{◌≡◌, ℕ, Bool, List, [], ◌∷◌, ◌++◌, Some, None, subst, ◌∙◌}
 use Rattle.sqval.specs.Database.{Database}
-use Rattle.sqsalvage.specs.declared.cursor.Piece.{Piece}
-use Rattle.sqsalvage.specs.declared.cursor.Piece.TheVariants.{Whole, Part}
+use Rattle.sqsalvage.specs.declared.page.TreePage.{TreePage}
 use Rattle.sqsalvage.specs.declared.cursor.Salvage.{Salvage}
-use Rattle.sqsalvage.specs.declared.piece.PieceRead.{PieceRead}
-use Rattle.sqpage.specs.Freelist.{usable_size}
-use Rattle.sqsalvage.specs.Reached.{IsLeaf, IsPiece}
-use Rattle.sqsalvage.specs.SalvageCursor.{AreLeft, ArePending, IsMarked, IsOver, IsPassed, IsPieceRead, IsToCome, PiecesLeft, TreeMoves}
-use Rattle.sqsalvage.specs.internal.Taking.{Goes, IsPieceTaken, IsSkipped, Opens}
+use Rattle.sqsalvage.specs.Reached.{IsLeaf, NamesChild}
+use Rattle.sqsalvage.specs.SalvageCursor.{IsOver, IsLeafRead, TreeMoves}
+use Rattle.sqsalvage.specs.internal.Taking.{Names, Goes}
 use Rattle.sqsalvage.proofs.PagesOfTrees.{leaf_read}
-use Rattle.sqsalvage.proofs.StepsOfWalk.{drop_last, skipped, skipped_same, cell_skipped, cell_same, cell_taken, opened, opened_pending, opened_same, leaf_taken, left_none}
+use Rattle.sqsalvage.proofs.StepsOfWalk.{still_pending, passed_same, leaf_taken, none_taken, none_left}
 
 pub starts : (d : Database) (start : Salvage) → IsOver d start → Goes d start start.usable start.marks.items start.pending.items
-starts d start over = record { over = over.0; are = over.1; left = λ pieces l. l; passed = λ p. (λ h. h, λ h. h) }
+starts d start over = record { over = over.0; are = over.1; left = λ leaves l. l; passed = λ p. (λ h. h, λ h. h) }
 
--- a page that is opened
-opens : (d : Database) (start : Salvage) (usable : ℕ) (marks new : List Bool) (rest more : List Piece) (p : ℕ) → Goes d start usable marks (rest ++ Whole p ∷ []) → Opens d start.table p marks new rest more
-    → ¬ IsLeaf d start.table p → Goes d start usable new more
-opens d start usable marks new rest more p h o none =
-    let same = opened_same d start.table p marks new rest more o in
+-- a page that is no leaf
+pub goes_on : (d : Database) (start : Salvage) (usable : ℕ) (marks new : List Bool) (pending rest more : List ℕ) (p : ℕ) → Goes d start usable marks pending → pending ≡ rest ++ p ∷ []
+    → Names d (NamesChild d p) marks new rest more → ¬ IsLeaf d p → Goes d start usable new more
+goes_on d start usable marks new pending rest more p go e n none =
+    let h = subst (λ (l : List ℕ). Goes d start usable marks l) e go in
+    let same = passed_same d marks new rest more p h.are n in
     record {
       over = h.over;
-      are = opened_pending d start.table p marks new rest more h.are o;
-      left = λ pieces l. h.left pieces (opened d start.table p marks new rest more o none pieces l);
+      are = still_pending d marks new rest more p h.are n;
+      left = λ leaves l. h.left leaves (none_taken d marks new rest more p n none leaves l);
       passed = λ q. (λ x. (same q).0 ((h.passed q).0 x), λ x. (h.passed q).1 ((same q).1 x));
     }
 
--- one that is passed over
-skips : (d : Database) (start : Salvage) (usable : ℕ) (marks new : List Bool) (rest more : List Piece) (p : ℕ) → Goes d start usable marks (rest ++ Whole p ∷ []) → IsSkipped d start.table p marks new rest more
-    → Goes d start usable new more
-skips d start usable marks new rest more p h (none, m, r) =
-    let same = skipped_same d start.table marks rest p none in
-    subst (λ (l : List Piece). Goes d start usable new l) r (subst (λ (b : List Bool). Goes d start usable b rest) m (record {
-      over = h.over;
-      are = drop_last d marks rest (Whole p) h.are;
-      left = λ pieces l. h.left pieces (skipped d start.table marks rest p none pieces l);
+-- a leaf
+pub comes_to : (d : Database) (start new : Salvage) (usable : ℕ) (marks : List Bool) (pending rest : List ℕ) (p : ℕ) (page : TreePage) → Goes d start usable marks pending → pending ≡ rest ++ p ∷ [] → new.usable ≡ usable
+    → Names d (NamesChild d p) marks new.marks.items rest new.pending.items → IsLeafRead d p page → TreeMoves d start new (Some page)
+comes_to d start new usable marks pending rest p page go e u n is =
+    let h = subst (λ (l : List ℕ). Goes d start usable marks l) e go in
+    let same = passed_same d marks new.marks.items rest new.pending.items p h.are n in
+    record {
+      over = (u ∙ h.over, still_pending d marks new.marks.items rest new.pending.items p h.are n);
+      moves = (p, is, λ leaves l. h.left (p ∷ leaves) (leaf_taken d marks new.marks.items rest new.pending.items p h.are n (leaf_read d p page is.0 is.1 is.2) leaves l));
       passed = λ q. (λ x. (same q).0 ((h.passed q).0 x), λ x. (h.passed q).1 ((same q).1 x));
-    }))
-
--- a cell that is none
-skips_cell : (d : Database) (start : Salvage) (usable : ℕ) (marks new : List Bool) (rest more : List Piece) (p i : ℕ) → Goes d start usable marks (rest ++ Part p i ∷ []) → ¬ IsPiece d start.table (Part p i)
-    → marks ≡ new → rest ≡ more → Goes d start usable new more
-skips_cell d start usable marks new rest more p i h none m r =
-    let same = cell_same d start.table marks rest p i in
-    subst (λ (l : List Piece). Goes d start usable new l) r (subst (λ (b : List Bool). Goes d start usable b rest) m (record {
-      over = h.over;
-      are = drop_last d marks rest (Part p i) h.are;
-      left = λ pieces l. h.left pieces (cell_skipped d start.table marks rest p i none pieces l);
-      passed = λ q. (λ x. (same q).0 ((h.passed q).0 x), λ x. (h.passed q).1 ((same q).1 x));
-    }))
-
--- nothing is read
-pub goes_on : (d : Database) (start : Salvage) (usable : ℕ) (marks new : List Bool) (pending rest more : List Piece) (x : Piece) → Goes d start usable marks pending → pending ≡ rest ++ x ∷ []
-    → IsPieceTaken d start.table x marks new rest more None → Goes d start usable new more
-goes_on d start usable marks new pending rest more (Whole p) go e (inl s) = skips d start usable marks new rest more p (subst (λ (l : List Piece). Goes d start usable marks l) e go) s
-goes_on d start usable marks new pending rest more (Whole p) go e (inr o) = opens d start usable marks new rest more p (subst (λ (l : List Piece). Goes d start usable marks l) e go) o.0 o.1
-goes_on d start usable marks new pending rest more (Part p i) go e (none, m, r) = skips_cell d start usable marks new rest more p i (subst (λ (l : List Piece). Goes d start usable marks l) e go) none m r
-
--- where the cursor is behind a piece
-comes_behind : (d : Database) (start new : Salvage) (usable : ℕ) (x : Piece) (read : PieceRead) → new.usable ≡ usable → new.table ≡ start.table → usable ≡ usable_size d → ArePending d new.marks.items new.pending.items
-    → IsPieceRead d start.table x read → ((pieces : List Piece) → AreLeft d start.table new.marks.items new.pending.items pieces → PiecesLeft d start (x ∷ pieces))
-    → ((q : ℕ) → IsPassed d start q ↔ (IsMarked new.marks.items q ⊎ IsToCome d start.table new.marks.items new.pending.items q)) → TreeMoves d start new (Some read)
-comes_behind d start new usable x read u t over are is left passed = record {
-  over = (u ∙ over, are);
-  moves = (x, is, λ pieces l. left pieces (subst (λ (b : Bool). AreLeft d b new.marks.items new.pending.items pieces) t l));
-  passed = λ q. subst (λ (b : Bool). IsPassed d start q ↔ (IsMarked new.marks.items q ⊎ IsToCome d b new.marks.items new.pending.items q)) (sym t) (passed q);
-  ended = λ no. cc;
-}
-
--- a piece
-pub comes_to : (d : Database) (start new : Salvage) (usable : ℕ) (marks : List Bool) (pending rest : List Piece) (x : Piece) (read : PieceRead) → Goes d start usable marks pending → pending ≡ rest ++ x ∷ []
-    → new.usable ≡ usable → new.table ≡ start.table → IsPieceTaken d start.table x marks new.marks.items rest new.pending.items (Some read) → TreeMoves d start new (Some read)
-comes_to d start new usable marks pending rest (Whole p) read go e u t ((o, is), cell) =
-    let h = subst (λ (l : List Piece). Goes d start usable marks l) e go in
-    let leaf = leaf_read d start.table p read.page is.0 is.1 is.2 in
-    let same = opened_same d start.table p marks new.marks.items rest new.pending.items o in
-    comes_behind d start new usable (Whole p) read u t h.over (opened_pending d start.table p marks new.marks.items rest new.pending.items h.are o) (is, cell)
-    (λ pieces l. h.left (Whole p ∷ pieces) (leaf_taken d start.table p marks new.marks.items rest new.pending.items o leaf pieces l))
-    (λ q. (λ x. (same q).0 ((h.passed q).0 x), λ x. (h.passed q).1 ((same q).1 x)))
-comes_to d start new usable marks pending rest (Part p i) read go e u t ((piece, is), cell, m, r) =
-    let h = subst (λ (l : List Piece). Goes d start usable marks l) e go in
-    let same = cell_same d start.table marks rest p i in
-    comes_behind d start new usable (Part p i) read u t h.over
-    (subst (λ (l : List Piece). ArePending d new.marks.items l) r (subst (λ (b : List Bool). ArePending d b rest) m (drop_last d marks rest (Part p i) h.are))) (is, cell)
-    (λ pieces l. h.left (Part p i ∷ pieces) (cell_taken d start.table marks rest p i h.are piece pieces
-    (subst (λ (b : List Bool). AreLeft d start.table b rest pieces) (sym m) (subst (λ (l : List Piece). AreLeft d start.table new.marks.items l pieces) (sym r) l))))
-    (λ q. subst (λ (l : List Piece). IsPassed d start q ↔ (IsMarked new.marks.items q ⊎ IsToCome d start.table new.marks.items l q)) r
-    (subst (λ (b : List Bool). IsPassed d start q ↔ (IsMarked b q ⊎ IsToCome d start.table b rest q)) m (λ x. (same q).0 ((h.passed q).0 x), λ x. (h.passed q).1 ((same q).1 x))))
+      ended = λ no. cc;
+    }
 
 -- the end
-pub comes_to_end : (d : Database) (start new : Salvage) (usable : ℕ) (pending : List Piece) → Goes d start usable new.marks.items pending → new.usable ≡ usable → new.table ≡ start.table → pending ≡ new.pending.items
-    → new.pending.items ≡ [] → TreeMoves d start new None
-comes_to_end d start new usable pending go u t e empty =
-    let h = subst (λ (l : List Piece). Goes d start usable new.marks.items l) e go in
+pub comes_to_end : (d : Database) (start new : Salvage) (usable : ℕ) (pending : List ℕ) → Goes d start usable new.marks.items pending → new.usable ≡ usable → pending ≡ new.pending.items → new.pending.items ≡ [] → TreeMoves d start new None
+comes_to_end d start new usable pending go u e empty =
+    let h = subst (λ (l : List ℕ). Goes d start usable new.marks.items l) e go in
     record {
       over = (u ∙ h.over, h.are);
-      moves = h.left [] (left_none d start.table new.marks.items new.pending.items empty);
-      passed = λ q. subst (λ (b : Bool). IsPassed d start q ↔ (IsMarked new.marks.items q ⊎ IsToCome d b new.marks.items new.pending.items q)) (sym t) (h.passed q);
+      moves = h.left [] (none_left d new.marks.items new.pending.items empty);
+      passed = h.passed;
       ended = λ _. empty;
     }

@@ -1,32 +1,19 @@
-//! A cursor over the trees of a database (own).
+//! A cursor over the leaves of tables (own).
 ghost use Rattle.std.specs.Prelude.{◌≤◌};
 
 use std::alloc::Global;
 
-/// What a tree named and isn't read yet, or what is read of it at once.
-#[derive(Clone, Copy)]
-pub enum Piece {
-    /// A page. Of a leaf all cells are entries of the tree.
-    Whole(u32),
-    /// A cell of an interior page, from 0, where it is an entry too.
-    Part(u32, usize),
-}
-
-/// Goes over the trees of a database that may be damaged, those of tables and those of tables WITHOUT ROWID: tree by
-/// tree, each page once, and then over the leaves of tables that no tree reached. It holds a mark for each page, and
-/// what the pages on the way to where it stands name and isn't read yet.
+/// Goes over the leaves of tables in a database that may be damaged: tree by tree, each page once, and then over those
+/// that no tree reached. It holds a mark for each page, and the numbers of the pages that are named and not read yet.
 #[derive(Drop)]
 pub struct Salvage {
     pub(crate) alloc: Global,
     pub(crate) size: u32,
     pub(crate) usable: u32,
-    /// Whether a page was reached by a tree or left out.
+    /// Whether a page was named by a tree or left out.
     pub(crate) marks: Vec<bool>,
-    /// Whether the tree that was begun last is one of a table with rowids: its pages are those of tables, else those of
-    /// indexes.
-    pub(crate) table: bool,
-    /// What the tree named and isn't read yet, the next one last.
-    pub(crate) pending: Vec<Piece>,
+    /// The pages that a tree named and that aren't read yet, the next one last.
+    pub(crate) pending: Vec<u32>,
     /// The page that was looked at last for one that no tree reached.
     pub(crate) at: u32,
     ghost least: { 480 ≤ usable },

@@ -1,35 +1,40 @@
-//! The pieces of a tree (own).
-ghost use Rattle.std.specs.Prelude.{◌≡◌, ◌≢◌, [], true, false, IfOk, IfErr, IfSome, MatchOption, length};
+//! The leaves of a tree, and those that no tree reached (own).
+ghost use Rattle.std.specs.Prelude.{◌≡◌, ◌≢◌, [], true, false, IfOk, IfErr, IfSome, MatchOption, OnOk, length};
+ghost use Rattle.sqval.specs.Database.{Database};
 ghost use Rattle.sqpage.specs.Freelist.{IsPage, usable_size};
-ghost use Rattle.sqpage.specs.Page.{has_payload, is_table};
 ghost use Rattle.sqpage.specs.Source.{KeepsPages};
 ghost use Rattle.sqpage.specs.declared.fault.Fault.{Fault};
 ghost use Rattle.sqpage.specs.declared.kind.Kind.{Kind};
+ghost use Rattle.sqrows.specs.Trees.{IsChild};
+ghost use Rattle.sqsalvage.specs.TreePages.{page_of};
+ghost use Rattle.sqsalvage.specs.Reached.{NamesChild};
 ghost use Rattle.sqsalvage.specs.SalvageCursor.{IsOver, TreeMoves};
-ghost use Rattle.sqsalvage.specs.internal.Taking.{IsCellIn, IsPieceTaken, IsRead, IsTaken};
+ghost use Rattle.sqsalvage.specs.internal.Taking.{IsChildOf, IsRead, IsTaken, Names};
 
-use crate::cursor::{Piece, Salvage};
-use crate::marks::is_marked;
+use crate::cursor::Salvage;
 use crate::page::TreePage;
-use crate::piece::PieceRead;
 use sqpage::{CheckError, Fault, Kind, PageSource};
+use std::alloc::AllocError;
 
-/// Whether pages of this kind are those of trees of tables, or of indexes.
-fn is_of_tree(kind: Kind, table: bool) -> bool
-    ensures yes { result ≡ true → is_table kind ≡ table }
-    ensures not { result ≡ false → is_table kind ≢ table }
-{
-    kind.is_table() == table
-}
-
-/// Whether they are interior ones whose cells are entries too.
-fn is_above_entries(kind: Kind) -> bool
-    ensures yes { result ≡ true → kind ≡ Kind.IndexInterior }
-    ensures not { result ≡ false → kind ≢ Kind.IndexInterior }
+/// Whether pages of this kind are leaves of a table.
+fn is_leaf(kind: Kind) -> bool
+    ensures yes { result ≡ true → kind ≡ Kind.TableLeaf }
+    ensures not { result ≡ false → kind ≢ Kind.TableLeaf }
 {
     match kind {
-        Kind::IndexInterior => true,
-        Kind::TableLeaf | Kind::TableInterior | Kind::IndexLeaf => false,
+        Kind::TableLeaf => true,
+        Kind::TableInterior | Kind::IndexLeaf | Kind::IndexInterior => false,
+    }
+}
+
+/// Whether they are the pages above these.
+fn is_above_leaves(kind: Kind) -> bool
+    ensures yes { result ≡ true → kind ≡ Kind.TableInterior }
+    ensures not { result ≡ false → kind ≢ Kind.TableInterior }
+{
+    match kind {
+        Kind::TableInterior => true,
+        Kind::TableLeaf | Kind::IndexLeaf | Kind::IndexInterior => false,
     }
 }
 
@@ -57,7 +62,41 @@ impl Salvage {
         }
     }
 
-    /// Takes page `p`, where it is one of the tree that wasn't reached before: the leaf that it is, or what it names.
+    /// Names child `i` of a page, if it has one.
+    fn name_child(&mut self, page: &TreePage, i: usize) -> Result<(), AllocError>
+        ensures ok { (d : Database) → length self.old.marks.items ≡ length d → OnOk result
+            (Names d (IsChild (page_of page.now) i) self.old.marks.items self.new.marks.items self.old.pending.items
+            self.new.pending.items) }
+        ensures length { length self.new.marks.items ≡ length self.old.marks.items }
+        ensures same { (self.new.size ≡ self.old.size) × (self.new.usable ≡ self.old.usable)
+            × (self.new.at ≡ self.old.at) }
+    {
+        match page.child(i) {
+            Some(child) => self.name(child),
+            None => Ok(()),
+        }
+    }
+
+    /// Names the children of page `p`, an interior one, from the last one on, so that the first one comes next.
+    fn name_children(&mut self, page: &TreePage) -> Result<(), AllocError>
+        ensures ok { (d : Database) → length self.old.marks.items ≡ length d → OnOk result
+            (Names d (IsChildOf page.now) self.old.marks.items self.new.marks.items self.old.pending.items
+            self.new.pending.items) }
+        ensures same { (self.new.size ≡ self.old.size) × (self.new.usable ≡ self.old.usable)
+            × (self.new.at ≡ self.old.at) }
+    {
+        let mut i = page.cells() + 1;
+        'children: while i > 0 {
+            i -= 1;
+            match self.name_child(page, i) {
+                Ok(()) => {}
+                Err(error) => return Err(error),
+            }
+        }
+        Ok(())
+    }
+
+    /// Takes page `p`: the leaf that it is, or its children.
     fn take<S: PageSource>(
         &mut self,
         source: &mut S,
@@ -65,22 +104,19 @@ impl Salvage {
     ) -> Result<Option<TreePage>, CheckError>
         requires sized { S.size source.old ≡ self.old.size }
         ensures ok { S.gives_pages source.old → self.old.usable ≡ usable_size (S.pages source.old)
-            → length self.old.marks.items ≡ length (S.pages source.old)
-            → IfOk result (IsTaken (S.pages source.old) self.old.table p self.old.marks.items self.new.marks.items
-            self.old.pending.items self.new.pending.items) }
+            → length self.old.marks.items ≡ length (S.pages source.old) → IfOk result (λ found.
+            IsTaken (S.pages source.old) p found × Names (S.pages source.old) (NamesChild (S.pages source.old) p)
+            self.old.marks.items self.new.marks.items self.old.pending.items self.new.pending.items) }
         ensures err { S.gives_pages source.old → self.old.usable ≡ usable_size (S.pages source.old)
             → IfErr result (λ e. e.fault ≡ Fault.NoMemory) }
-        ensures leaf { IfOk result (λ found. IfSome found (λ page. (has_payload page.kind ≡ true)
+        ensures leaf { IfOk result (λ found. IfSome found (λ page. (page.kind ≡ Kind.TableLeaf)
             × (page.usable ≡ self.old.usable))) }
         ensures same { (self.new.size ≡ self.old.size) × (self.new.usable ≡ self.old.usable)
-            × (self.new.at ≡ self.old.at) × (self.new.table ≡ self.old.table) }
+            × (self.new.at ≡ self.old.at) }
         ensures keeps { KeepsPages S.pages S.size S.reads_right S.gives_pages source.old source.new }
     {
         let count = source.count();
         if p == 0 || p > count {
-            return Ok(None);
-        }
-        if is_marked(&self.marks, p) {
             return Ok(None);
         }
         let page = match self.read(source, p) {
@@ -89,14 +125,13 @@ impl Salvage {
             Err(refusal) => return Err(refusal),
         };
         let kind = page.kind();
-        if !is_of_tree(kind, self.table) {
-            return Ok(None);
-        }
-        self.leave_out(p);
-        if !kind.is_interior() {
+        if is_leaf(kind) {
             return Ok(Some(page));
         }
-        match self.name_parts(&page) {
+        if !is_above_leaves(kind) {
+            return Ok(None);
+        }
+        match self.name_children(&page) {
             Ok(()) => Ok(None),
             Err(_) => Err(CheckError {
                 page: p,
@@ -105,106 +140,33 @@ impl Salvage {
         }
     }
 
-    /// Reads interior page `p` again, for its cell `i`. None where it has no such cell.
-    fn take_cell<S: PageSource>(
-        &self,
+    /// Reads the next leaf of the tree that was begun last, in the order of the tree. None behind the last one. A page
+    /// that is none of a table's tree, or that was reached before, is passed over. Refused by NoMemory, and by Source
+    /// where a page could not be read.
+    pub fn next_leaf<S: PageSource>(
+        &mut self,
         source: &mut S,
-        p: u32,
-        i: usize,
     ) -> Result<Option<TreePage>, CheckError>
-        requires sized { S.size source.old ≡ self.now.size }
-        ensures ok { S.gives_pages source.old → self.now.usable ≡ usable_size (S.pages source.old)
-            → IfOk result (IsCellIn (S.pages source.old) self.now.table p i) }
-        ensures err { S.gives_pages source.old → self.now.usable ≡ usable_size (S.pages source.old)
-            → IfErr result (λ e. e.fault ≡ Fault.NoMemory) }
-        ensures cell { IfOk result (λ found. IfSome found (λ page. (has_payload page.kind ≡ true)
-            × (page.usable ≡ self.now.usable))) }
-        ensures keeps { KeepsPages S.pages S.size S.reads_right S.gives_pages source.old source.new }
-    {
-        let count = source.count();
-        if self.table {
-            return Ok(None);
-        }
-        if p == 0 || p > count {
-            return Ok(None);
-        }
-        let page = match self.read(source, p) {
-            Ok(Some(page)) => page,
-            Ok(None) => return Ok(None),
-            Err(refusal) => return Err(refusal),
-        };
-        if !is_above_entries(page.kind()) {
-            return Ok(None);
-        }
-        if i >= page.cells() {
-            return Ok(None);
-        }
-        Ok(Some(page))
-    }
-
-    /// Reads a piece that was named. None where there is none of the tree, or where it names others.
-    fn take_piece<S: PageSource>(
-        &mut self,
-        source: &mut S,
-        piece: Piece,
-    ) -> Result<Option<PieceRead>, CheckError>
         requires sized { S.size source.old ≡ self.old.size }
-        ensures ok { S.gives_pages source.old → self.old.usable ≡ usable_size (S.pages source.old)
-            → length self.old.marks.items ≡ length (S.pages source.old)
-            → IfOk result (IsPieceTaken (S.pages source.old) self.old.table piece self.old.marks.items
-            self.new.marks.items self.old.pending.items self.new.pending.items) }
-        ensures err { S.gives_pages source.old → self.old.usable ≡ usable_size (S.pages source.old)
-            → IfErr result (λ e. e.fault ≡ Fault.NoMemory) }
-        ensures piece { IfOk result (λ found. IfSome found (λ read. (has_payload read.page.kind ≡ true)
-            × (read.page.usable ≡ self.old.usable))) }
-        ensures same { (self.new.size ≡ self.old.size) × (self.new.usable ≡ self.old.usable)
-            × (self.new.at ≡ self.old.at) × (self.new.table ≡ self.old.table) }
-        ensures keeps { KeepsPages S.pages S.size S.reads_right S.gives_pages source.old source.new }
-    {
-        match piece {
-            Piece::Whole(p) => match self.take(source, p) {
-                Ok(Some(page)) => Ok(Some(PieceRead { page, cell: None })),
-                Ok(None) => Ok(None),
-                Err(refusal) => Err(refusal),
-            },
-            Piece::Part(p, i) => match self.take_cell(source, p, i) {
-                Ok(Some(page)) => Ok(Some(PieceRead {
-                    page,
-                    cell: Some(i),
-                })),
-                Ok(None) => Ok(None),
-                Err(refusal) => Err(refusal),
-            },
-        }
-    }
-
-    /// Reads the next piece of the tree that was begun last, in the order of the tree: a leaf, or of an index's tree a
-    /// cell of an interior page. None behind the last one. A page that is none of the tree's kind, or that was reached
-    /// before, is passed over. Refused by NoMemory, and by Source where a page could not be read.
-    pub fn next_piece<S: PageSource>(
-        &mut self,
-        source: &mut S,
-    ) -> Result<Option<PieceRead>, CheckError>
-        requires sized { S.size source.old ≡ self.old.size }
-        // So where it ends, the pieces that it read are those of the pages that the tree reaches, each once.
+        // So where it ends, the leaves that it read are those that the tree reaches, each once.
         ensures ok { S.gives_pages source.old → IsOver (S.pages source.old) self.old
             → IfOk result (TreeMoves (S.pages source.old) self.old self.new) }
         ensures err { S.gives_pages source.old → IsOver (S.pages source.old) self.old
             → IfErr result (λ e. e.fault ≡ Fault.NoMemory) }
         // Behind the last one nothing is pending.
-        ensures piece { IfOk result (λ found. MatchOption found (self.new.pending.items ≡ [])
-            (λ read. (has_payload read.page.kind ≡ true) × (read.page.usable ≡ self.old.usable))) }
+        ensures leaf { IfOk result (λ found. MatchOption found (self.new.pending.items ≡ [])
+            (λ page. (page.kind ≡ Kind.TableLeaf) × (page.usable ≡ self.old.usable))) }
         ensures same { (self.new.size ≡ self.old.size) × (self.new.usable ≡ self.old.usable)
-            × (self.new.at ≡ self.old.at) × (self.new.table ≡ self.old.table) }
+            × (self.new.at ≡ self.old.at) }
         ensures keeps { KeepsPages S.pages S.size S.reads_right S.gives_pages source.old source.new }
     {
-        'pieces: for _ in 0..u64::MAX {
-            let piece = match self.pending.pop() {
-                Some(piece) => piece,
+        'pages: for _ in 0..u64::MAX {
+            let p = match self.pending.pop() {
+                Some(p) => p,
                 None => return Ok(None),
             };
-            match self.take_piece(source, piece) {
-                Ok(Some(read)) => return Ok(Some(read)),
+            match self.take(source, p) {
+                Ok(Some(page)) => return Ok(Some(page)),
                 Ok(None) => {}
                 Err(refusal) => return Err(refusal),
             }

@@ -1,5 +1,5 @@
-//! The trees of tables in a database that may be damaged, as far as their pages are sound, and the leaves of tables
-//! that none reaches (own).
+//! The leaves of tables in a database that may be damaged: those that a tree reaches, as far as its pages are sound,
+//! and those that none does (own).
 #![tactic(auto)]
 
 mod bytes;
@@ -7,13 +7,10 @@ mod cursor;
 mod leaves;
 mod lost;
 mod marks;
-mod names;
 mod page;
 mod parts;
-mod piece;
 mod salvage;
 mod tree_page;
 
-pub use cursor::{Piece, Salvage};
+pub use cursor::Salvage;
 pub use page::TreePage;
-pub use piece::PieceRead;

@@ -1,14 +1,14 @@
 //! Where the walk over the trees of a database begins (own).
-ghost use Rattle.std.specs.Prelude.{◌≡◌, ◌≢◌, ◌⊎◌, ◌↔◌, ◌<◌, ◌≤◌, ◌∷◌, [], ℕ, IfOk, IfErr, OnOk, length};
+ghost use Rattle.std.specs.Prelude.{◌≡◌, ◌≢◌, ◌⊎◌, ◌↔◌, ◌<◌, ◌≤◌, [], ℕ, List, IfOk, IfErr, OnOk, length};
 ghost use Rattle.sqval.specs.Database.{Database};
 ghost use Rattle.sqpage.specs.Freelist.{IsPage, usable_size};
 ghost use Rattle.sqpage.specs.Source.{KeepsPages};
 ghost use Rattle.sqpage.specs.declared.fault.Fault.{Fault};
-ghost use Rattle.sqsalvage.specs.declared.cursor.Piece.TheVariants.{Whole};
-ghost use Rattle.sqsalvage.specs.Reached.{IsReachedFrom};
+ghost use Rattle.sqsalvage.specs.Reached.{IsReached};
 ghost use Rattle.sqsalvage.specs.SalvageCursor.{IsMarked, IsOver, IsPassed, IsToCome};
+ghost use Rattle.sqsalvage.specs.internal.Taking.{Names};
 
-use crate::cursor::{Piece, Salvage};
+use crate::cursor::Salvage;
 use crate::marks::mark;
 use crate::tree_page::room;
 use sqpage::{CheckError, Fault, PageSource};
@@ -81,7 +81,6 @@ impl Salvage {
                 size,
                 usable,
                 marks,
-                table: true,
                 pending: Vec::new(alloc),
                 at: 0,
             }),
@@ -98,34 +97,42 @@ impl Salvage {
             → IsMarked self.new.marks.items q ↔ (IsMarked self.old.marks.items q ⊎ (IsPage d q × (q ≡ p))) }
         ensures length { length self.new.marks.items ≡ length self.old.marks.items }
         ensures same { (self.new.size ≡ self.old.size) × (self.new.usable ≡ self.old.usable)
-            × (self.new.pending.items ≡ self.old.pending.items) × (self.new.at ≡ self.old.at)
-            × (self.new.table ≡ self.old.table) }
+            × (self.new.pending.items ≡ self.old.pending.items) × (self.new.at ≡ self.old.at) }
     {
         let _ = mark(&mut self.marks, p);
     }
 
-    /// Begins before the first piece of the tree whose root is page `root`: of a table with rowids where `table` says
-    /// so, else of one WITHOUT ROWID, whose pages are those of indexes. It has none where that is no page of such a
-    /// tree, or was reached before. The tree before is to be at its end.
-    pub fn begin(&mut self, root: u32, table: bool) -> Result<(), AllocError>
+    /// Begins before the first leaf of the tree whose root is page `root`, which has none where that isn't a page, or
+    /// was reached before. The tree before is to be at its end.
+    pub fn begin(&mut self, root: u32) -> Result<(), AllocError>
         requires ended { self.old.pending.items ≡ [] }
         // What is passed by its end is what it reaches past what was passed before, which is to come.
         ensures ok { (d : Database) → IsOver d self.old → OnOk result (IsOver d self.new
             × ((p : ℕ) → IsPassed d self.new p
-            ↔ (IsMarked self.old.marks.items p ⊎ IsReachedFrom d table (IsMarked self.old.marks.items) root p))) }
+            ↔ (IsMarked self.old.marks.items p ⊎ IsReached d (IsMarked self.old.marks.items) root p))) }
         // To come is what it reaches, and nothing that was passed before.
         ensures comes { (d : Database) → IsOver d self.old → OnOk result ((p : ℕ)
-            → IsToCome d table self.new.marks.items self.new.pending.items p
-            ↔ IsReachedFrom d table (IsMarked self.old.marks.items) root p) }
-        // No cell is pending.
-        ensures only { OnOk result (self.new.pending.items ≡ Whole root ∷ []) }
+            → IsToCome d self.new.marks.items self.new.pending.items p
+            ↔ IsReached d (IsMarked self.old.marks.items) root p) }
         ensures same { (self.new.size ≡ self.old.size) × (self.new.usable ≡ self.old.usable)
-            × (self.new.at ≡ self.old.at) × (self.new.table ≡ table) × (self.new.marks ≡ self.old.marks) }
+            × (self.new.at ≡ self.old.at) }
     {
-        self.table = table;
-        match self.pending.push(Piece::Whole(root)) {
-            Ok(()) => Ok(()),
-            Err(_) => Err(AllocError),
+        self.name(root)
+    }
+
+    /// Marks page `p`, and puts it behind the pages that are pending, if it is a page that wasn't marked.
+    pub(crate) fn name(&mut self, p: u32) -> Result<(), AllocError>
+        ensures ok { (d : Database) → length self.old.marks.items ≡ length d → OnOk result
+            (Names d (λ q. q ≡ p) self.old.marks.items self.new.marks.items self.old.pending.items
+            self.new.pending.items) }
+        ensures length { length self.new.marks.items ≡ length self.old.marks.items }
+        ensures same { (self.new.size ≡ self.old.size) × (self.new.usable ≡ self.old.usable)
+            × (self.new.at ≡ self.old.at) }
+    {
+        if !mark(&mut self.marks, p) {
+            return Ok(());
         }
+        self.pending.push(p)?;
+        Ok(())
     }
 }

@@ -1,5 +1,5 @@
 -- What a source keeps over no step, and over two.
-use Rattle.std.proofs.Common.{◌∙◌, ℕ, refl}
+use Rattle.std.proofs.Common.{◌≡◌, ◌∙◌, ℕ, refl}
 use Rattle.sqval.specs.Database.{Database}
 use Rattle.sqpage.specs.Source.{KeepsPages}
 

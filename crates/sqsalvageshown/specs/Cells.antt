@@ -1,5 +1,5 @@
--- Cells of tables, and what is written of each (own).
-use Rattle.std.specs.Prelude.{◌≡◌, ◌⊎◌, ℕ, ◌<◌, ◌≤◌, Bool, false, List, [], ◌∷◌, ◌++◌, codes, length, IfSome, Option}
+-- Cells of leaves of tables, and what is written of each (own).
+use Rattle.std.specs.Prelude.{◌≡◌, ◌⊎◌, ℕ, ◌<◌, ◌≤◌, Bool, false, List, [], ◌∷◌, ◌++◌, codes, length, Option}
 use Rattle.std.specs.Io.KnownBytes.{Appends}
 use Rattle.sqval.specs.Database.{Database}
 use Rattle.sqval.specs.Record.{most_bytes, Refused}
@@ -39,12 +39,12 @@ HasNoPayload d cell = (most_bytes < payload_size cell) ⊎ ((bytes : List ℕ) �
 abbrev pub IsStrange : Database → Cell → List ℕ → Type 0
 IsStrange d cell bytes = IsPayload d cell bytes × (error : RecordError) × Refused error bytes
 
--- A table takes a row: it stores as many columns as are needed, and no more than have names, and the table has no row of its
--- rowid, where it has one.
+-- A table takes a row of this rowid: it stores as many columns as are needed, and no more than have names, and the table has
+-- no row of this rowid.
 pub record Takes (style : Style) (cell : Cell) (row : Row) (book : Book) : Type 0 where
   pub needed : style.columns.now.needed ≤ length row.values
   pub named : length row.values ≤ length style.columns.now.names.items
-  pub free : IfSome cell.rowid (λ id. has_rowid book id ≡ false)
+  pub free : has_rowid book (id_of cell) ≡ false
 
 -- the most values of a lost row: SQLite's tables have 2000 columns at most (SQLite's limits)
 abbrev pub most_values : ℕ

@@ -1,5 +1,5 @@
 -- The table of lost rows: those that no table takes (own).
-use Rattle.std.specs.Prelude.{◌≡◌, ℕ, zero, suc, ℤ, max, ◌-◌, List, [], ◌++◌, codes, length, Option, Some, None}
+use Rattle.std.specs.Prelude.{◌≡◌, ℕ, max, ◌-◌, List, [], ◌++◌, codes, length, Option, Some, None}
 use Rattle.std.specs.List.{flat_map, range_with_len}
 use Rattle.std.specs.Io.KnownBytes.{Appends}
 use Rattle.std.specs.Fmt.{decimal}
@@ -7,6 +7,7 @@ use Rattle.sqval.specs.Datum.{Datum}
 use Rattle.sqpage.specs.declared.cell.Cell.{Cell}
 use Rattle.sqrowlines.specs.declared.form.Form.TheVariants.{Sql}
 use Rattle.sqrowlines.specs.Lines.{between_marks, IsLine}
+use Rattle.sqsalvageshown.specs.Marks.{id_of}
 
 -- what makes the table of this name, which has no column for values yet
 abbrev pub made_text : (name : List ℕ) → List ℕ
@@ -36,17 +37,8 @@ head_text name = codes "INSERT INTO " ++ (between_marks 34 name ++ codes "(rootp
 abbrev pub where_text : (root : Option ℕ) → (p n : ℕ) → List ℕ
 where_text root p n = codes ") VALUES(" ++ (root_text root ++ (codes "," ++ (decimal p ++ (codes "," ++ (decimal n ++ codes ",")))))
 
--- what stands for the rowid before so many values, where there is none
-abbrev pub no_id_text : (n : ℕ) → List ℕ
-no_id_text zero = codes "NULL"
-no_id_text (suc n) = codes "NULL,"
-
-abbrev pub id_text : Option ℤ → (n : ℕ) → List ℕ
-id_text None n = no_id_text n
-id_text (Some id) n = []
-
 -- An INSERT of a row of these values, which stands in this cell: behind as many columns as it takes, the root, the page, how
--- many values there are, the rowid, or NULL where there is none, and the values as they are stored.
+-- many values there are, the rowid, and the values as they are stored.
 pub record IsLostRow (name : List ℕ) (root : Option ℕ) (cell : Cell) (values : List Datum) (old new : ℕ) (before after : Option (List ℕ)) : Type 0 where
   pub wide : new ≡ max old (length values)
   pub widened : Option (List ℕ)
@@ -58,5 +50,5 @@ pub record IsLostRow (name : List ℕ) (root : Option ℕ) (cell : Cell) (values
   pub head : Appends widened headed (head_text name)
   pub names : Appends headed named (named_texts (length values))
   pub stands : Appends named placed (where_text root cell.page (length values))
-  pub is : IsLine Sql (id_text cell.rowid (length values)) [] cell.rowid values line
+  pub is : IsLine Sql [] [] (Some (id_of cell)) values line
   pub written : Appends placed after line

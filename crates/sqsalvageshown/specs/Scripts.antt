@@ -1,5 +1,5 @@
 -- The script of a damaged database (own).
-use Rattle.std.specs.Prelude.{◌≡◌, ◌⊎◌, ℕ, ◌<◌, All, Bool, true, false, if◌then◌else◌, List, [], ◌∷◌, ◌++◌, codes, map, Option, Some, None, is_some}
+use Rattle.std.specs.Prelude.{◌≡◌, ◌⊎◌, ◌||◌, ℕ, ◌<◌, All, Bool, true, false, not, if◌then◌else◌, List, [], ◌∷◌, ◌++◌, codes, map, Option, Some, None, is_some}
 use Rattle.std.specs.Io.KnownBytes.{Appends}
 use Rattle.std.specs.Fmt.{decimal}
 use Rattle.std.specs.Str.{str_eq_ignore_ascii_case, bytes_eq}
@@ -33,18 +33,21 @@ use Rattle.sqsalvageshown.specs.Leaves.{IsTreeTold, AreLostTold}
 abbrev pub unmade_text : (sql : List ℕ) → List ℕ
 unmade_text sql = codes "-- not made: " ++ (hex_literal sql ++ codes "\n")
 
--- what stands before the rows of a table, which isn't made where its text isn't understood
+-- It isn't made: its text isn't understood, or it is one WITHOUT ROWID, whose rows no leaf of a table has.
+abbrev pub is_unmade : Columns → Bool
+is_unmade columns = are_unnamed columns || not (has_rowids columns)
+
+-- what stands before the rows of a table
 abbrev pub head_text : Object → Columns → List ℕ
-head_text o columns = if are_unnamed columns then unmade_text o.sql.items else making_text o
+head_text o columns = if is_unmade columns then unmade_text o.sql.items else making_text o
 
 -- Its rows are written as rows of it where it is made, else as lost ones.
 abbrev pub IsGoing : Columns → (insert : List ℕ) → (leads : Bool) → Going → Type 0
 IsGoing columns insert leads Schema = ⊥
-IsGoing columns insert leads (Table style) = (are_unnamed columns ≡ false) × (style.columns.now ≡ columns) × (style.insert.now ≡ insert) × (style.leads ≡ leads)
-IsGoing columns insert leads Lost = are_unnamed columns ≡ true
+IsGoing columns insert leads (Table style) = (is_unmade columns ≡ false) × (style.columns.now ≡ columns) × (style.insert.now ≡ insert) × (style.leads ≡ leads)
+IsGoing columns insert leads Lost = is_unmade columns ≡ true
 
--- A table was written: what makes it, and the rows that its tree reaches past the pages that were passed. The tree of a table
--- WITHOUT ROWID has the pages of an index.
+-- A table was written: what makes it, and the rows in the leaves that its tree reaches past those that were passed.
 pub record IsTableSalvaged (d : Database) (lost : List ℕ) (places : Bool) (o : Object) (passed now_passed : List Bool) (old new : Book) (before after : Option (List ℕ)) : Type 0 where
   pub columns : Columns
   pub known : AreColumns o.sql.items columns
@@ -56,7 +59,6 @@ pub record IsTableSalvaged (d : Database) (lost : List ℕ) (places : Bool) (o :
   pub lost_is : target.lost.now ≡ lost
   pub placed : target.places ≡ places
   pub root_is : target.root ≡ Some o.root
-  pub kind_is : target.table ≡ has_rowids columns
   pub goes : IsGoing columns (insert_text o.name.items rowid (map (λ n. n.items) columns.names.items)) (is_some rowid) target.going
   pub begun : Book
   pub emptied : IsEmptied old begun
@@ -142,7 +144,6 @@ pub record IsSalvaged (d : Database) (places : Bool) (before after : Option (Lis
   pub none : (p : ℕ) → ¬ IsMarked unpassed p
   pub target : Target
   pub goes : target.going ≡ Schema
-  pub kind_is : target.table ≡ true
   pub begun : Book
   pub empty : begun.objects.items ≡ []
   pub passed : List Bool

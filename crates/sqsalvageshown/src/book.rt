@@ -16,7 +16,7 @@ pub(crate) struct Book {
     pub(crate) objects: Vec<Object>,
 }
 
-/// What becomes of the rows of a tree.
+/// What becomes of the rows of a leaf.
 #[derive(Clone, Copy)]
 pub(crate) enum Going<'a> {
     /// They are the schema's: their objects are kept.
@@ -27,15 +27,13 @@ pub(crate) enum Going<'a> {
     Lost,
 }
 
-/// Where the rows of a tree go, or those of leaves that none reaches.
+/// Where the rows of a leaf go.
 #[derive(Clone, Copy)]
 pub(crate) struct Target<'a> {
     /// The name of the table of lost rows.
     pub(crate) lost: &'a [u8],
-    /// The root of the tree. None where none reaches the leaf.
+    /// The root of the tree that reaches the leaf. None where none does.
     pub(crate) root: Option<u32>,
-    /// Whether it is the tree of a table with rowids. That of one WITHOUT ROWID has the pages of an index.
-    pub(crate) table: bool,
     pub(crate) going: Going<'a>,
     /// Whether the place of each row is written.
     pub(crate) places: bool,

@@ -1,7 +1,7 @@
-//! The cells of a page.
-ghost use Rattle.std.specs.Prelude.{◌≡◌, ◌≤◌, true, OnOk, IfErr};
-ghost use Rattle.sqpage.specs.Page.{has_payload};
+//! The cells of a leaf.
+ghost use Rattle.std.specs.Prelude.{◌≡◌, ◌≤◌, OnOk, IfErr};
 ghost use Rattle.sqpage.specs.Source.{KeepsPages};
+ghost use Rattle.sqpage.specs.declared.kind.Kind.{Kind};
 ghost use Rattle.sqsalvage.specs.TreePages.{page_of};
 ghost use Rattle.sqsalvageshown.specs.Cells.{IsCellTold, IsRunOut};
 
@@ -14,7 +14,7 @@ use sqrowshown::Stop;
 use sqsalvage::TreePage;
 use std::io::Write;
 
-/// Writes what stands in cell `i` of a page.
+/// Writes what stands in cell `i` of a leaf.
 pub(crate) fn print_cell<S: PageSource, W: Write>(
     source: &mut S,
     target: &Target<'_>,
@@ -23,7 +23,7 @@ pub(crate) fn print_cell<S: PageSource, W: Write>(
     book: &mut Book,
     out: &mut W,
 ) -> Result<(), Stop>
-    requires payload { has_payload page.now.kind ≡ true }
+    requires leaf { page.now.kind ≡ Kind.TableLeaf }
     requires usable { page.now.usable ≤ S.size source.old }
     ensures ok { S.gives_pages source.old → OnOk result (IsCellTold (S.pages source.old) target.now (page_of page.now) i
         book.old book.new (W.contents out.old) (W.contents out.new)) }

@@ -1,17 +1,17 @@
-//! Leaves, and the other pieces of trees.
-ghost use Rattle.std.specs.Prelude.{◌≡◌, ◌≤◌, true, OnOk, IfErr};
-ghost use Rattle.sqpage.specs.Page.{cell_count, has_payload};
+//! The leaves of tables.
+ghost use Rattle.std.specs.Prelude.{◌≡◌, ◌≤◌, OnOk, IfErr};
+ghost use Rattle.sqpage.specs.Page.{cell_count};
 ghost use Rattle.sqpage.specs.Source.{KeepsPages};
+ghost use Rattle.sqpage.specs.declared.kind.Kind.{Kind};
 ghost use Rattle.sqsalvage.specs.TreePages.{page_of};
 ghost use Rattle.sqsalvageshown.specs.Cells.{IsRunOut};
 ghost use Rattle.sqsalvageshown.specs.Leaves.{AreCellsTold};
-ghost use Rattle.sqsalvageshown.specs.internal.Walks.{IsReadTold};
 
 use crate::book::{Book, Target};
 use crate::cell::print_cell;
 use sqpage::PageSource;
 use sqrowshown::Stop;
-use sqsalvage::{PieceRead, TreePage};
+use sqsalvage::TreePage;
 use std::io::Write;
 
 /// Writes what stands in the cells of a leaf.
@@ -22,7 +22,7 @@ pub(crate) fn print_leaf<S: PageSource, W: Write>(
     book: &mut Book,
     out: &mut W,
 ) -> Result<(), Stop>
-    requires payload { has_payload page.now.kind ≡ true }
+    requires leaf { page.now.kind ≡ Kind.TableLeaf }
     requires usable { page.now.usable ≤ S.size source.old }
     ensures ok { S.gives_pages source.old → OnOk result (AreCellsTold (S.pages source.old) target.now (page_of page.now)
         book.old (W.contents out.old) (cell_count (page_of page.now)) book.new (W.contents out.new)) }
@@ -36,25 +36,4 @@ pub(crate) fn print_leaf<S: PageSource, W: Write>(
         }
     }
     Ok(())
-}
-
-/// Writes what was read of a tree: a leaf, or one cell of an interior page.
-pub(crate) fn print_piece<S: PageSource, W: Write>(
-    source: &mut S,
-    target: &Target<'_>,
-    read: &PieceRead,
-    book: &mut Book,
-    out: &mut W,
-) -> Result<(), Stop>
-    requires payload { has_payload read.now.page.kind ≡ true }
-    requires usable { read.now.page.usable ≤ S.size source.old }
-    ensures ok { S.gives_pages source.old → OnOk result (IsReadTold (S.pages source.old) target.now
-        (page_of read.now.page) read.now.cell book.old book.new (W.contents out.old) (W.contents out.new)) }
-    ensures err { S.gives_pages source.old → IfErr result IsRunOut }
-    ensures keeps { KeepsPages S.pages S.size S.reads_right S.gives_pages source.old source.new }
-{
-    match read.cell {
-        None => print_leaf(source, target, &read.page, book, out),
-        Some(i) => print_cell(source, target, &read.page, i, book, out),
-    }
 }

@@ -1,4 +1,4 @@
-//! The pieces of a tree, and the leaves that no tree reaches.
+//! The leaves of a tree, and those that no tree reaches.
 ghost use Rattle.std.specs.Prelude.{◌≡◌, ◌↔◌, [], ℕ, List, OnOk, IfErr};
 ghost use Rattle.sqpage.specs.Source.{KeepsPages};
 ghost use Rattle.sqsalvage.specs.SalvageCursor.{IsOver};
@@ -8,13 +8,13 @@ ghost use Rattle.sqsalvageshown.specs.internal.Walks.{Walked};
 
 use crate::book::{Book, Target};
 use crate::found::stop_of;
-use crate::leaf::{print_leaf, print_piece};
+use crate::leaf::print_leaf;
 use sqpage::PageSource;
 use sqrowshown::Stop;
 use sqsalvage::Salvage;
 use std::io::Write;
 
-/// Writes the pieces of the tree that was begun last.
+/// Writes the leaves of the tree that was begun last.
 fn print_begun<S: PageSource, W: Write>(
     source: &mut S,
     salvage: &mut Salvage,
@@ -31,13 +31,13 @@ fn print_begun<S: PageSource, W: Write>(
     ensures err { S.gives_pages source.old → IsOver (S.pages source.old) salvage.old → IfErr result IsRunOut }
     ensures keeps { KeepsPages S.pages S.size S.reads_right S.gives_pages source.old source.new }
 {
-    'pieces: for _ in 0..u64::MAX {
-        let read = match salvage.next_piece(source) {
-            Ok(Some(read)) => read,
+    'leaves: for _ in 0..u64::MAX {
+        let page = match salvage.next_leaf(source) {
+            Ok(Some(page)) => page,
             Ok(None) => return Ok(()),
             Err(refusal) => return Err(stop_of(refusal)),
         };
-        match print_piece(source, target, &read, book, out) {
+        match print_leaf(source, target, &page, book, out) {
             Ok(()) => {}
             Err(stop) => return Err(stop),
         }
@@ -45,7 +45,7 @@ fn print_begun<S: PageSource, W: Write>(
     Err(Stop::NoMemory)
 }
 
-/// Writes the rows of the pages that the tree of a root reaches past those that were passed.
+/// Writes the leaves that the tree of a root reaches past those that were passed.
 pub(crate) fn print_tree<S: PageSource, W: Write>(
     source: &mut S,
     salvage: &mut Salvage,
@@ -66,7 +66,7 @@ pub(crate) fn print_tree<S: PageSource, W: Write>(
     ensures err { S.gives_pages source.old → IsOver (S.pages source.old) salvage.old → IfErr result IsRunOut }
     ensures keeps { KeepsPages S.pages S.size S.reads_right S.gives_pages source.old source.new }
 {
-    match salvage.begin(root, target.table) {
+    match salvage.begin(root) {
         Ok(()) => {}
         Err(_) => return Err(Stop::NoMemory),
     }

@@ -4,11 +4,12 @@ ghost use Rattle.std.specs.Fmt.{decimal};
 ghost use Rattle.std.specs.Io.KnownBytes.{Appends};
 ghost use Rattle.sqval.specs.Datum.{row_of};
 ghost use Rattle.sqsalvageshown.specs.Lost.{IsLostRow, added_text, added_texts, head_text, made_text, named_texts};
-ghost use Rattle.sqsalvageshown.specs.Lost.{id_text, root_text};
+ghost use Rattle.sqsalvageshown.specs.Lost.{root_text};
 ghost use Rattle.sqsalvageshown.specs.Cells.{IsRunOut};
 ghost use Rattle.sqsalvageshown.specs.Lost.{where_text};
 
 use crate::book::{Book, Target};
+use crate::marks::id_of;
 use sqpage::Cell;
 use sqrowlines::{Form, write_between, write_line};
 use sqrows::Row;
@@ -104,16 +105,6 @@ fn stored<'a>(alloc: Global, row: &Row<'a>) -> Result<Vec<Value<'a>>, AllocError
     Ok(values)
 }
 
-/// What stands for the rowid of a row of so many values, where it has none.
-fn id_lead(rowid: Option<i64>, count: usize) -> &'static [u8]
-    ensures { result.now ≡ id_text rowid count }
-{
-    match rowid {
-        Some(_) => b"",
-        None => if count == 0 { b"NULL" } else { b"NULL," },
-    }
-}
-
 /// An INSERT of these values, which stand in this cell, behind as many columns as it takes.
 fn write_row<W: Write>(
     target: &Target<'_>,
@@ -129,8 +120,7 @@ fn write_row<W: Write>(
     write_head(out, target.lost)?;
     write_names(out, values.len())?;
     write_where(out, target.root, cell.page, values.len())?;
-    let lead = id_lead(cell.rowid, values.len());
-    write_line(out, Form::Sql, lead, &[], cell.rowid, values)
+    write_line(out, Form::Sql, b"", &[], Some(id_of(cell)), values)
 }
 
 /// Writes a row that stands in this cell into the table of lost rows.

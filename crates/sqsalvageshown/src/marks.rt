@@ -3,13 +3,13 @@ ghost use Rattle.std.specs.Prelude.{◌≡◌, OnOk};
 ghost use Rattle.std.specs.Io.KnownBytes.{Appends};
 ghost use Rattle.sqrowlines.specs.Lines.{hex_literal};
 ghost use Rattle.sqsalvageshown.specs.Marks.{id_of as rowid_of, mark_text, outside_text, place_text, placed_text};
-ghost use Rattle.sqsalvageshown.specs.Marks.{rowid_text, size_text};
+ghost use Rattle.sqsalvageshown.specs.Marks.{size_text};
 
 use sqlines::write_hex;
 use sqpage::Cell;
 use std::io::{self, Write};
 
-/// The rowid of a cell, or 0 where it has none.
+/// The rowid of a cell of a table's leaf.
 pub(crate) fn id_of(cell: &Cell) -> i64
     ensures { result ≡ rowid_of cell.now }
 {
@@ -51,23 +51,13 @@ pub(crate) fn write_literal<W: Write>(out: &mut W, bytes: &[u8]) -> io::Result<(
     out.write_all(b"'")
 }
 
-/// A rowid, if there is one.
-fn write_rowid<W: Write>(out: &mut W, rowid: Option<i64>) -> io::Result<()>
-    ensures { OnOk result (Appends (W.contents out.old) (W.contents out.new) (rowid_text rowid)) }
-{
-    match rowid {
-        Some(id) => write!(out, "rowid {id}, "),
-        None => Ok(()),
-    }
-}
-
-/// The rowid of a cell, where it has one, and how many bytes its payload has.
+/// The rowid of a cell, and how many bytes its payload has.
 fn write_size<W: Write>(out: &mut W, cell: &Cell) -> io::Result<()>
     ensures { OnOk result (Appends (W.contents out.old) (W.contents out.new) (size_text cell.now)) }
 {
+    let id = id_of(cell);
     let size = cell.payload.unwrap_or(0);
-    write_rowid(out, cell.rowid)?;
-    write!(out, "{size} bytes, ")
+    write!(out, "rowid {id}, {size} bytes, ")
 }
 
 /// The line of cell `i` of a page, of which no row is written, why not, and bytes of it.

@@ -40,10 +40,7 @@ fn takes(style: &Style<'_>, cell: &Cell, row: &Row<'_>, book: &Book) -> bool
     if count < style.columns.needed || count > style.columns.names.len() {
         return false;
     }
-    match cell.rowid {
-        Some(id) => !book.has(id),
-        None => true,
-    }
+    !book.has(id_of(cell))
 }
 
 /// The line of a row of a table.

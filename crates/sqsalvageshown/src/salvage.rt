@@ -104,7 +104,6 @@ fn print_unreached<S: PageSource, W: Write>(
     let target = Target {
         lost: turn.lost,
         root: None,
-        table: true,
         going: Going::Lost,
         places: turn.places,
     };
@@ -182,13 +181,11 @@ fn print_rows<S: PageSource, W: Write>(
 
 /// Where the rows of the schema go.
 fn schema_target<'a>(places: bool) -> Target<'a>
-    ensures goes { result.going ≡ Schema }
-    ensures table { result.table ≡ true }
+    ensures { result.going ≡ Schema }
 {
     Target {
         lost: b"",
         root: Some(1),
-        table: true,
         going: Going::Schema,
         places,
     }
@@ -243,13 +240,12 @@ fn print_whole<S: PageSource, W: Write>(
 
 /// Writes a database as a script of SQL that makes it. Of one that is well formed, pointer maps and all, exactly what
 /// `print_tables` writes, with its errors. Of any other what can be read, as one transaction: the tables whose texts
-/// are understood, with the rows that they take, those WITHOUT ROWID too; each other row that can be read in a table
-/// `lost_and_found`, with the root of its tree, or NULL, its page, how many values it has and its rowid, or NULL; a
-/// comment for each cell that can't, with its page and its index there; with `places` such a comment before each row
-/// too. Leaves that no tree reaches are read where they are those of a table with rowids: those of a table WITHOUT
-/// ROWID can't be told from an index's. Indexes, triggers and views come behind it. True where it is well formed.
-/// Refused by `Encoding` where texts are UTF-16, by PageOutside and Reserved at page 1 where there is no page or fewer
-/// than 480 bytes of one are usable, by `NoMemory`, and by an error of the writer.
+/// are understood, with the rows that they take; each other row that can be read in a table `lost_and_found`, with the
+/// root of its tree, or NULL, its page, how many values it has and its rowid; a comment for each cell that can't, with
+/// its page and its index there; with `places` such a comment before each row too. Indexes, triggers and views come
+/// behind it. True where it is well formed. Refused by
+/// `Encoding` where texts are UTF-16, by PageOutside and Reserved at page 1 where there is no page or fewer than 480
+/// bytes of one are usable, by `NoMemory`, and by an error of the writer.
 pub fn print_salvage<S: PageSource, W: Write>(
     alloc: Global,
     source: &mut S,

@@ -3,10 +3,9 @@ ghost use Rattle.std.specs.Prelude.{◌≡◌, [], IfErr, IfOk, OnOk, Some, map}
 ghost use Rattle.std.specs.Io.KnownBytes.{Appends};
 ghost use Rattle.sqpage.specs.Source.{KeepsPages};
 ghost use Rattle.sqrowlines.specs.Inserts.{insert_text, rowid_name as rowid_named};
-ghost use Rattle.sqrowshown.specs.Tables.{are_unnamed, has_rowids};
 ghost use Rattle.sqsalvage.specs.SalvageCursor.{IsOver};
 ghost use Rattle.sqsalvageshown.specs.Cells.{IsRunOut};
-ghost use Rattle.sqsalvageshown.specs.Scripts.{IsGoing, IsTableSalvaged, head_text, unmade_text};
+ghost use Rattle.sqsalvageshown.specs.Scripts.{IsGoing, IsTableSalvaged, head_text, is_unmade, unmade_text};
 
 use crate::book::{Book, Going, Target, Turn};
 use crate::leaves::print_tree;
@@ -28,25 +27,18 @@ pub(crate) fn write_unmade<W: Write>(out: &mut W, sql: &[u8]) -> io::Result<()>
     out.write_all(b"\n")
 }
 
-/// Whether no column of a table is known, which isn't made then.
-fn are_unnamed(columns: &Columns) -> bool
-    ensures { result ≡ are_unnamed columns.now }
+/// Whether a table isn't made.
+fn is_unmade(columns: &Columns) -> bool
+    ensures { result ≡ is_unmade columns.now }
 {
-    columns.names.is_empty()
-}
-
-/// Whether a table has rowids.
-fn has_rowids(columns: &Columns) -> bool
-    ensures { result ≡ has_rowids columns.now }
-{
-    columns.places.is_empty()
+    columns.names.is_empty() || !columns.places.is_empty()
 }
 
 /// What stands before the rows of a table.
 fn write_head<W: Write>(out: &mut W, table: &Object, columns: &Columns) -> io::Result<()>
     ensures { OnOk result (Appends (W.contents out.old) (W.contents out.new) (head_text table.now columns.now)) }
 {
-    if are_unnamed(columns) {
+    if is_unmade(columns) {
         write_unmade(out, table.sql.as_slice())
     } else {
         write_making(out, table)
@@ -81,15 +73,12 @@ fn target_of<'a>(
 ) -> Target<'a>
     ensures lost { (result.lost.now ≡ turn.entry.lost.now) × (result.places ≡ turn.entry.places) }
     ensures root { result.root ≡ Some root }
-    ensures table { result.table ≡ has_rowids columns.entry.now }
     ensures goes { IsGoing columns.entry.now insert.entry.now leads result.going }
 {
-    let table = has_rowids(columns);
-    if are_unnamed(columns) {
+    if is_unmade(columns) {
         return Target {
             lost: turn.lost,
             root: Some(root),
-            table,
             going: Going::Lost,
             places: turn.places,
         };
@@ -103,7 +92,6 @@ fn target_of<'a>(
     Target {
         lost: turn.lost,
         root: Some(root),
-        table,
         going: Going::Table(style),
         places: turn.places,
     }

@@ -50,6 +50,15 @@ NotBehind key a b faults.EntryOrder = entry_cmp key.order a b ≢ Less
 NotBehind key a b faults.KeyTwice = (key.unique ≡ true) × IsSameKey key.order (width key) a b
 NotBehind key a b _ = ⊥
 
+-- Entry i has this rowid, and comes behind the one before it.
+pub record IsSoundAt (key : IndexKey) (xs : List Stored) (i : ℕ) (rowid : ℤ) : Type 0 where
+  pub keyed : IsKeyed (width key) rowid (values_of (at_place xs i))
+  pub behind : (h : ℕ) → i ≡ h + 1 → IsBehind key (values_of (at_place xs h)) (values_of (at_place xs i))
+
+-- The first of them, so many, hold their rowids, and are sound.
+abbrev pub AreJudged : IndexKey → (xs : List Stored) → List Held → (many : ℕ) → Type 0
+AreJudged key xs ps many = (i : ℕ) (p : Held) → i < many → slice_get ps i ≡ Some p → IsSoundAt key xs i p.rowid
+
 -- The rules that the entries of an index follow by themselves.
 pub record AreSoundEntries (key : IndexKey) (xs : List Stored) : Type 0 where
   pub formed : AreFormed (width key) xs
@@ -73,6 +82,18 @@ IsNumbered key entries p = IsKeyed (width key) p.rowid (values_of (entry_in entr
 pub record AreByRowid (key : IndexKey) (entries : Entries) : Type 0 where
   pub each : All (IsNumbered key entries) entries.list.items
   pub rise : RowidsRise entries.list.items
+
+-- The entries are sound by themselves, and these are all of them by rowid.
+pub record IsOrdered (key : IndexKey) (xs : List Stored) (entries : Entries) : Type 0 where
+  pub sound : AreSoundEntries key xs
+  pub same : IsPermutation (held_by entries) xs
+  pub by_rowid : AreByRowid key entries
+
+-- Why they aren't sound: memory ran out, or a fault stands at an entry.
+abbrev pub JudgeRefused : IndexKey → (xs : List Stored) → IndexError → Type 0
+JudgeRefused key xs (errors.Index e) = e ≡ NoMemory
+JudgeRefused key xs (errors.Entry e) = (i : ℕ) × (x : Stored) × (slice_get xs i ≡ Some x) × (x.page ≡ e.page) × (x.cell ≡ e.cell) × EntryRefused key xs i x e.fault
+JudgeRefused key xs _ = ⊥
 
 -- One of these entries has the rowid of another.
 abbrev pub HasTwice : IndexKey → (ys : List Stored) → (x : Stored) → Type 0

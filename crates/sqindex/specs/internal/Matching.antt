@@ -1,5 +1,5 @@
 -- Words of the functions that match the rows and the entries of a range of rowids (own). No public contract cites them.
-use Rattle.std.specs.Prelude.{◌≡◌, ◌≤◌, ℕ, List, [], ◌++◌, ◌∷◌, length, Option, Some, None, MatchOption, ℤ, ◌<ℤ◌}
+use Rattle.std.specs.Prelude.{◌≡◌, ℕ, List, [], ◌++◌, ◌∷◌, Option, Some, None, MatchOption, ℤ}
 use Rattle.sqval.specs.Database.{Database}
 use Rattle.sqval.specs.Record.{most_bytes}
 use Rattle.sqkeys.specs.declared.key.IndexKey.{IndexKey}
@@ -20,18 +20,9 @@ abbrev pub SeesIn : IndexKey → Part → (rows : List Stored) → (old : Join) 
 SeesIn key part rows old row new =
     AreByRowid key part.entries → Rise (rows ++ row ∷ []) → IsJoined key part.entries (rows_in part.span rows) old → IsJoined key part.entries (rows_in part.span (rows ++ row ∷ [])) new
 
--- The row is behind the range, of which each entry was found to be a row's.
-abbrev pub IsPast : Part → Join → (rowid : ℤ) → Type 0
-IsPast part join rowid = (join.fault ≡ None) × (length part.entries.list.items ≤ join.at) × (b : ℤ) × (part.span.last ≡ Some b) × (b <ℤ rowid)
-
--- the table has rows in order
-abbrev pub HasRowsInOrder : Database → (table : ℕ) → Type 0
-HasRowsInOrder d table = (rows : List Stored) × HasKeyedRows d table rows
-
--- The entries are those of the rows of the table in their range. Where that has no end the table has rows in order.
+-- The entries are those of the rows of the table in their range.
 abbrev pub IsMatchedIn : Database → (table : ℕ) → IndexKey → Part → Type 0
-IsMatchedIn d table key part = (part.span.last ≡ None → HasRowsInOrder d table)
-    × ((rows : List Stored) → HasKeyedRows d table rows → Match key (rows_in part.span rows) (held_by part.entries))
+IsMatchedIn d table key part = (rows : List Stored) × HasKeyedRows d table rows × Match key (rows_in part.span rows) (held_by part.entries)
 
 -- Why they aren't.
 abbrev pub MatchRefusedIn : Database → (table : ℕ) → IndexKey → Part → IndexError → Type 0

@@ -1,56 +1,41 @@
 -- Words of the functions that read the entries of a range of rowids (own). No public contract cites them.
-use Rattle.std.specs.Prelude.{◌≡◌, ◌≢◌, ◌⊎◌, ℕ, List, [], ◌++◌, ◌∷◌, None, ℤ}
-use Rattle.std.specs.List.{All}
+use Rattle.std.specs.Prelude.{◌≡◌, ◌≢◌, ℕ, true, List, [], ◌++◌, ◌∷◌, Option, None, MatchOption, ℤ}
 use Rattle.sqval.specs.Database.{Database}
 use Rattle.sqlite_record.specs.Record.{decode}
 use Rattle.sqkeys.specs.declared.key.IndexKey.{IndexKey}
+use Rattle.sqindex.specs.declared.entries.Entries.{Entries}
 use Rattle.sqindex.specs.declared.error.EntryError.{EntryError}
 use Rattle.sqindex.specs.declared.error.IndexError.{IndexError}
 use Rattle.sqindex.specs.declared.error.IndexError.TheVariants as errors
-use Rattle.sqindex.specs.declared.error.ReadError.TheVariants.{OtherKind}
+use Rattle.sqindex.specs.declared.error.ReadError.TheVariants.{OtherKind, NoMemory}
 use Rattle.sqindex.specs.declared.fault.IndexFault.TheVariants as faults
 use Rattle.sqindex.specs.declared.part.Part.{Part}
+use Rattle.sqindex.specs.declared.span.Span.{Span}
 use Rattle.sqindex.specs.declared.walk.Found.{Found}
 use Rattle.sqindex.specs.Stored.{Stored}
 use Rattle.sqindex.specs.Keys.{IsKeyed}
 use Rattle.sqindex.specs.Rules.{width, HasEntries}
 use Rattle.sqindex.specs.Indexes.{ReadRefused, NoEntries}
-use Rattle.sqindex.specs.internal.Held.{held_by, plain}
-use Rattle.sqindex.specs.internal.Judging.{IsNumbered, TwiceRefused}
-use Rattle.sqindex.specs.internal.Spans.{AreOfSpan, GoesOn}
+use Rattle.sqindex.specs.internal.Held.{plain}
+use Rattle.sqindex.specs.internal.Spans.{AreOfSpan}
 use Rattle.sqindex.specs.internal.Streaming.{StandsAmong}
 
--- The range ends where it did or sooner, and its entries are kept.
-abbrev pub Cuts : (old new : Part) → Type 0
-Cuts old new = GoesOn old.span new.span × ((key : IndexKey) (seen : List Stored) → AreOfSpan key old.span old.entries seen → AreOfSpan key new.span new.entries seen)
-
--- Why it isn't cut: memory ran out, or two of its entries have one rowid.
-abbrev pub CutRefused : (old : Part) → IndexError → Type 0
-CutRefused old e = (key : IndexKey) → All (IsNumbered key old.entries) old.entries.list.items → TwiceRefused key (held_by old.entries) e
-
--- An entry with this rowid was added, where that is in the range.
-abbrev pub TakesIn : (old : Part) → Found → (rowid : ℤ) → (bytes : List ℕ) → (new : Part) → Type 0
-TakesIn old found rowid bytes new = (new.span ≡ old.span) × ((key : IndexKey) (seen : List Stored) → IsKeyed (width key) rowid (decode bytes)
-    → AreOfSpan key old.span old.entries seen → AreOfSpan key new.span new.entries (seen ++ plain found bytes ∷ []))
-
--- What was found was added, where it is of the range, which may end sooner.
-abbrev pub Gathers : IndexKey → (old : Part) → Found → (bytes : List ℕ) → (new : Part) → Type 0
-Gathers key old found bytes new = (found.rowid ≡ None) × GoesOn old.span new.span
-    × ((seen : List Stored) → AreOfSpan key old.span old.entries seen → AreOfSpan key new.span new.entries (seen ++ plain found bytes ∷ []))
-
--- Why no entry was found: it has a rowid of its own, or hasn't the key's form.
-abbrev pub IsNoEntry : IndexKey → Found → (bytes : List ℕ) → IndexError → Type 0
-IsNoEntry key found bytes (errors.Index OtherKind) = found.rowid ≢ None
-IsNoEntry key found bytes (errors.Entry e) = (e.fault ≡ faults.EntryForm) × (e.page ≡ found.page) × (e.cell ≡ found.cell) × ((rowid : ℤ) → ¬ IsKeyed (width key) rowid (decode bytes))
-IsNoEntry key found bytes _ = ⊥
+-- What was found was added, where it is of the range; or nothing was, as there is no room.
+abbrev pub Gathers : IndexKey → Span → (old : Entries) → Found → (bytes : List ℕ) → (rest : Option ℕ) → (new : Entries) → Type 0
+Gathers key span old found bytes rest new = (found.rowid ≡ None) × ((seen : List Stored) → AreOfSpan key span old seen
+    → MatchOption rest (AreOfSpan key span new seen) (λ _. AreOfSpan key span new (seen ++ plain found bytes ∷ [])))
 
 -- Why it isn't added.
-abbrev pub GatherRefused : IndexKey → (old : Part) → Found → (bytes : List ℕ) → IndexError → Type 0
-GatherRefused key old found bytes e = IsNoEntry key found bytes e ⊎ CutRefused old e
+abbrev pub GatherRefused : IndexKey → Found → (bytes : List ℕ) → IndexError → Type 0
+GatherRefused key found bytes (errors.Index OtherKind) = found.rowid ≢ None
+GatherRefused key found bytes (errors.Index NoMemory) = Unit {0}
+GatherRefused key found bytes (errors.Entry e) =
+    (found.rowid ≡ None) × (e.fault ≡ faults.EntryForm) × (e.page ≡ found.page) × (e.cell ≡ found.cell) × ((rowid : ℤ) → ¬ IsKeyed (width key) rowid (decode bytes))
+GatherRefused key found bytes _ = ⊥
 
--- These are all the entries of the index that are in the range.
-abbrev pub IsPart : Database → (index : ℕ) → IndexKey → Part → Type 0
-IsPart d index key part = (xs : List Stored) → HasEntries d index xs → AreOfSpan key part.span part.entries xs
+-- These are entries of the range among the first ones of the index, or among all.
+abbrev pub IsPart : IndexKey → (xs : List Stored) → Part → Type 0
+IsPart key xs part = (seen more : List Stored) × (xs ≡ seen ++ more) × AreOfSpan key part.span part.entries seen × (part.whole ≡ true → more ≡ [])
 
 -- Why they aren't read.
 abbrev pub PartRefused : Database → (index : ℕ) → IndexKey → (limit : ℕ) → IndexError → Type 0

@@ -57,23 +57,6 @@ pub record AreOfSpan (key : IndexKey) (span : Span) (entries : Entries) (seen : 
   pub are : held_by entries ≡ entries_in key span seen
   pub numbered : AllZip (IsNumberOf key) entries.list.items (held_by entries)
 
--- These are the same, and hold the same rowids.
-abbrev pub IsSame : (old new : Entries) → Type 0
-IsSame old new = (held_by new ≡ held_by old) × ((key : IndexKey) → AllZip (IsNumberOf key) old.list.items (held_by old) → AllZip (IsNumberOf key) new.list.items (held_by new))
-
--- These are the ones whose rowids are up to this one, in their order.
-abbrev pub KeepsTo : (last : ℤ) → (old new : Entries) → Type 0
-KeepsTo last old new = (key : IndexKey) → AllZip (IsNumberOf key) old.list.items (held_by old)
-    → (held_by new ≡ filter (λ x. up_to (Some last) (number_in (width key) x)) (held_by old)) × AllZip (IsNumberOf key) new.list.items (held_by new)
-
 -- The last one of a range wasn't passed.
 abbrev pub IsOpen : Span → Type 0
 IsOpen span = (b : ℤ) → span.last ≡ Some b → passed span.above b ≡ false
-
--- The first range: nothing was passed.
-abbrev pub IsFirst : Span → Type 0
-IsFirst span = (span.above ≡ None) × IsOpen span
-
--- A range that begins where another one does, and ends where that does or sooner.
-abbrev pub GoesOn : (old new : Span) → Type 0
-GoesOn old new = (new.above ≡ old.above) × (IsOpen old → IsOpen new)

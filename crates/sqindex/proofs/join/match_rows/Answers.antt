@@ -11,7 +11,7 @@ use Rattle.sqindex.proofs.CellsTaken.{none_taken, one_taken, unread}
 use Rattle.sqindex.proofs.RowsSeen.{none_seen, one_seen, all_seen, not_above}
 use Rattle.sqindex.specs.internal.Spans.{rows_in}
 use Rattle.sqindex.proofs.RowsJoined.{none_joined}
-use Rattle.sqindex.proofs.RangesMatched.{ended_ok, ended_before, ended_err}
+use Rattle.sqindex.proofs.RangesMatched.{ended_ok, ended_err}
 use Rattle.sqindex.proofs.join.match_rows.Goals as goal
 
 pub returns-in-Err-clause-err : goal.returns-in-Err-clause-err
@@ -71,19 +71,6 @@ returns-in-Err-above-clause-err g c = λ gives ordered.
     let seen = i.seen gives ordered in
     let one = one_taken d c.args.table c.turns.walk.cells walk found seen.0 seen.1.taken (subst (λ (d : Database). WalkMoves d c.turns.walk.cells (Some found) walk) i.kept.same_pages moves) in
     not_above d c.args.table most_bytes walk.cells c.turns.walk.cells c.turns.last seen.0 (stored_of found walk.payload.items) c.in-Err-above.refusal seen.1 one c.in-Err-above.ensures.err
-
-pub returns-then-is_past-clause-ok : goal.returns-then-is_past-clause-ok
-returns-then-is_past-clause-ok g c = λ gives ordered.
-    let d = g.S.PageSource.pages c.args.source.now in
-    let i = c.turns.invariant in
-    let found = c.in-Ok-Some.found in
-    let walk = c.advance.new.self in
-    let over = subst (λ (d : Database). IsOver d c.turns.walk.cells) (sym i.kept.same_pages) (i.over gives) in
-    let moves = subst (λ (f : Option Found). WalkMoves (g.S.PageSource.pages c.turns.source) c.turns.walk.cells f walk) c.in-Ok-Some.field-0-is (c.in-Ok-Some.ensures.ok (i.kept.still_gives gives) over) in
-    let seen = i.seen gives ordered in
-    let one = one_taken d c.args.table c.turns.walk.cells walk found seen.0 seen.1.taken (subst (λ (d : Database). WalkMoves d c.turns.walk.cells (Some found) walk) i.kept.same_pages moves) in
-    let p = c.is_past.ensures c.if-is_past.true in
-    ended_before c.args.key.now c.args.part.now ordered d c.args.table walk.cells seen.0 (stored_of found walk.payload.items) c.turns.join p.2 one seen.2 p.0 p.1 p.3 p.4
 
 pub turns-preserved : goal.turns-preserved
 turns-preserved g c =

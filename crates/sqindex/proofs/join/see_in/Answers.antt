@@ -1,4 +1,4 @@
-use Rattle.std.proofs.Common.{◌≡◌, ◌∙◌, FitsSigned, w64, to_z, of_z, rules, sym, ap}
+use Rattle.std.proofs.Common.{◌≡◌, ◌∙◌, List, FitsSigned, w64, to_z, of_z, rules, sym, ap}
 use Rattle.std.proofs.lemmas.Int.{to_z-of_z}
 use Rattle.sqindex.specs.Keys.{rowid_of}
 use Rattle.sqindex.specs.internal.Reading.{stored_of}

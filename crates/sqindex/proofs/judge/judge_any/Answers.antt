@@ -1,40 +1,25 @@
-use Rattle.std.proofs.Common.{ℕ, List, sym, subst}
+use Rattle.std.proofs.Common.{sym, subst}
+use Rattle.std.specs.Prelude.{IfOk, IfErr}
 use Rattle.sqval.specs.Database.{Database}
-use Rattle.sqcheck.proofs.checks.ResultsOfCalls.{exits}
-use Rattle.sqindex.specs.Rules.{HasEntries}
+use Rattle.sqindex.specs.Rules.{HasEntries, IsIndexOf}
 use Rattle.sqindex.specs.Indexes.{IndexRefused}
-use Rattle.sqindex.specs.internal.Matching.{IsMatched}
-use Rattle.sqindex.specs.internal.Streaming.{StartsIndex}
-use Rattle.sqindex.proofs.RangesMatched.{stream_refused, index_of}
+use Rattle.sqindex.specs.internal.Held.{held_by}
+use Rattle.sqindex.proofs.EntriesRead.{has_entries}
+use Rattle.sqindex.proofs.IndexesJudged.{entries_refused}
 use Rattle.sqindex.proofs.judge.judge_any.Goals as goal
 
-pub returns-in_err-start-clause-err : goal.returns-in_err-start-clause-err
-returns-in_err-start-clause-err g c = λ gives.
+pub returns-in-Ok-clause-ok : goal.returns-in-Ok-clause-ok
+returns-in-Ok-clause-ok g c = λ gives.
     let d = g.S.PageSource.pages c.args.source.now in
-    let e = c.in_err-start.field-0.0 in
-    exits (IndexRefused d c.args.table c.args.index c.args.key.now c.args.limit) e c.from_residual.result c.from_residual.ensures.1
-    (stream_refused d c.args.table c.args.index c.args.key.now c.args.limit e (c.in_err-start.ensures.err gives))
+    let k = c.in-Ok.ensures.keeps in
+    let has = has_entries d c.args.index c.in-Ok.entries (c.in-Ok.ensures.ok gives) in
+    subst (λ (d : Database). IfOk c.judge_held.result (λ n. IsIndexOf d c.args.table c.args.index c.args.key.now n)) k.same_pages
+    (c.judge_held.ensures.ok (k.still_gives gives) c.args.index (subst (λ (d : Database). HasEntries d c.args.index (held_by c.in-Ok.entries)) (sym k.same_pages) has))
 
-pub returns-in_err-match_spans-clause-err : goal.returns-in_err-match_spans-clause-err
-returns-in_err-match_spans-clause-err g c = λ gives.
+pub returns-in-Ok-clause-err : goal.returns-in-Ok-clause-err
+returns-in-Ok-clause-err g c = λ gives.
     let d = g.S.PageSource.pages c.args.source.now in
-    let e = c.in_err-match_spans.field-0.0 in
-    let k = c.in_ok-start.ensures.keeps in
-    let start = c.in_ok-start.start in
-    let s = c.in_ok-start.ensures.ok gives in
-    let s' = subst (λ (d : Database). StartsIndex d c.args.index c.args.key.now start) (sym k.same_pages) s in
-    let has = subst (λ (d : Database). HasEntries d c.args.index s.0) (sym k.same_pages) s.1 in
-    let h = c.in_err-match_spans.ensures.err (k.still_gives gives) s' s.0 has s.2 in
-    exits (IndexRefused d c.args.table c.args.index c.args.key.now c.args.limit) e c.from_residual-in_err-match_spans.result c.from_residual-in_err-match_spans.ensures.1
-    (subst (λ (n : ℕ). IndexRefused d c.args.table c.args.index c.args.key.now n e) c.in_ok-start.ensures.room (subst (λ (d : Database). IndexRefused d c.args.table c.args.index c.args.key.now start.room.longest e) k.same_pages h))
-
-pub returns-clause-ok : goal.returns-clause-ok
-returns-clause-ok g c = λ gives.
-    let d = g.S.PageSource.pages c.args.source.now in
-    let k = c.in_ok-start.ensures.keeps in
-    let start = c.in_ok-start.start in
-    let s = c.in_ok-start.ensures.ok gives in
-    let s' = subst (λ (d : Database). StartsIndex d c.args.index c.args.key.now start) (sym k.same_pages) s in
-    let has = subst (λ (d : Database). HasEntries d c.args.index s.0) (sym k.same_pages) s.1 in
-    let m = subst (λ (d : Database). IsMatched d c.args.table c.args.key.now s.0) k.same_pages (c.in_ok-match_spans.ensures.ok (k.still_gives gives) s' s.0 has s.2) in
-    index_of d c.args.table c.args.index c.args.key.now c.args.limit s.0 s.1 s.2 start.many s.3 m
+    let k = c.in-Ok.ensures.keeps in
+    let has = has_entries d c.args.index c.in-Ok.entries (c.in-Ok.ensures.ok gives) in
+    subst (λ (d : Database). IfErr c.judge_held.result (λ e. IndexRefused d c.args.table c.args.index c.args.key.now c.args.limit e)) k.same_pages
+    (c.judge_held.ensures.err (k.still_gives gives) c.args.index c.args.limit (subst (λ (d : Database). HasEntries d c.args.index (held_by c.in-Ok.entries)) (sym k.same_pages) has))

@@ -1,4 +1,5 @@
-use Rattle.std.proofs.Common.{◌∙◌, ℕ, List, sym, ap, arith}
+use Rattle.std.proofs.Common.{◌∙◌, ℕ, List, slice_get, sym, ap, arith}
+use Rattle.std.specs.declared.cmp.Ordering.TheVariants.{Equal}
 use Rattle.std.proofs.lemmas.Option.{slice_get_within, slice_get-get_or}
 use Rattle.sqlite_record.specs.Record.{decode}
 use Rattle.sqlite_value.specs.Keys.{entry_cmp}

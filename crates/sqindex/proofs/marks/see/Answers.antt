@@ -1,4 +1,4 @@
-use Rattle.std.proofs.Common.{◌≡◌, ◌∙◌, ◌++◌, ◌∷◌, [], inl, inr, Bool, false, Option, Some, None, is_some, slice_get, refl, sym, subst}
+use Rattle.std.proofs.Common.{◌≡◌, ◌∙◌, ◌++◌, ◌∷◌, [], inl, inr, Bool, true, false, Option, Some, None, is_some, slice_get, refl, sym, subst}
 use Rattle.sqindex.specs.declared.error.EntryError.{EntryError}
 use Rattle.sqindex.specs.internal.Held.{held_by}
 use Rattle.sqindex.specs.internal.Marking.{AreMarked, MarkedAs}

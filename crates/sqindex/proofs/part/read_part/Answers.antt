@@ -1,4 +1,5 @@
-use Rattle.std.proofs.Common.{ℕ, ◌≡◌, ◌++◌, ◌∷◌, [], ◌∙◌, List, Option, Some, None, refl, subst, sym}
+use Rattle.std.proofs.Common.{◌≡◌, ◌++◌, ◌∷◌, [], ◌∙◌, ℕ, List, Option, Some, None, refl, subst, sym, append-nil}
+use Rattle.std.specs.Prelude.{MatchOption}
 use Rattle.sqval.specs.Database.{Database}
 use Rattle.sqcheck.proofs.checks.ResultsOfCalls.{exits}
 use Rattle.sqrows.specs.Cursor.{IsOver}
@@ -9,7 +10,7 @@ use Rattle.sqindex.specs.internal.Held.{plain}
 use Rattle.sqindex.specs.internal.Parts.{GatherRefused, PartRefused}
 use Rattle.sqindex.specs.internal.Reading.{WalkMoves, WalkRefused, AreTaken}
 use Rattle.sqindex.specs.internal.Spans.{AreOfSpan}
-use Rattle.sqindex.proofs.CellsTaken.{none_taken, one_taken, all_taken, unread}
+use Rattle.sqindex.proofs.CellsTaken.{none_taken, one_taken, all_taken, taken_first, unread}
 use Rattle.sqindex.proofs.EntriesRead.{stored_plain}
 use Rattle.sqindex.proofs.EntriesInSpans.{none_gathered, gathered_not}
 use Rattle.sqindex.proofs.part.read_part.Goals as goal
@@ -26,8 +27,7 @@ turns-init g c =
       sized = e.size.0;
       limited = e.size.1;
       over = λ gives. (e.ok gives).0;
-      goes = (refl, λ was. was);
-      seen = λ gives. ([], none_taken d c.args.index c.in-Ok.walk.cells (e.ok gives).1, none_gathered c.args.key.now c.args.part.span c.args.part.entries c.requires);
+      seen = λ gives. ([], none_taken d c.args.index c.in-Ok.walk.cells (e.ok gives).1, none_gathered c.args.key.now c.args.span c.new-entries.result c.new-entries.ensures);
     }
 
 pub returns-in-Ok-None-clause-ok : goal.returns-in-Ok-None-clause-ok
@@ -38,7 +38,7 @@ returns-in-Ok-None-clause-ok g c = λ gives xs has.
     let moves = subst (λ (f : Option Found). WalkMoves (g.S.PageSource.pages c.turns.source) c.turns.walk.cells f c.advance.new.self) c.in-Ok-None.field-0-is (c.in-Ok-None.ensures.ok (i.kept.still_gives gives) over) in
     let seen = i.seen gives in
     let all = all_taken d c.args.index c.turns.walk.cells c.advance.new.self seen.0 seen.1 (subst (λ (d : Database). WalkMoves d c.turns.walk.cells None c.advance.new.self) i.kept.same_pages moves) in
-    subst (AreOfSpan c.args.key.now c.turns.part.span c.turns.part.entries) (sym (all.only xs has.stored)) seen.2
+    (seen.0, [], all.only xs has.stored ∙ sym (append-nil seen.0), seen.2, λ whole. refl)
 
 pub returns-in-Err-advance-clause-err : goal.returns-in-Err-advance-clause-err
 returns-in-Err-advance-clause-err g c = λ gives.
@@ -52,8 +52,8 @@ returns-in-Err-advance-clause-err g c = λ gives.
     subst (ReadRefused d c.args.index limit (NoEntries d c.args.index)) (sym c.of_cell.ensures)
     (unread d c.args.index c.turns.walk.cells limit seen.0 c.in-Err-advance.refusal (NoEntries d c.args.index) (λ none entries has. none entries has.stored) seen.1 here (c.in-Err-advance.ensures.read (i.kept.still_gives gives)))
 
-pub returns-in_err-gather-clause-err : goal.returns-in_err-gather-clause-err
-returns-in_err-gather-clause-err g c = λ gives.
+pub returns-in_err-rest-clause-err : goal.returns-in_err-rest-clause-err
+returns-in_err-rest-clause-err g c = λ gives.
     let d = g.S.PageSource.pages c.args.source.now in
     let key = c.args.key.now in
     let limit = c.args.room.longest in
@@ -65,20 +65,33 @@ returns-in_err-gather-clause-err g c = λ gives.
     let seen = i.seen gives in
     let one = one_taken d c.args.index c.turns.walk.cells walk found seen.0 seen.1 (subst (λ (d : Database). WalkMoves d c.turns.walk.cells (Some found) walk) i.kept.same_pages moves) in
     let same : c.deref.result.now ≡ walk.payload.items = c.deref.ensures.value in
-    let e = c.in_err-gather.field-0.0 in
+    let e = c.in_err-rest.field-0.0 in
     exits (PartRefused d c.args.index key limit) e c.from_residual.result c.from_residual.ensures.1
-    (gathered_not d c.args.index key limit walk.cells seen.0 found walk.payload.items c.turns.part e one seen.2 (subst (λ (b : List ℕ). GatherRefused key c.turns.part found b e) same c.in_err-gather.ensures.err))
+    (gathered_not d c.args.index key limit walk.cells seen.0 found walk.payload.items e one (subst (λ (b : List ℕ). GatherRefused key found b e) same c.in_err-rest.ensures.err))
+
+pub returns-in_default-clause-ok : goal.returns-in_default-clause-ok
+returns-in_default-clause-ok g c = λ gives xs has.
+    let d = g.S.PageSource.pages c.args.source.now in
+    let key = c.args.key.now in
+    let span = c.args.span in
+    let new = c.gather.new.entries in
+    let seen = c.turns.invariant.seen gives in
+    let gathers = c.in_ok-rest.ensures.ok in
+    let first = taken_first d c.args.index c.turns.walk.cells seen.0 xs seen.1 has.stored in
+    let w = subst (λ (r : Option ℕ). MatchOption r (AreOfSpan key span new seen.0) (λ _. AreOfSpan key span new (seen.0 ++ plain c.in-Ok-Some.found c.deref.result.now ∷ []))) c.in_default.is (gathers.1 seen.0 seen.2) in
+    (seen.0, first.1, first.3, w, λ whole. absurd (cc))
 
 pub turns-preserved : goal.turns-preserved
 turns-preserved g c =
     let d = g.S.PageSource.pages c.args.source.now in
     let key = c.args.key.now in
+    let span = c.args.span in
     let i = c.turns.invariant in
     let e = c.in-Ok-Some.ensures in
     let found = c.in-Ok-Some.found in
     let walk = c.advance.new.self in
-    let new = c.gather.new.part in
-    let gathers = c.in_ok-gather.ensures.ok in
+    let new = c.gather.new.entries in
+    let gathers = c.in_ok-rest.ensures.ok in
     record {
       kept = record {
         still_right = λ right. e.keeps.still_right (i.kept.still_right right);
@@ -89,15 +102,15 @@ turns-preserved g c =
       sized = e.size.0 ∙ i.sized;
       limited = e.size.2 ∙ i.limited;
       over = λ gives. e.size.1 ∙ i.over gives;
-      goes = (gathers.1.0 ∙ i.goes.0, λ was. gathers.1.1 (i.goes.1 was));
       seen = λ gives.
           let over = subst (λ (d : Database). IsOver d c.turns.walk.cells) (sym i.kept.same_pages) (i.over gives) in
           let moves = subst (λ (f : Option Found). WalkMoves (g.S.PageSource.pages c.turns.source) c.turns.walk.cells f walk) c.in-Ok-Some.field-0-is (e.ok (i.kept.still_gives gives) over) in
           let seen = i.seen gives in
           let one = one_taken d c.args.index c.turns.walk.cells walk found seen.0 seen.1 (subst (λ (d : Database). WalkMoves d c.turns.walk.cells (Some found) walk) i.kept.same_pages moves) in
-          let same : c.deref.result.now ≡ walk.payload.items = c.deref.ensures.value in (
+          let same : c.deref.result.now ≡ walk.payload.items = c.deref.ensures.value in
+          let w = subst (λ (r : Option ℕ). MatchOption r (AreOfSpan key span new seen.0) (λ _. AreOfSpan key span new (seen.0 ++ plain found c.deref.result.now ∷ []))) c.in-Some.is (gathers.1 seen.0 seen.2) in (
             seen.0 ++ plain found walk.payload.items ∷ [],
             subst (λ (z : Stored). AreTaken d c.args.index walk.cells (seen.0 ++ z ∷ [])) (stored_plain found walk.payload.items gathers.0) one,
-            subst (λ (b : List ℕ). AreOfSpan key new.span new.entries (seen.0 ++ plain found b ∷ [])) same (gathers.2 seen.0 seen.2),
+            subst (λ (b : List ℕ). AreOfSpan key span new (seen.0 ++ plain found b ∷ [])) same w,
           );
     }

@@ -1,4 +1,4 @@
-use Rattle.std.proofs.Common.{◌≡◌, ◌≢◌, ◌++◌, ◌∷◌, [], ◌∙◌, ◌+◌, ℕ, ℤ, List, Option, Some, None, Bool, cond, is_some, true, false, refl, subst, sym, ap, arith, length, length-append}
+use Rattle.std.proofs.Common.{◌≡◌, ◌≢◌, ◌++◌, ◌∷◌, [], ◌∙◌, ◌+◌, ℕ, ℤ, List, Option, Some, None, cond, is_some, true, false, refl, subst, sym, ap, arith, length, length-append}
 use Rattle.std.specs.Prelude.{Result, Ok, Err, IfOk, IfErr}
 use Rattle.sqval.specs.Database.{Database}
 use Rattle.sqkeys.specs.declared.key.IndexKey.{IndexKey}
@@ -7,21 +7,16 @@ use Rattle.sqrows.specs.declared.cells.Cells.{Cells}
 use Rattle.sqindex.specs.declared.error.EntryError.{EntryError}
 use Rattle.sqindex.specs.declared.error.IndexError.{IndexError}
 use Rattle.sqindex.specs.declared.error.IndexError.TheVariants as errors
-use Rattle.sqindex.specs.declared.part.Part.{Part}
-use Rattle.sqindex.specs.declared.room.Room.{Room}
-use Rattle.sqindex.specs.declared.stream.Start.{Start}
+use Rattle.sqindex.specs.declared.stream.Count.{Count}
 use Rattle.sqindex.specs.declared.walk.Found.{Found}
 use Rattle.sqindex.specs.Stored.{Stored}
 use Rattle.sqindex.specs.Rules.{HasEntries}
 use Rattle.sqindex.specs.Indexes.{ReadRefused, NoEntries}
 use Rattle.sqindex.specs.internal.Reading.{stored_of, WalkMoves, WalkRefused}
 use Rattle.sqindex.specs.internal.KeyedScanning.{IsBefore, ArePlain}
-use Rattle.sqindex.specs.internal.Held.{plain}
-use Rattle.sqindex.specs.internal.Spans.{passed}
-use Rattle.sqindex.specs.internal.Streaming.{IsStream, StreamEnds, IsStartOf, StartsIndex, StreamRefused}
+use Rattle.sqindex.specs.internal.Streaming.{IsStream, StreamEnds, HasSoundEntries, StreamRefused}
 use Rattle.sqindex.proofs.CellsTaken.{none_taken, one_taken, unread}
-use Rattle.sqindex.proofs.EntriesRead.{stored_plain, other_kind}
-use Rattle.sqindex.proofs.EntriesInSpans.{none_gathered}
+use Rattle.sqindex.proofs.EntriesRead.{other_kind}
 use Rattle.sqindex.proofs.EntriesStreamed.{none_streamed}
 use Rattle.sqindex.proofs.Places.{get_here}
 use Rattle.sqindex.proofs.KeyedScanned.{none_plain, one_plain, all_plain}
@@ -36,20 +31,15 @@ some_of None e is = cc
 some_of (Some r) e is = cc
 
 -- what is told behind the last entry
-ended_ok : (d : Database) (index : ℕ) (key : IndexKey) (xs : List Stored) (fault : Option EntryError) (old : Start) (many : ℕ) (result : Result Start IndexError) → HasEntries d index xs → IsStream key xs fault → length xs ≡ many
-    → IsStartOf key old.part old.held xs → StreamEnds fault old many result → IfOk result (StartsIndex d index key)
-ended_ok d index key xs fault old many (Ok start) has w long s h =
-    (xs, has, subst (IsStream key xs) h.0 w, long ∙ sym h.1, subst (λ (b : Bool). IsStartOf key start.part b xs) (sym h.3) (subst (λ (p : Part). IsStartOf key p old.held xs) (sym h.2) s))
-ended_ok d index key xs fault old many (Err e) has w long s h = tt
+ended_ok : (d : Database) (index : ℕ) (key : IndexKey) (xs : List Stored) (fault : Option EntryError) (many : ℕ) (result : Result Count IndexError) → HasEntries d index xs → IsStream key xs fault → length xs ≡ many
+    → StreamEnds fault many result → IfOk result (λ count. HasSoundEntries d index key count.many)
+ended_ok d index key xs fault many (Ok count) has w long h = (xs, has, subst (IsStream key xs) h.0 w, long ∙ sym h.1)
+ended_ok d index key xs fault many (Err e) has w long h = tt
 
-ended_room : (limit : ℕ) (fault : Option EntryError) (old : Start) (many : ℕ) (result : Result Start IndexError) → old.room.longest ≡ limit → StreamEnds fault old many result → IfOk result (λ start. start.room.longest ≡ limit)
-ended_room limit fault old many (Ok start) is h = h.4 ∙ is
-ended_room limit fault old many (Err e) is h = tt
-
-ended_err : (d : Database) (index : ℕ) (key : IndexKey) (limit : ℕ) (xs : List Stored) (fault : Option EntryError) (old : Start) (many : ℕ) (result : Result Start IndexError) → HasEntries d index xs → IsStream key xs fault
-    → StreamEnds fault old many result → IfErr result (StreamRefused d index key limit)
-ended_err d index key limit xs fault old many (Ok count) has w h = tt
-ended_err d index key limit xs fault old many (Err e) has w h = subst (StreamRefused d index key limit) (sym h.2) (xs, has, subst (IsStream key xs) h.1 w)
+ended_err : (d : Database) (index : ℕ) (key : IndexKey) (limit : ℕ) (xs : List Stored) (fault : Option EntryError) (many : ℕ) (result : Result Count IndexError) → HasEntries d index xs → IsStream key xs fault
+    → StreamEnds fault many result → IfErr result (StreamRefused d index key limit)
+ended_err d index key limit xs fault many (Ok count) has w h = tt
+ended_err d index key limit xs fault many (Err e) has w h = subst (StreamRefused d index key limit) (sym h.2) (xs, has, subst (IsStream key xs) h.1 w)
 
 pub returns-in-Err-clause-err : goal.returns-in-Err-clause-err
 returns-in-Err-clause-err g c = λ gives. let e = c.in-Err.ensures.err gives in (e.0, λ other rows has. e.1 other has.stored.0 has.stored.1)
@@ -62,19 +52,8 @@ turns-init g c =
       kept = e.keeps;
       sized = e.size.0;
       limited = e.size.1;
-      roomy = c.of-room.ensures;
       over = λ gives. (e.ok gives).0;
-      seen = λ gives. (
-        [],
-        none_plain d c.args.index c.in-Ok.walk.cells (none_taken d c.args.index c.in-Ok.walk.cells (e.ok gives).1),
-        none_streamed c.args.key.now,
-        refl,
-        refl,
-        λ held. (
-          (c.all-span.ensures.0, λ b is. ap (λ (a : Option ℤ). passed a b) c.all-span.ensures.0),
-          none_gathered c.args.key.now c.all-span.result c.new-entries.result c.new-entries.ensures,
-        ),
-      );
+      seen = λ gives. ([], none_plain d c.args.index c.in-Ok.walk.cells (none_taken d c.args.index c.in-Ok.walk.cells (e.ok gives).1), none_streamed c.args.key.now, refl, refl);
     }
 
 pub returns-in-Ok-None-clause-ok : goal.returns-in-Ok-None-clause-ok
@@ -85,10 +64,7 @@ returns-in-Ok-None-clause-ok g c = λ gives.
     let moves = subst (λ (f : Option Found). WalkMoves (g.S.PageSource.pages c.turns.source) c.turns.walk.cells f c.advance.new.self) c.in-Ok-None.field-0-is (c.in-Ok-None.ensures.ok (i.kept.still_gives gives) over) in
     let seen = i.seen gives in
     let has = all_plain d c.args.index c.turns.walk.cells c.advance.new.self seen.0 seen.1 (subst (λ (d : Database). WalkMoves d c.turns.walk.cells None c.advance.new.self) i.kept.same_pages moves) in
-    ended_ok d c.args.index c.args.key.now seen.0 c.turns.fault c.turns.start c.turns.i c.end.result has seen.2 seen.4 seen.5 c.end.ensures
-
-pub returns-in-Ok-None-clause-room : goal.returns-in-Ok-None-clause-room
-returns-in-Ok-None-clause-room g c = ended_room c.args.limit c.turns.fault c.turns.start c.turns.i c.end.result c.turns.invariant.roomy c.end.ensures
+    ended_ok d c.args.index c.args.key.now seen.0 c.turns.fault c.turns.i c.end.result has seen.2 seen.4 c.end.ensures
 
 pub returns-in-Ok-None-clause-err : goal.returns-in-Ok-None-clause-err
 returns-in-Ok-None-clause-err g c = λ gives.
@@ -98,7 +74,7 @@ returns-in-Ok-None-clause-err g c = λ gives.
     let moves = subst (λ (f : Option Found). WalkMoves (g.S.PageSource.pages c.turns.source) c.turns.walk.cells f c.advance.new.self) c.in-Ok-None.field-0-is (c.in-Ok-None.ensures.ok (i.kept.still_gives gives) over) in
     let seen = i.seen gives in
     let has = all_plain d c.args.index c.turns.walk.cells c.advance.new.self seen.0 seen.1 (subst (λ (d : Database). WalkMoves d c.turns.walk.cells None c.advance.new.self) i.kept.same_pages moves) in
-    ended_err d c.args.index c.args.key.now c.args.limit seen.0 c.turns.fault c.turns.start c.turns.i c.end.result has seen.2 c.end.ensures
+    ended_err d c.args.index c.args.key.now c.args.limit seen.0 c.turns.fault c.turns.i c.end.result has seen.2 c.end.ensures
 
 pub returns-in-Err-advance-clause-err : goal.returns-in-Err-advance-clause-err
 returns-in-Err-advance-clause-err g c = λ gives.
@@ -140,7 +116,6 @@ turns-preserved g c =
       };
       sized = ap (λ (z : Cells). z.size) k.same.0 ∙ e.size.0 ∙ i.sized;
       limited = k.same.1 ∙ e.size.2 ∙ i.limited;
-      roomy = ap (λ (r : Room). r.longest) c.gather_first.ensures.room ∙ i.roomy;
       over = λ gives. ap (λ (z : Cells). z.usable) k.same.0 ∙ e.size.1 ∙ i.over gives;
       seen = λ gives.
           let over = subst (λ (d : Database). IsOver d c.turns.walk.cells) (sym i.kept.same_pages) (i.over gives) in
@@ -151,9 +126,6 @@ turns-preserved g c =
           let more = one_plain d c.args.index c.turns.walk.cells walk found xs seen.1 (subst (λ (d : Database). WalkMoves d c.turns.walk.cells (Some found) walk) i.kept.same_pages moves) (none_of found.rowid (sym c.is_some.ensures ∙ c.if-is_some.false)) in
           let held : c.deref.result.now ≡ c.turns.before.items = c.deref.ensures.value in
           let same : c.deref-in-turns.result.now ≡ walk.payload.items = c.deref-in-turns.ensures.value in
-          let same' : c.deref-in-turns-2.result.now ≡ walk.payload.items = c.deref-in-turns-2.ensures.value in
-          let plain' : stored_of found walk.payload.items ≡ plain found walk.payload.items = stored_plain found walk.payload.items (none_of found.rowid (sym c.is_some.ensures ∙ c.if-is_some.false)) in
-          let starts = subst (λ (b : List ℕ). IsStartOf c.args.key.now c.gather_first.new.start.part c.gather_first.new.start.held (xs ++ plain found b ∷ [])) same' (c.gather_first.ensures.starts xs seen.5) in
           let before = subst (IsBefore xs) (sym (c.held.ensures ∙ ap (λ (b : List ℕ). cond c.turns.some (Some b) None) held)) seen.3 in
           let streamed = c.see-fault.ensures xs before seen.2 in
           let long = seen.4 in
@@ -163,6 +135,5 @@ turns-preserved g c =
             subst (λ (b : List ℕ). IsStream c.args.key.now (xs ++ stored_of found b ∷ []) c.see-fault.result) same streamed,
             (length xs, x, grow, get_here xs x [], sym k.held),
             omega (arith, grow, long),
-            subst (λ (z : Stored). IsStartOf c.args.key.now c.gather_first.new.start.part c.gather_first.new.start.held (xs ++ z ∷ [])) (sym plain') starts,
           );
     }

@@ -3,7 +3,7 @@ use Rattle.sqpage.specs.Source.{KeepsPages}
 use Rattle.sqrows.specs.Cursor.{IsOver}
 use Rattle.sqindex.specs.Stored.{Stored}
 use Rattle.sqindex.specs.internal.KeyedScanning.{IsBefore, ArePlain}
-use Rattle.sqindex.specs.internal.Streaming.{IsStream, IsStartOf}
+use Rattle.sqindex.specs.internal.Streaming.{IsStream}
 use Rattle.sqindex.proofs.stream.order_index.Given as goal
 
 abbrev pub invariant-turns : goal.invariant-turns
@@ -11,9 +11,7 @@ invariant-turns g l = record {
   kept : KeepsPages g.S.PageSource.pages g.S.PageSource.size g.S.PageSource.reads_right g.S.PageSource.gives_pages l.fn.source l.source;
   sized : l.walk.cells.size ≡ g.S.PageSource.size l.fn.source;
   limited : l.walk.limit ≡ l.limit;
-  roomy : l.start.room.longest ≡ l.limit;
   over : g.S.PageSource.gives_pages l.fn.source → IsOver (g.S.PageSource.pages l.fn.source) l.walk.cells;
   seen : g.S.PageSource.gives_pages l.fn.source
-      → (xs : List Stored) × ArePlain (g.S.PageSource.pages l.fn.source) l.index l.walk.cells xs × IsStream l.key xs l.fault × IsBefore xs (cond l.some (Some l.before.items) None) × (length xs ≡ l.i)
-      × IsStartOf l.key l.start.part l.start.held xs;
+      → (xs : List Stored) × ArePlain (g.S.PageSource.pages l.fn.source) l.index l.walk.cells xs × IsStream l.key xs l.fault × IsBefore xs (cond l.some (Some l.before.items) None) × (length xs ≡ l.i);
 }

@@ -4,7 +4,7 @@ use Rattle.sqheld.specs.Todo.{texts}
 use Rattle.sqheld.specs.declared.todo.Todo.{Todo}
 use Rattle.sqopen.specs.Files.{opened_bytes}
 use Rattle.sqrescue.specs.Locking.{refusal_of}
-use Rattle.cli_job.specs.Opened.{GivesBytes}
+use Rattle.sqrescue.specs.Opened.{GivesBytes}
 use Rattle.sqrescue.specs.Runs.{DoesTodo, Ends}
 use Rattle.sqrescue.specs.declared.program.Under.TheVariants as under
 use Rattle.sqrescue.proofs.locking.answered.Goals as goal

@@ -1,6 +1,6 @@
 use Rattle.std.proofs.Common.{inl, inr, refl, subst}
 use Rattle.std.specs.Prelude.{Bool}
-use Rattle.cli_job.specs.Sources.{IsSourceOf}
+use Rattle.sqrescue.specs.Reads.{IsSourceOf}
 use Rattle.sqrescue.proofs.program.read_once.Goals as goal
 
 pub returns-in-Undated : goal.returns-in-Undated

@@ -1,4 +1,4 @@
-use Rattle.std.proofs.Common.{◌≡◌, ℕ, sym, subst, add-one, arith}
+use Rattle.std.proofs.Common.{◌≡◌, ◌∙◌, ℕ, sym, subst, add-one, arith}
 use Rattle.sqval.specs.Database.{Database}
 use Rattle.sqpage.specs.Page.{cell_count}
 use Rattle.sqsalvage.specs.TreePages.{page_of}

@@ -1,4 +1,4 @@
-use Rattle.std.proofs.Common.{◌∙◌, Option, refl, sym, subst}
+use Rattle.std.proofs.Common.{◌≡◌, ◌∙◌, Option, Some, None, refl, sym, subst}
 use Rattle.sqval.specs.Database.{Database}
 use Rattle.sqpage.specs.Page.{cell_count}
 use Rattle.sqsalvage.specs.declared.page.TreePage.{TreePage}

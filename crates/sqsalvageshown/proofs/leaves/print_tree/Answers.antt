@@ -14,7 +14,7 @@ returns-clause-ok g c = λ gives over.
     let begun = c.in-Ok.ensures.ok d over in
     both_ok c.print_begun.result
     (λ w e. tree_told d c.args.target.now c.args.root old.marks.items c.begin.new.self c.print_begun.new.salvage c.args.book.now c.print_begun.new.book (g.W.Write.contents c.args.out.now) (g.W.Write.contents c.print_begun.new.out)
-    c.in-Ok.ensures.same.3 c.in-Ok.ensures.only begun.1 (c.in-Ok.ensures.comes d over) w e)
+    begun.1 (c.in-Ok.ensures.comes d over) w e)
     (c.print_begun.ensures.ok gives begun.0) c.print_begun.ensures.ended
 
 pub returns-clause-over : goal.returns-clause-over

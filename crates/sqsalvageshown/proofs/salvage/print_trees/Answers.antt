@@ -1,4 +1,4 @@
-use Rattle.std.proofs.Common.{true, sym, subst}
+use Rattle.std.proofs.Common.{List, ℕ, true, sym, subst}
 use Rattle.std.proofs.lemmas.Result.{on_ok_weaker}
 use Rattle.sqval.specs.Database.{Database}
 use Rattle.sqsalvage.specs.SalvageCursor.{IsOver}

@@ -1,4 +1,4 @@
-use Rattle.std.proofs.Common.{None, true, refl}
+use Rattle.std.proofs.Common.{None, refl}
 use Rattle.std.proofs.lemmas.Result.{on_ok_weaker}
 use Rattle.sqsalvageshown.specs.declared.book.Going.TheVariants.{Lost}
 use Rattle.sqsalvageshown.proofs.salvage.print_unreached.Goals as goal
@@ -6,7 +6,7 @@ use Rattle.sqsalvageshown.proofs.salvage.print_unreached.Goals as goal
 pub returns-in-Ok-clause-ok : goal.returns-in-Ok-clause-ok
 returns-in-Ok-clause-ok g c = λ gives over.
     on_ok_weaker c.print_text.result (λ ended. record {
-      target = record { lost = c.args.turn.lost; root = None; table = true; going = Lost; places = c.args.turn.places };
+      target = record { lost = c.args.turn.lost; root = None; going = Lost; places = c.args.turn.places };
       lost_is = refl;
       placed = refl;
       unrooted = refl;

@@ -28,7 +28,6 @@ returns-clause-ok g c = λ gives over.
       lost_is = c.target_of-target.ensures.lost.0;
       placed = c.target_of-target.ensures.lost.1;
       root_is = c.target_of-target.ensures.root;
-      kind_is = c.target_of-target.ensures.table;
       goes = subst (λ (leads : Bool). IsGoing columns text leads target.going) leads insert;
       begun = c.empty.new.self;
       emptied = c.empty.ensures;

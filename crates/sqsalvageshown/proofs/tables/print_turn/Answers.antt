@@ -1,4 +1,4 @@
-use Rattle.std.proofs.Common.{◌∙◌, refl, sym, subst}
+use Rattle.std.proofs.Common.{◌≡◌, ◌∙◌, refl, sym, subst}
 use Rattle.sqval.specs.Database.{Database}
 use Rattle.sqtables.specs.declared.list.Object.{Object}
 use Rattle.sqsalvage.specs.SalvageCursor.{IsOver}

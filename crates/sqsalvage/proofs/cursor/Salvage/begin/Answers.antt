@@ -1,34 +1,29 @@
-use Rattle.std.proofs.Common.{◌≡◌, ◌∙◌, ◌↔◌, ◌⊎◌, ◌∷◌, [], ◌++◌, ℕ, List, ap, inl, inr, subst, sym}
-use Rattle.sqsalvage.specs.declared.cursor.Piece.{Piece}
-use Rattle.sqsalvage.specs.declared.cursor.Piece.TheVariants.{Whole}
-use Rattle.sqsalvage.specs.Reached.{IsReachedFrom}
-use Rattle.sqsalvage.specs.SalvageCursor.{ArePending, IsMarked, IsToCome}
-use Rattle.sqsalvage.proofs.StepsOfWalk.{begun_forth, begun_back, begun_pending}
+use Rattle.std.proofs.Common.{◌≡◌, ◌∙◌, ℕ, List, subst}
+use Rattle.sqsalvage.specs.internal.Taking.{Names}
+use Rattle.sqsalvage.proofs.MarkedPages.{on_ok}
+use Rattle.sqsalvage.proofs.StepsOfWalk.{begun, begun_pending, come_reached, reached_come}
 use Rattle.sqsalvage.proofs.cursor.Salvage.begin.Goals as goal
 
-pub returns-in-Ok-clause-ok : goal.returns-in-Ok-clause-ok
-returns-in-Ok-clause-ok c = λ d over.
+pub returns-clause-ok : goal.returns-clause-ok
+returns-clause-ok c = λ d over.
     let marks = c.args.self.now.marks.items in
-    let root : ℕ = c.args.root in
-    let table = c.args.table in
-    let pending = c.push.new.self.items in
-    let only : pending ≡ Whole root ∷ [] = c.in-Ok.ensures.items ∙ ap (λ (l : List Piece). l ++ Whole root ∷ []) c.requires.ended in (
-      (over.0, subst (λ (l : List Piece). ArePending d marks l) (sym only) (begun_pending d marks root over.1.sized)),
-      λ p. subst (λ (l : List Piece). (IsMarked marks p ⊎ IsToCome d table marks l p) ↔ (IsMarked marks p ⊎ IsReachedFrom d table (IsMarked marks) root p)) (sym only) (
-        λ h. elim h [ inl m ↦ inl m | inr k ↦ inr (begun_forth d table marks root k) ],
-        λ h. elim h [ inl m ↦ inl m | inr k ↦ inr (begun_back d table marks root k) ],
-      ),
-    )
+    let new = c.name.new.self.marks.items in
+    let pending = c.name.new.self.pending.items in
+    on_ok _ _ c.name.result
+    (λ (n : Names d (λ q. q ≡ c.args.root) marks new c.args.self.now.pending.items pending).
+    let named = subst (λ (l : List ℕ). Names d (λ q. q ≡ c.args.root) marks new l pending) c.requires.ended n in (
+      (c.name.ensures.same.1 ∙ over.0, begun_pending d marks new pending c.args.root over.1.sized named),
+      λ p. begun d marks new pending c.args.root named p,
+    ))
+    (c.name.ensures.ok d over.1.sized)
 
-pub returns-in-Ok-clause-comes : goal.returns-in-Ok-clause-comes
-returns-in-Ok-clause-comes c = λ d over.
+pub returns-clause-comes : goal.returns-clause-comes
+returns-clause-comes c = λ d over.
     let marks = c.args.self.now.marks.items in
-    let root : ℕ = c.args.root in
-    let table = c.args.table in
-    let pending = c.push.new.self.items in
-    let only : pending ≡ Whole root ∷ [] = c.in-Ok.ensures.items ∙ ap (λ (l : List Piece). l ++ Whole root ∷ []) c.requires.ended in
-    λ p. subst (λ (l : List Piece). IsToCome d table marks l p ↔ IsReachedFrom d table (IsMarked marks) root p) (sym only)
-    (λ k. begun_forth d table marks root k, λ k. begun_back d table marks root k)
-
-pub returns-in-Ok-clause-only : goal.returns-in-Ok-clause-only
-returns-in-Ok-clause-only c = c.in-Ok.ensures.items ∙ ap (λ (l : List Piece). l ++ Whole c.args.root ∷ []) c.requires.ended
+    let new = c.name.new.self.marks.items in
+    let pending = c.name.new.self.pending.items in
+    on_ok _ _ c.name.result
+    (λ (n : Names d (λ q. q ≡ c.args.root) marks new c.args.self.now.pending.items pending).
+    let named = subst (λ (l : List ℕ). Names d (λ q. q ≡ c.args.root) marks new l pending) c.requires.ended n in
+    λ p. (λ h. come_reached d marks new pending c.args.root named h, λ h. reached_come d marks new pending c.args.root named h))
+    (c.name.ensures.ok d over.1.sized)

@@ -1,2 +1,0 @@
-pub mod FaultsFound
-pub mod OpenedLooks

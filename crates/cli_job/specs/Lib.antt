@@ -1,6 +1,0 @@
-pub mod Answers
-pub mod Commands
-pub mod Faults
-pub mod Opened
-pub mod Sources
-pub mod internal

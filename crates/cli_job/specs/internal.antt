@@ -1,3 +1,0 @@
--- What no public clause reaches.
-pub mod Jobs
-pub mod Watches

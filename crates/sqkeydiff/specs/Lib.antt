@@ -1,3 +1,0 @@
-pub mod KeyChanges
-pub mod KeyCursor
-pub mod internal

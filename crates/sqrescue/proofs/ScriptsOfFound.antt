@@ -1,0 +1,53 @@
+-- What a salvage comes to, by the script that was written.
+use Rattle.std.proofs.Common.{◌≡◌, ◌⊎◌, inl, inr, ⊎_elim, ℕ, List, Option, refl, sym, subst, true≢false}
+use Rattle.std.specs.Prelude.{Bool, false, Result, Ok, Err, IfOk, IsErr, IsOk}
+use Rattle.sqfacts.specs.declared.outcome.Refusal.{Refusal}
+use Rattle.sqrowshown.specs.declared.stop.Stop.{Stop}
+use Rattle.sqview.specs.internal.Laid.{HoldsPart}
+use Rattle.sqopen.specs.declared.opened_file.OpenedFile.{OpenedFile}
+use Rattle.sqshown.specs.Contents.{AreGiven}
+use Rattle.sqshown.specs.declared.contents.Contents.{Contents}
+use Rattle.sqfacts.specs.declared.outcome.Refusal.TheVariants.{NoMemory}
+use Rattle.sqshown.specs.declared.error.ShowError.{ShowError}
+use Rattle.sqshown.specs.declared.error.ShowError.TheVariants as errors
+use Rattle.sqdump.specs.Salvages.{IsSalvageShown}
+use Rattle.sqdump.specs.declared.salvage.Salvaged.{Salvaged}
+use Rattle.sqrescue.specs.Answers.{IsUntold, Tells, answer_of_script}
+use Rattle.sqrescue.specs.Comes.{SalvagesTo, Scripts}
+use Rattle.sqrescue.specs.Opened.{AreFresh, AreOpenedFor, Counted, all_opened, opened_of}
+use Rattle.sqrescue.specs.declared.answers.Answer.{Answer}
+use Rattle.sqrescue.specs.declared.sources.Source.{Source}
+use Rattle.sqrescue.proofs.OpenedLooks.{fresh_gives}
+
+-- a script of counted files is one of those that were opened
+pub scripts_of : {F M : Type 0} (bytes : OpenedFile F → List ℕ) (gives : OpenedFile F → Type 0) (source : Source) (places : Bool) (files : Contents (Counted F M))
+    (found : Result Salvaged Refusal) (before after : Option (List ℕ)) → AreOpenedFor false source (all_opened files) → AreFresh files
+    → (AreGiven (λ (file : Counted F M). gives (opened_of file) × HoldsPart (bytes (opened_of file)) file.file.from file.file.held file.file.piece.items) files
+    → IfOk found (λ salvaged. IsSalvageShown source.options.at places (bytes (opened_of files.db)) (bytes (opened_of files.wal)) (bytes (opened_of files.journal)) before after salvaged.ended))
+    → IfOk found (λ salvaged. Scripts bytes gives source places salvaged.ended)
+scripts_of bytes gives source places files (Ok salvaged) before after opened fresh shown = inl (record {
+  files = all_opened files;
+  opened = opened;
+  scripts = λ given. (before, after, shown (fresh_gives bytes gives files fresh given));
+})
+scripts_of bytes gives source places files (Err refusal) before after opened fresh shown = tt
+
+-- it is, once its last bytes were written, too
+pub scripts_whole : {F : Type 0} (bytes : OpenedFile F → List ℕ) (gives : OpenedFile F → Type 0) (source : Source) (places : Bool) (found written : Result Salvaged Refusal)
+    → IfOk found (λ salvaged. Scripts bytes gives source places salvaged.ended)
+    → IfOk written (λ whole. (found ≡ Ok whole) ⊎ IsErr (answer_of_script whole.ended))
+    → IfOk written (λ whole. Scripts bytes gives source places whole.ended)
+scripts_whole bytes gives source places found (Ok whole) scripts is =
+    ⊎_elim (λ e. subst (λ (r : Result Salvaged Refusal). IfOk r (λ salvaged. Scripts bytes gives source places salvaged.ended)) e scripts) inr is
+scripts_whole bytes gives source places found (Err refusal) scripts is = tt
+
+-- what is answered was told
+told : (answer : Answer) {A : Type 0} → IsUntold (Ok answer) → A
+told answer = ⊎_elim (λ (e : Ok answer ≡ Err errors.Unwritten). absurd (true≢false (sym (subst (λ (r : Result Answer ShowError). IsOk r) e refl))))
+    (λ (e : Ok answer ≡ Err (errors.Refused NoMemory)). absurd (true≢false (sym (subst (λ (r : Result Answer ShowError). IsOk r) e refl))))
+
+-- what is told of a script is what comes of how it ended
+pub salvages_by : {F : Type 0} (bytes : OpenedFile F → List ℕ) (gives : OpenedFile F → Type 0) (source : Source) (places : Bool) (ended : Result Bool Stop) (answer : Result Answer ShowError)
+    → Scripts bytes gives source places ended → Tells (answer_of_script ended) answer → SalvagesTo bytes gives source places answer
+salvages_by bytes gives source places ended (Ok answer) scripts tells = (ended, scripts, ⊎_elim sym (told answer) tells)
+salvages_by bytes gives source places ended (Err error) scripts tells = tt

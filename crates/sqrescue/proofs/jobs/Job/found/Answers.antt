@@ -1,0 +1,12 @@
+use Rattle.std.proofs.Common.{inl}
+use Rattle.sqopen.specs.Files.{opened_bytes}
+use Rattle.sqrescue.specs.Opened.{GivesBytes}
+use Rattle.sqrescue.proofs.OpenedLooks.{look_of}
+use Rattle.sqrescue.proofs.jobs.Job.found.Goals as goal
+
+pub returns-in-Ok : goal.returns-in-Ok
+returns-in-Ok g c =
+    let bytes = opened_bytes g.R.File.SystemFile.bytes in
+    let gives = GivesBytes g.R.File.SystemFile.bytes g.R.File.SystemFile.keeps_word g.R.File.SystemFile.never_fails in
+    inl (look_of bytes gives c.args.self.now.source.now c.args.command.now c.wants.result.only_logs c.in-Ok.files c.find.result
+    (g.W.Write.contents c.args.out.now) (g.W.Write.contents c.find.new.out) c.wants.ensures c.in-Ok.ensures.opened c.in-Ok.ensures.fresh c.find.ensures)

@@ -1,0 +1,35 @@
+use Rattle.std.proofs.Common.{◌≡◌, ◌≢◌, ◌⊎◌, ℕ, Option, Some, false, inl, inr, ⊎_elim, sym, subst}
+use Rattle.std.specs.Fs.{metadata_len}
+use Rattle.sqwords.specs.declared.requests.SuperJournal.{SuperJournal}
+use Rattle.sqwords.specs.declared.requests.SuperJournal.TheVariants.{Gone}
+use Rattle.sqopen.specs.Files.{AreRegular, IsMissing, IsOpenedAt, IsOpenedOf}
+use Rattle.sqopen.specs.declared.logs.Beheld.{Beheld}
+use Rattle.sqopen.specs.declared.opened_file.OpenedFile.{OpenedFile}
+use Rattle.sqopen.specs.declared.paths.Paths.{Paths}
+use Rattle.sqshown.specs.declared.contents.Contents.{Contents}
+use Rattle.sqrescue.specs.Opened.{AreLogsOf, AreOpened}
+use Rattle.sqrescue.proofs.opening.open_seen.Goals as goal
+
+-- the files that were opened, of which at 0 the logs are left out
+opened_all : {F : Type 0} (paths : Paths) (said : Option SuperJournal) (at : Option ℕ) (found : Beheld) (db wal journal : OpenedFile F) (files : Contents (OpenedFile F))
+    → AreRegular found → IsOpenedAt db paths.db (metadata_len found.db) → IsOpenedOf wal paths.wal 1 found.wal
+    → (((said ≡ Some Gone) × IsMissing journal) ⊎ IsOpenedOf journal paths.journal 28 found.journal) → files.db ≡ db
+    → (at ≡ Some 0 → IsMissing files.wal × IsMissing files.journal) → (at ≢ Some 0 → files ≡ record { db = db; wal = wal; journal = journal })
+    → AreOpened false paths said at files
+opened_all {F} paths said at found db wal journal files regular opened by_wal by_journal same alone logs = record {
+  found = found;
+  regular = regular;
+  wanted = (
+    subst (λ (d : OpenedFile F). IsOpenedAt d paths.db (metadata_len found.db)) (sym same) opened,
+    alone,
+    λ other. subst (λ (f : Contents (OpenedFile F)). AreLogsOf paths said found f.wal f.journal) (sym (logs other)) (by_wal, by_journal),
+  );
+}
+
+pub returns-clause-refused : goal.returns-clause-refused
+returns-clause-refused g c =
+    let opened : AreOpened false c.args.paths.now c.args.super_journal c.args.at c.as_asked-files.result =
+    opened_all c.args.paths.now c.args.super_journal c.args.at c.in_ok-found.field-0.found c.in-Ok.db c.in_ok-found.field-0.wal c.in_ok-found.field-0.journal
+    c.as_asked-files.result c.in_ok-found.ensures.regular c.in-Ok.ensures.opened c.in_ok-found.ensures.wal c.in_ok-found.ensures.journal
+    c.as_asked-files.ensures.db c.as_asked-files.ensures.alone c.as_asked-files.ensures.logs in
+    ⊎_elim inl (λ u. inr (c.as_asked-files.result, opened, u)) c.in-Err-tell_by_log.ensures

@@ -1,0 +1,92 @@
+-- What each command finds of the files of a database.
+use Rattle.std.specs.Prelude.{◌≡◌, ℕ, Bool, true, false, List, Option, Result, Ok, Err, IfErr, IsSome, IsTrue, OnOk}
+use Rattle.std.specs.Io.KnownBytes.{Appends}
+use Rattle.sqfacts.specs.declared.outcome.Refusal.{Refusal}
+use Rattle.sqwords.specs.declared.requests.Options.{Options}
+use Rattle.sqwords.specs.declared.requests.Part.{Part}
+use Rattle.sqwords.specs.declared.requests.Part.TheVariants as parts
+use Rattle.sqshown.specs.Behind.{IsWholeLogText}
+use Rattle.sqshown.specs.Contents.{AreGiven, contents_of}
+use Rattle.sqshown.specs.Errors.{IfRefused}
+use Rattle.sqshown.specs.Found.{fault_in, IsFoundOf, IsUnfound}
+use Rattle.sqshown.specs.Limits.{limits_named}
+use Rattle.sqshown.specs.Logs.{IsUnreadLog}
+use Rattle.sqshown.specs.LogsShown.{IsCommitsText, IsLogText}
+use Rattle.sqshown.specs.Shown.{IsHeaderText, IsHeaderUnshown, IsPageUnshown, ShowsPage}
+use Rattle.sqshown.specs.Views.{IsNotFound, IsUnasked}
+use Rattle.sqshown.specs.declared.contents.Contents.{Contents}
+use Rattle.sqshown.specs.declared.views.Asked.{Asked}
+use Rattle.sqdump.specs.Rows.{AreRowsShown}
+use Rattle.sqdump.specs.declared.rows.Wanted.{Wanted}
+use Rattle.sqdeepshown.specs.Found.{IsFoundAs}
+use Rattle.sqdeepjudge.specs.Verdicts.{is_damaged}
+use Rattle.sqrescue.specs.declared.commands.Command.{Command}
+use Rattle.sqrescue.specs.declared.commands.Command.TheVariants.{Check, Pages, Show, Rows}
+use Rattle.sqrescue.specs.declared.commands.Finding.{Finding}
+use Rattle.sqrescue.specs.declared.commands.Finding.TheVariants.{Checked, Surveyed, Shown, Printed}
+
+-- Of files that give their bytes: what a check finds, or a deep one, or why it finds nothing.
+abbrev pub ChecksFiles : {F : Type 0} → (bytes : F → List ℕ) → (gives : F → Type 0) → Asked → (deep : Bool) → Contents F → Result (Finding F) Refusal → Type 0
+ChecksFiles bytes gives asked deep files (Ok (Checked found)) = AreGiven gives files
+    → IsFoundAs deep asked.maps.pointer_maps asked.limits asked.at (bytes files.db) (bytes files.wal) (bytes files.journal) found.verdict
+ChecksFiles bytes gives asked deep files (Ok _) = ⊥
+ChecksFiles bytes gives asked deep files (Err refusal) = AreGiven gives files
+    → IsNotFound asked.maps.pointer_maps asked.limits asked.at (bytes files.db) (bytes files.wal) (bytes files.journal) refusal
+
+-- what a survey of their pages finds, or why it finds nothing
+abbrev pub SurveysFiles : {F : Type 0} → (bytes : F → List ℕ) → (gives : F → Type 0) → Asked → Contents F → Result (Finding F) Refusal → Type 0
+SurveysFiles bytes gives asked files (Ok (Surveyed found)) = AreGiven gives files
+    → IsFoundOf asked.maps.pointer_maps asked.limits bytes asked.at (contents_of bytes files) found
+SurveysFiles bytes gives asked files (Ok _) = ⊥
+SurveysFiles bytes gives asked files (Err refusal) = AreGiven gives files
+    → IsUnfound asked.maps.pointer_maps asked.limits asked.at (contents_of bytes files) refusal
+
+-- what is printed of a part
+abbrev pub IsPartShown : Part → Options → (files : Contents (List ℕ)) → (before after : Option (List ℕ)) → Type 0
+IsPartShown parts.Header options files before after = (text : List ℕ) × IsHeaderText options files.db files.wal files.journal text × Appends before after text
+IsPartShown (parts.Page number) options files before after = ShowsPage options number files.db files.wal files.journal
+IsPartShown (parts.Log true) options files before after = (text : List ℕ) × IsWholeLogText options files text × Appends before after text
+IsPartShown (parts.Log false) options files before after = (text : List ℕ) × IsLogText options files.wal files.journal text × Appends before after text
+IsPartShown parts.Commits options files before after = (text : List ℕ) × IsCommitsText options files.wal files.journal text × Appends before after text
+IsPartShown parts.Pages options files before after = before ≡ after
+
+-- why a part isn't shown
+abbrev pub IsPartUnshown : Part → Options → (files : Contents (List ℕ)) → Refusal → Type 0
+IsPartUnshown parts.Header options files refusal = IsHeaderUnshown options files.db files.wal files.journal refusal
+IsPartUnshown (parts.Page number) options files refusal = IsPageUnshown options number files.db files.wal files.journal refusal
+IsPartUnshown (parts.Log all) options files refusal = IsUnreadLog (limits_named options.large) files.wal files.journal refusal
+IsPartUnshown parts.Commits options files refusal = IsUnreadLog (limits_named options.large) files.wal files.journal refusal
+IsPartUnshown parts.Pages options files refusal = ⊥
+
+-- what is shown of them, or why not all of it is
+abbrev pub ShowsPart : {F : Type 0} → (bytes : F → List ℕ) → (gives : F → Type 0) → Part → Options → Contents F → Result (Finding F) Refusal
+    → (before after : Option (List ℕ)) → Type 0
+ShowsPart bytes gives part options files (Ok (Shown shown)) before after =
+    (AreGiven gives files → OnOk shown (IsPartShown part options (contents_of bytes files) before after))
+    × (AreGiven gives files → IfErr shown (IfRefused (IsPartUnshown part options (contents_of bytes files))))
+ShowsPart bytes gives part options files (Ok _) before after = ⊥
+ShowsPart bytes gives part options files (Err refusal) before after = ⊥
+
+-- which rows are printed of them, or why none are
+abbrev pub PrintsRows : {F : Type 0} → (bytes : F → List ℕ) → (gives : F → Type 0) → Wanted → Options → Contents F → Result (Finding F) Refusal
+    → (before after : Option (List ℕ)) → Type 0
+PrintsRows bytes gives wanted options files (Ok (Printed printed)) before after = AreGiven gives files
+    → AreRowsShown options wanted (bytes files.db) (bytes files.wal) (bytes files.journal) before after printed.ended
+PrintsRows bytes gives wanted options files (Ok _) before after = ⊥
+PrintsRows bytes gives wanted options files (Err refusal) before after = AreGiven gives files
+    → IsUnasked options (bytes files.db) (bytes files.wal) (bytes files.journal) refusal
+
+-- What a command finds of files, and prints meanwhile; a check and a survey print nothing.
+abbrev pub Finds : {F : Type 0} → (bytes : F → List ℕ) → (gives : F → Type 0) → Command → Options → Contents F → Result (Finding F) Refusal
+    → (before after : Option (List ℕ)) → Type 0
+Finds bytes gives (Check asked deep) options files answer before after = ChecksFiles bytes gives asked deep files answer × (after ≡ before)
+Finds bytes gives (Pages asked) options files answer before after = SurveysFiles bytes gives asked files answer × (after ≡ before)
+Finds bytes gives (Show part) options files answer before after = ShowsPart bytes gives part options files answer before after
+Finds bytes gives (Rows wanted) options files answer before after = PrintsRows bytes gives wanted options files answer before after
+
+-- damage that a further look may find to be none
+abbrev pub IsDamage : {F : Type 0} → Finding F → Type 0
+IsDamage (Checked found) = IsTrue (is_damaged found.verdict)
+IsDamage (Surveyed found) = IsSome (fault_in found)
+IsDamage (Shown shown) = ⊥
+IsDamage (Printed printed) = ⊥

@@ -1,0 +1,108 @@
+-- Which files of a database are opened, and what a command comes to of them (own).
+use Rattle.std.specs.Prelude.{◌≡◌, ◌≢◌, ◌⊎◌, ℕ, Bool, true, false, List, Option, Some, Result, IsErrAnd}
+use Rattle.std.specs.Fs.{metadata_len}
+use Rattle.sqwords.specs.declared.requests.Part.TheVariants.{Log, Commits}
+use Rattle.sqwords.specs.declared.requests.SuperJournal.{SuperJournal}
+use Rattle.sqwords.specs.declared.requests.SuperJournal.TheVariants.{Gone}
+use Rattle.sqfacts.specs.Refusals.{refusal_of}
+use Rattle.sqfacts.specs.declared.outcome.Refusal.{Refusal}
+use Rattle.sqfacts.specs.declared.outcome.Refusal.TheVariants.{TwoLogs}
+use Rattle.sqview.specs.Logs.{AreTwoLogs}
+use Rattle.sqview.specs.declared.read_ahead.ReadAhead.{ReadAhead}
+use Rattle.sqview.specs.declared.view_error.ViewError.{ViewError}
+use Rattle.sqopen.specs.Files.{AreRegular, IsMissing, IsOpenedAt, IsOpenedOf, IsSteady, NeverFails}
+use Rattle.sqopen.specs.Refusals.{IsFromSystem, IsFromWatch}
+use Rattle.sqopen.specs.declared.logs.Beheld.{Beheld}
+use Rattle.sqopen.specs.declared.opened_file.OpenedFile.{OpenedFile}
+use Rattle.sqopen.specs.declared.paths.Paths.{Paths}
+use Rattle.sqshown.specs.declared.contents.Contents.{Contents}
+use Rattle.sqrescue.specs.Commands.{Finds}
+use Rattle.sqrescue.specs.declared.commands.Command.{Command}
+use Rattle.sqrescue.specs.declared.commands.Command.TheVariants.{Show}
+use Rattle.sqrescue.specs.declared.commands.Finding.{Finding}
+use Rattle.sqrescue.specs.declared.metered.Metered.{Metered}
+use Rattle.sqrescue.specs.declared.sources.Source.{Source}
+
+-- Where the system found logs beside a database file, they were opened: a write-ahead log that isn't empty and a journal of
+-- 28 bytes at least, which is left out where its super-journal is said to be gone.
+abbrev pub AreLogsOf : {F : Type 0} → Paths → Option SuperJournal → Beheld → (wal journal : OpenedFile F) → Type 0
+AreLogsOf paths said found wal journal = IsOpenedOf wal paths.wal 1 found.wal
+    × (((said ≡ Some Gone) × IsMissing journal) ⊎ IsOpenedOf journal paths.journal 28 found.journal)
+
+-- The database file and its logs were; at 0 none of the logs.
+abbrev pub AreAllOpened : {F : Type 0} → Paths → Option SuperJournal → (at : Option ℕ) → Beheld → Contents (OpenedFile F) → Type 0
+AreAllOpened paths said at found files = IsOpenedAt files.db paths.db (metadata_len found.db)
+    × (at ≡ Some 0 → IsMissing files.wal × IsMissing files.journal)
+    × (at ≢ Some 0 → AreLogsOf paths said found files.wal files.journal)
+
+-- They were; or where the logs alone are wanted these were.
+abbrev pub AreWanted : {F : Type 0} → (only_logs : Bool) → Paths → Option SuperJournal → (at : Option ℕ) → Beheld → Contents (OpenedFile F) → Type 0
+AreWanted true paths said at found files = IsMissing files.db × AreLogsOf paths said found files.wal files.journal
+AreWanted false paths said at found files = AreAllOpened paths said at found files
+
+-- The files that the system found at these paths, which are regular ones.
+pub record AreOpened {F : Type 0} (only_logs : Bool) (paths : Paths) (said : Option SuperJournal) (at : Option ℕ) (files : Contents (OpenedFile F)) : Type 0 where
+  pub found : Beheld
+  pub regular : AreRegular found
+  pub wanted : AreWanted only_logs paths said at found files
+
+-- the file gives its bytes: it keeps its word and its length, and no read of it fails
+abbrev pub GivesBytes : {F : Type 0} → (bytes : F → List ℕ) → (keeps_word never_fails : F → Type 0) → OpenedFile F → Type 0
+GivesBytes bytes keeps_word never_fails file = IsSteady bytes keeps_word file × NeverFails never_fails file
+
+-- It isn't said which log counts: two do, if the files give their bytes.
+abbrev pub IsUnchosen : {F : Type 0} → (bytes : OpenedFile F → List ℕ) → (gives : OpenedFile F → Type 0) → Contents (OpenedFile F) → Refusal → Type 0
+IsUnchosen bytes gives files refusal = ((error : ViewError) × (refusal ≡ refusal_of error))
+    × (gives files.wal → gives files.journal → (refusal ≡ TwoLogs) × AreTwoLogs (bytes files.wal) (bytes files.journal))
+
+-- Why no files are opened: an error of the system, or one of those that were which counts.
+abbrev pub IsUnopened : {F : Type 0} → (bytes : OpenedFile F → List ℕ) → (gives : OpenedFile F → Type 0) → Paths → Option SuperJournal → (at : Option ℕ) → Refusal → Type 0
+IsUnopened {F} bytes gives paths said at refusal = IsFromSystem refusal
+    ⊎ ((files : Contents (OpenedFile F)) × AreOpened false paths said at files × IsUnchosen bytes gives files refusal)
+
+-- an opened file that is read ahead, and of which it may be counted how much is read
+abbrev pub Counted : (F M : Type 0) → Type 0
+Counted F M = Metered (ReadAhead (OpenedFile F)) M
+
+-- that file
+abbrev pub opened_of : {F M : Type 0} → Counted F M → OpenedFile F
+opened_of counted = counted.file.file
+
+abbrev pub all_opened : {F M : Type 0} → Contents (Counted F M) → Contents (OpenedFile F)
+all_opened files = record { db = opened_of files.db; wal = opened_of files.wal; journal = opened_of files.journal }
+
+-- nothing was read ahead of any of them
+abbrev pub AreFresh : {F M : Type 0} → Contents (Counted F M) → Type 0
+AreFresh files = (files.db.file.held ≡ 0) × (files.wal.file.held ≡ 0) × (files.journal.file.held ≡ 0)
+
+-- the files of a source as they are opened for it
+abbrev pub AreOpenedFor : {F : Type 0} → (only_logs : Bool) → Source → Contents (OpenedFile F) → Type 0
+AreOpenedFor only_logs source files = AreOpened only_logs source.paths source.options.super_journal source.options.at files
+
+-- why they aren't
+abbrev pub IsUnopenedFor : {F : Type 0} → (bytes : OpenedFile F → List ℕ) → (gives : OpenedFile F → Type 0) → Source → Refusal → Type 0
+IsUnopenedFor bytes gives source refusal = IsUnopened bytes gives source.paths source.options.super_journal source.options.at refusal
+
+-- a command that reads the logs alone
+abbrev pub reads_logs : Command → Bool
+reads_logs (Show (Log false)) = true
+reads_logs (Show Commits) = true
+reads_logs _ = false
+
+-- What a command finds of files of the source that were opened so, and prints meanwhile.
+pub record FindsOpened {F M : Type 0} (bytes : OpenedFile F → List ℕ) (gives : OpenedFile F → Type 0) (source : Source) (command : Command)
+    (answer : Result (Finding (Counted F M)) Refusal) (before after : Option (List ℕ)) : Type 0 where
+  pub files : Contents (Counted F M)
+  pub opened : AreOpenedFor (reads_logs command) source (all_opened files)
+  pub finds : Finds (λ file. bytes (opened_of file)) (λ file. gives (opened_of file)) command source.options files answer before after
+
+-- One look at the files: that; or what refuses to open them, of which nothing is printed.
+abbrev pub Looks : {F M : Type 0} → (bytes : OpenedFile F → List ℕ) → (gives : OpenedFile F → Type 0) → Source → Command → Result (Finding (Counted F M)) Refusal
+    → (before after : Option (List ℕ)) → Type 0
+Looks bytes gives source command answer before after = FindsOpened bytes gives source command answer before after
+    ⊎ (IsErrAnd answer (IsUnopenedFor bytes gives source) × (after ≡ before))
+
+-- A command that is settled: what one look comes to; or that the files, which are watched, changed, or an error of the system.
+abbrev pub Settles : {F M : Type 0} → (bytes : OpenedFile F → List ℕ) → (gives : OpenedFile F → Type 0) → Source → Command → Result (Finding (Counted F M)) Refusal
+    → (before after : Option (List ℕ)) → Type 0
+Settles bytes gives source command answer before after = Looks bytes gives source command answer before after ⊎ IsErrAnd answer IsFromWatch

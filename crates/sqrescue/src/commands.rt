@@ -1,0 +1,209 @@
+//! The commands that read the files of a database, and what they find of opened files.
+ghost use Rattle.std.specs.Prelude.{◌≡◌, ◌↔◌, IfErr, IsTrue, OnOk};
+ghost use Rattle.sqshown.specs.Contents.{AreGiven, contents_of};
+ghost use Rattle.sqshown.specs.Errors.{IfRefused};
+ghost use Rattle.sqrescue.specs.Commands.{ChecksFiles, Finds, IsDamage, IsPartShown, IsPartUnshown, PrintsRows};
+ghost use Rattle.sqrescue.specs.Commands.{SurveysFiles};
+ghost use Rattle.sqrescue.specs.Opened.{reads_logs};
+
+use sqdeepshown::{DeepFinding, judged_as};
+use sqdump::{Printed, Wanted, show_rows};
+use sqfacts::{Front, Refusal};
+use sqshown::{
+    Asked, Contents, Found, ShowError, show_commits, show_header, show_log, show_page,
+    show_whole_log, survey_files,
+};
+use sqview::FileBytes;
+use sqwords::{Options, Part};
+use std::alloc::Global;
+use std::io::Write;
+
+/// How many bytes of a database file are read at once, where its pages are read one behind the other.
+pub(crate) const PIECE: usize = 32_768;
+
+/// A command that reads the files of a database.
+#[derive(Clone, Copy, Debug)]
+pub(crate) enum Command<'a> {
+    /// A check; deep: also of what the pages hold.
+    Check { asked: Asked, deep: bool },
+    /// What each page is used for.
+    Pages(Asked),
+    /// Another part.
+    Show(Part),
+    Rows(Wanted<'a>),
+}
+
+/// How files are read for a command.
+#[derive(Clone, Copy, Debug, PartialEq, Eq)]
+pub(crate) struct Wants {
+    /// The logs alone: the database file isn't opened.
+    pub(crate) only_logs: bool,
+    /// How many bytes of the database file are read at once, where its pages are read one behind the other.
+    pub(crate) ahead: usize,
+    /// Whether it is counted how much of the database file is read.
+    pub(crate) is_counted: bool,
+}
+
+impl Wants {
+    /// All pages of the database, whose reading is counted.
+    pub(crate) const PAGES: Wants = Wants {
+        only_logs: false,
+        ahead: PIECE,
+        is_counted: true,
+    };
+
+    /// The same, whose reading isn't counted.
+    pub(crate) const UNCOUNTED: Wants = Wants {
+        is_counted: false,
+        ..Wants::PAGES
+    };
+}
+
+/// What a command finds of files.
+#[derive(Drop)]
+pub(crate) enum Finding<F> {
+    Checked(DeepFinding),
+    Surveyed(Found<F>),
+    /// The front of the log from which a part was shown, if a frame of one counts, or why not all of it was.
+    Shown(Result<Option<Front>, ShowError>),
+    Printed(Printed),
+}
+
+impl Command<'_> {
+    pub(crate) fn wants(&self) -> Wants
+        ensures { result.only_logs ≡ reads_logs self.entry.now }
+    {
+        match self {
+            Command::Check { .. } | Command::Pages(_) => Wants::PAGES,
+            Command::Show(part) => Wants {
+                only_logs: matches!(*part, Part::Log { all: false } | Part::Commits),
+                ahead: 0,
+                is_counted: false,
+            },
+            Command::Rows(_) => Wants::UNCOUNTED,
+        }
+    }
+
+    /// Whether it prints while it reads. Its lines are kept back as far as may be until it is known whether the files
+    /// changed meanwhile.
+    pub(crate) fn prints_meanwhile(&self) -> bool {
+        matches!(self, Command::Show(_) | Command::Rows(_))
+    }
+}
+
+impl<F: FileBytes> Finding<F> {
+    /// The front of the log at which it was found, if a frame counts.
+    pub(crate) fn front(&self) -> Option<Front> {
+        match self {
+            Finding::Checked(found) => found.front,
+            Finding::Surveyed(found) => found.front(),
+            Finding::Shown(Ok(front)) => *front,
+            Finding::Shown(Err(_)) => None,
+            Finding::Printed(printed) => printed.front,
+        }
+    }
+
+    /// Whether it is damage that a further look may find to be none.
+    pub(crate) fn is_damaged(&self) -> bool
+        ensures { IsTrue result ↔ IsDamage self.now }
+    {
+        match self {
+            Finding::Checked(found) => found.verdict.is_damaged(),
+            Finding::Surveyed(found) => found.is_damaged(),
+            Finding::Shown(_) | Finding::Printed(_) => false,
+        }
+    }
+}
+
+/// What a command finds of opened files. What it prints meanwhile goes to a writer.
+pub(crate) fn find<F: FileBytes + Drop, W: Write>(
+    alloc: Global,
+    command: &Command<'_>,
+    options: Options,
+    files: Contents<F>,
+    out: &mut W,
+) -> Result<Finding<F>, Refusal>
+    ensures { Finds F.bytes F.gives_bytes command.entry.now options files result (W.contents out.old)
+        (W.contents out.new) }
+{
+    match command {
+        Command::Check { asked, deep } => checked(alloc, *asked, *deep, files),
+        Command::Pages(asked) => surveyed(alloc, *asked, files),
+        Command::Show(part) => Ok(Finding::Shown(shown(alloc, *part, options, files, out))),
+        Command::Rows(wanted) => printed(alloc, *wanted, options, files, out),
+    }
+}
+
+/// What a check finds.
+fn checked<F: FileBytes + Drop>(
+    alloc: Global,
+    asked: Asked,
+    deep: bool,
+    files: Contents<F>,
+) -> Result<Finding<F>, Refusal>
+    ensures { ChecksFiles F.bytes F.gives_bytes asked deep files result }
+{
+    let Contents { db, wal, journal } = files;
+    match judged_as(alloc, asked, deep, db, wal, journal) {
+        Ok(found) => Ok(Finding::Checked(found)),
+        Err(refusal) => Err(refusal),
+    }
+}
+
+/// What a survey finds.
+fn surveyed<F: FileBytes + Drop>(
+    alloc: Global,
+    asked: Asked,
+    files: Contents<F>,
+) -> Result<Finding<F>, Refusal>
+    ensures { SurveysFiles F.bytes F.gives_bytes asked files result }
+{
+    match survey_files(alloc, asked, files) {
+        Ok(found) => Ok(Finding::Surveyed(found)),
+        Err(refusal) => Err(refusal),
+    }
+}
+
+/// Shows a part.
+fn shown<F: FileBytes + Drop, W: Write>(
+    alloc: Global,
+    part: Part,
+    options: Options,
+    files: Contents<F>,
+    out: &mut W,
+) -> Result<Option<Front>, ShowError>
+    ensures shown { AreGiven F.gives_bytes files
+        → OnOk result (IsPartShown part options (contents_of F.bytes files) (W.contents out.old) (W.contents out.new)) }
+    ensures refused { AreGiven F.gives_bytes files
+        → IfErr result (IfRefused (IsPartUnshown part options (contents_of F.bytes files))) }
+{
+    let mut files = files;
+    match part {
+        Part::Header => show_header(alloc, files, options, out),
+        Part::Page(number) => show_page(alloc, files, number, options, out),
+        Part::Log { all: true } => show_whole_log(alloc, &mut files, options, out),
+        Part::Log { all: false } => {
+            show_log(alloc, &mut files.wal, &mut files.journal, options, out)
+        }
+        Part::Commits => show_commits(alloc, &mut files.wal, &mut files.journal, options, out),
+        // Asked for by `Command::Pages`.
+        Part::Pages => Ok(None),
+    }
+}
+
+/// Prints rows.
+fn printed<F: FileBytes + Drop, W: Write>(
+    alloc: Global,
+    wanted: Wanted<'_>,
+    options: Options,
+    files: Contents<F>,
+    out: &mut W,
+) -> Result<Finding<F>, Refusal>
+    ensures { PrintsRows F.bytes F.gives_bytes wanted.entry options files result (W.contents out.old)
+        (W.contents out.new) }
+{
+    match show_rows(alloc, files, options, wanted, out) {
+        Ok(printed) => Ok(Finding::Printed(printed)),
+        Err(refusal) => Err(refusal),
+    }
+}

@@ -1,0 +1,133 @@
+//! A file of which it is counted how much is read.
+ghost use Rattle.std.specs.Prelude.{◌≡◌};
+
+use sqopen::Count;
+use sqpage::SourceError;
+use sqshown::Contents;
+use sqview::{FileBytes, ReadAhead};
+use std::alloc::{AllocError, Global};
+
+/// A file's bytes. Who counts, if one does, is told how many were asked for by each read that was answered.
+pub(crate) struct Metered<'a, F, M> {
+    file: F,
+    meter: Option<&'a M>,
+}
+
+impl<F: Drop, M> Drop for Metered<'_, F, M> {
+    fn drop(self) {
+        let Metered { file, meter: _ } = self;
+        drop(file);
+    }
+}
+
+impl<'a, F, M> Metered<'a, F, M> {
+    pub(crate) fn new(file: F, meter: Option<&'a M>) -> Metered<'a, F, M>
+        ensures { result.file ≡ file }
+    {
+        Metered { file, meter }
+    }
+
+    /// The file, of which nothing is counted any more.
+    pub(crate) fn into_file(self) -> F
+        ensures { result ≡ self.entry.file }
+    {
+        let Metered { file, meter: _ } = self;
+        file
+    }
+}
+
+impl<'a, F: FileBytes + Drop, M> Metered<'a, F, M> {
+    /// The same file, of which up to so many bytes are read at once. What is asked for is counted.
+    pub(crate) fn ahead(
+        self,
+        alloc: Global,
+        most: usize,
+    ) -> Result<Metered<'a, ReadAhead<F>, M>, AllocError> {
+        let Metered { file, meter } = self;
+        let file = ReadAhead::new(alloc, file, most)?;
+        Ok(Metered { file, meter })
+    }
+}
+
+impl<F: FileBytes, M: Count> FileBytes for Metered<'_, F, M> {
+    ghost bytes = { λ metered. F.bytes metered.file };
+
+    ghost reads_right = { λ metered. F.reads_right metered.file };
+
+    ghost gives_bytes = { λ metered. F.gives_bytes metered.file };
+
+    ghost right = { λ metered gives. F.right metered.file gives };
+
+    fn len(&self) -> u64 {
+        self.file.len()
+    }
+
+    fn read_at(&mut self, at: u64, out: &mut [u8]) -> Result<(), SourceError> {
+        self.file.read_at(at, out)?;
+        if let Some(meter) = self.meter {
+            meter.count(out.len() as u64);
+        }
+        Ok(())
+    }
+}
+
+/// A database file and its logs, of which it is counted what is read of any.
+pub(crate) fn all_metered<'a, F, M>(
+    files: Contents<F>,
+    meter: &'a M,
+) -> Contents<Metered<'a, F, M>> {
+    let Contents { db, wal, journal } = files;
+    Contents {
+        db: Metered::new(db, Some(meter)),
+        wal: Metered::new(wal, Some(meter)),
+        journal: Metered::new(journal, Some(meter)),
+    }
+}
+
+/// A database file, of which it is counted what is read from now on, if somebody counts, and its logs.
+pub(crate) fn db_metered<'a, F: FileBytes, M: Count>(
+    files: Contents<F>,
+    meter: Option<&'a M>,
+) -> Contents<Metered<'a, F, M>>
+    ensures db { result.db.file ≡ files.db }
+    ensures wal { result.wal.file ≡ files.wal }
+    ensures journal { result.journal.file ≡ files.journal }
+{
+    let Contents { db, wal, journal } = files;
+    if let Some(meter) = meter {
+        meter.begin(db.len());
+    }
+    Contents {
+        db: Metered::new(db, meter),
+        wal: Metered::new(wal, None),
+        journal: Metered::new(journal, None),
+    }
+}
+
+/// Two files of which up to so many bytes are read at once.
+pub(crate) fn both_ahead<'a, F: FileBytes + Drop, M>(
+    alloc: Global,
+    first: Metered<'a, F, M>,
+    second: Metered<'a, F, M>,
+    most: usize,
+) -> Result<(Metered<'a, ReadAhead<F>, M>, Metered<'a, ReadAhead<F>, M>), AllocError> {
+    let first = first.ahead(alloc, most)?;
+    match second.ahead(alloc, most) {
+        Ok(second) => Ok((first, second)),
+        Err(error) => Err(error),
+    }
+}
+
+/// A database file and its journal of which up to so many bytes are read at once, and the write-ahead log.
+pub(crate) fn all_ahead<'a, F: FileBytes + Drop, M>(
+    alloc: Global,
+    files: Contents<Metered<'a, F, M>>,
+    most: usize,
+) -> Result<Contents<Metered<'a, ReadAhead<F>, M>>, AllocError> {
+    let Contents { db, wal, journal } = files;
+    let (db, journal) = both_ahead(alloc, db, journal, most)?;
+    match wal.ahead(alloc, 0) {
+        Ok(wal) => Ok(Contents { db, wal, journal }),
+        Err(error) => Err(error),
+    }
+}

@@ -1,0 +1,146 @@
+//! The opened files of a database.
+ghost use Rattle.std.specs.Prelude.{◌≡◌, ◌≢◌, ◌⊎◌, IfErr, IfOk, Some, false, true};
+ghost use Rattle.sqopen.specs.Files.{IsMissing, opened_bytes};
+ghost use Rattle.sqopen.specs.Refusals.{IsFromSystem};
+ghost use Rattle.sqrescue.specs.Opened.{AreOpened, GivesBytes, IsUnchosen, IsUnopened};
+
+use sqfacts::{Notes, Refusal, SystemFile};
+use sqopen::{
+    Beheld, Beside, OpenedFile, Paths, counting_log, look_at, open_database, open_logs, tell_alone,
+    tell_length,
+};
+use sqshown::Contents;
+use sqview::LogInUse;
+use sqwords::SuperJournal;
+use std::fs::Metadata;
+use std::io::Write;
+use std::rt::Files;
+
+/// What the system says of a database file, and the opened files, of which each may be missing.
+type Seen<'a, F> = (Metadata, Contents<OpenedFile<'a, F>>);
+
+/// The files, of which at 0 the database file alone counts, whatever lies beside it.
+fn as_asked<F: Drop>(
+    files: Contents<OpenedFile<'_, F>>,
+    at: Option<u32>,
+) -> Contents<OpenedFile<'_, F>>
+    ensures db { result.db ≡ files.entry.db }
+    ensures alone { at ≡ Some 0 → IsMissing result.wal × IsMissing result.journal }
+    ensures logs { at ≢ Some 0 → result ≡ files.entry }
+{
+    if at != Some(0) {
+        return files;
+    }
+    let Contents { db, .. } = files;
+    Contents {
+        db,
+        wal: OpenedFile::missing(),
+        journal: OpenedFile::missing(),
+    }
+}
+
+/// Says where a database file that no log counts beside isn't as long as its header says.
+fn tell_by_log<F: SystemFile, E: Write>(
+    paths: &Paths,
+    files: &Contents<OpenedFile<'_, F>>,
+    notes: &mut Notes<'_, E>,
+) -> Result<(), Refusal>
+    ensures { IfErr result (λ refusal. IsFromSystem refusal ⊎ IsUnchosen (opened_bytes F.bytes)
+        (GivesBytes F.bytes F.keeps_word F.never_fails) files.entry.now refusal) }
+{
+    let (wal, mut journal) = (&files.wal, &files.journal);
+    match counting_log(&wal, &mut journal) {
+        Ok(LogInUse::Neither) => {
+            tell_alone(paths, &files.db, notes)?;
+        }
+        Ok(_) => {
+            tell_length(notes, paths.db.as_str(), &files.db);
+        }
+        Err(refusal) => return Err(refusal),
+    }
+    Ok(())
+}
+
+/// Opens a database file and its logs, of which each may be missing, and says what the system says of the file.
+pub(crate) fn open_seen<'a, R: Files, E: Write>(
+    rt: &R,
+    paths: &'a Paths,
+    super_journal: Option<SuperJournal>,
+    at: Option<u32>,
+    notes: &mut Notes<'_, E>,
+) -> Result<Seen<'a, R::File>, Refusal>
+where
+    R::File: SystemFile,
+    ensures opened { IfOk result (λ seen. AreOpened false paths.entry.now super_journal at seen.1) }
+    ensures refused { IfErr result (IsUnopened (opened_bytes R.File.bytes)
+        (GivesBytes R.File.bytes R.File.keeps_word R.File.never_fails) paths.entry.now super_journal at) }
+{
+    let Beside {
+        found: Beheld { db: found, .. },
+        wal,
+        journal,
+    } = open_logs(rt, paths, super_journal, at, notes)?;
+    let files = match open_database(rt, paths, &found, notes) {
+        Ok(db) => as_asked(Contents { db, wal, journal }, at),
+        Err(refusal) => return Err(refusal),
+    };
+    match tell_by_log(paths, &files, notes) {
+        Ok(()) => Ok((found, files)),
+        Err(refusal) => Err(refusal),
+    }
+}
+
+/// Opens a database file and its logs, of which each may be missing.
+pub(crate) fn open_all<'a, R: Files, E: Write>(
+    rt: &R,
+    paths: &'a Paths,
+    super_journal: Option<SuperJournal>,
+    at: Option<u32>,
+    notes: &mut Notes<'_, E>,
+) -> Result<Contents<OpenedFile<'a, R::File>>, Refusal>
+where
+    R::File: SystemFile,
+    ensures opened { IfOk result (AreOpened false paths.entry.now super_journal at) }
+    ensures refused { IfErr result (IsUnopened (opened_bytes R.File.bytes)
+        (GivesBytes R.File.bytes R.File.keeps_word R.File.never_fails) paths.entry.now super_journal at) }
+{
+    match open_seen(rt, paths, super_journal, at, notes) {
+        Ok((_, files)) => Ok(files),
+        Err(refusal) => Err(refusal),
+    }
+}
+
+/// Opens the logs of a database file, of which each may be missing. The file is looked at, and taken as missing.
+pub(crate) fn logs_alone<'a, R: Files, E: Write>(
+    rt: &R,
+    paths: &'a Paths,
+    super_journal: Option<SuperJournal>,
+    at: Option<u32>,
+    notes: &mut Notes<'_, E>,
+) -> Result<Contents<OpenedFile<'a, R::File>>, Refusal>
+where
+    R::File: SystemFile,
+    ensures opened { IfOk result (AreOpened true paths.entry.now super_journal at) }
+    ensures refused { IfErr result IsFromSystem }
+{
+    tell_seen(rt, paths, notes);
+    match open_logs(rt, paths, super_journal, at, notes) {
+        Ok(Beside { wal, journal, .. }) => Ok(Contents {
+            db: OpenedFile::missing(),
+            wal,
+            journal,
+        }),
+        Err(refusal) => Err(refusal),
+    }
+}
+
+/// Where it is asked for, says how long a database file is of which nothing else is read.
+fn tell_seen<R: Files, E: Write>(rt: &R, paths: &Paths, notes: &mut Notes<'_, E>) {
+    if !notes.are_asked() {
+        return;
+    }
+    if let Ok(found) = look_at(rt, paths.db.as_str()) {
+        let (path, length) = (paths.db.quoted(), found.len());
+        notes.tell(&format_args!("{path}: {length} bytes"));
+    }
+}

@@ -1,0 +1,66 @@
+//! A file that a command makes beside what it prints.
+ghost use Rattle.std.specs.Prelude.{◌≡◌, IfErr, IfOk};
+
+use crate::answers::Answer;
+use crate::jobs::Job;
+use sqfacts::{Notes, Quoted, Refusal, SystemFile};
+use sqopen::{NewFile, discard_file, end_file, folder_identity, is_log_of, remove};
+use sqshown::ShowError;
+use std::io::Write;
+use std::rt::Files;
+
+/// Refused where a path names a log of the database, which is told.
+pub(crate) fn judge_name<R: Files, M, E: Write>(
+    job: &Job<'_, R, M>,
+    to: &str,
+    notes: &Notes<'_, E>,
+) -> Result<(), Refusal> {
+    let paths = &job.source.paths;
+    let folder = folder_identity(job.rt, to);
+    let of_database = folder_identity(job.rt, paths.db.as_str());
+    if is_log_of(paths, to, folder, of_database) {
+        let to = Quoted(to);
+        notes.explain(&format_args!("{to}: a log's name"));
+        return Err(Refusal::FileFailed);
+    }
+    Ok(())
+}
+
+/// Gives a file that was written its name, or discards it.
+pub(crate) fn named<R: Files, M, E: Write>(
+    job: &Job<'_, R, M>,
+    made: NewFile<'_, R::File>,
+    written: Result<(), Refusal>,
+    notes: &mut Notes<'_, E>,
+) -> Result<(), Refusal>
+where
+    R::File: SystemFile,
+    ensures { IfErr written (λ refusal. result ≡ written) }
+{
+    match written {
+        Ok(()) => end_file(job.rt, made, notes),
+        Err(refusal) => {
+            discard_file(job.rt, made, notes);
+            Err(refusal)
+        }
+    }
+}
+
+/// What a command comes to that made a file, and printed that. The file is removed where it couldn't be printed.
+pub(crate) fn kept<R: Files, M, E: Write>(
+    job: &Job<'_, R, M>,
+    to: &str,
+    printed: Result<(), ShowError>,
+    notes: &mut Notes<'_, E>,
+) -> Result<Answer, ShowError>
+    ensures ok { IfOk result (λ answer. answer ≡ Answer.Done) }
+    ensures err { IfErr printed (λ error. IfErr result (λ told. told ≡ error)) }
+{
+    match printed {
+        Ok(()) => Ok(Answer::Done),
+        Err(error) => {
+            remove(job.rt, to, notes);
+            Err(error)
+        }
+    }
+}
