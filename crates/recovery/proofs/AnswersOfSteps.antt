@@ -1,20 +1,6 @@
 -- What the steps of a recovery answer, case by case.
-use Rattle.std.proofs.Common.{◌≡◌, inl, inr, ⊎_elim, ℕ, ◌+◌, ◌≤◌, length, replicate, refl, sym, ◌∙◌, ap, subst, arith}
-use Rattle.std.specs.Prelude.{Result, Ok, Err, IsErrAnd}
-use Rattle.std.proofs.lemmas.List.{length-replicate}
-use Rattle.sqval.specs.Database.{Database}
-use Rattle.sqval.proofs.database.AnswersOfEngine.{passed}
-use Rattle.crashdisk.specs.State.{longest}
-use Rattle.crashdisk.specs.Call.{DiskState, IsSoundDisk}
-use Rattle.crashdisk.specs.internal.Call.{InFile}
-use Rattle.crashdisk.specs.Keeps.{Still, KeepsBytes, HadRefusal, Later}
-use Rattle.crashdisk.specs.declared.file.File.TheVariants.{Log}
-use Rattle.crashdisk.specs.declared.error.DiskError.{DiskError}
-use Rattle.crashdisk.proofs.call.UnchangingCalls.{refusal_after, had_refusal, present_in}
-use Rattle.crashdisk.proofs.call.DisksAfterCalls.{later_write, told_err, sync_refused}
-use Rattle.recovery.specs.internal.Files.{ArePages}
-use Rattle.recovery.specs.Steps.{GoesOn}
-use Rattle.recovery.specs.internal.Steps.{CopyAnswer, ZeroSteps, MayRefuse}
+use Rattle.std.proofs.Common.{◌≡◌, inl, inr, ⊎_elim, ℕ, ◌+◌, ◌≤◌, length, replicate, refl, sym, ◌∙◌, ap, subst, arith, Result, Ok, Err, IsErrAnd}
+use Rattle.recovery.proofs.Below.{length-replicate, Database, passed, longest, DiskState, IsSoundDisk, InFile, Still, KeepsBytes, HadRefusal, Later, Log, DiskError, refusal_after, had_refusal, present_in, later_write, told_err, sync_refused, ArePages, CopyAnswer, GoesOn, ZeroSteps, MayRefuse}
 
 pub still_bytes : (a b : DiskState) → Still a b → KeepsBytes a b
 still_bytes a b is = record { db = is.db; log = λ bytes are. present_in a.log b.log bytes is.log are }

@@ -1,25 +1,10 @@
 -- Pages of a log are written into the file, which has the other ones.
-use Rattle.std.proofs.Common.{◌≡◌, ◌⊎◌, ⊎_elim, ℕ, ◌+◌, ◌-◌, ◌*◌, ◌/◌, ◌<◌, ◌≤◌, List, length, get_or, ◌∙◌, subst, arith}
-use Rattle.std.specs.Prelude.{Result}
-use Rattle.sqval.specs.Database.{Database, page, file_page, IsFile}
-use Rattle.sqval.specs.Held.{IsJust}
-use Rattle.sqval.proofs.page.FilePages.{size_some, page_by_bytes, file_count}
-use Rattle.crashdisk.specs.State.{IsImage, Meets}
-use Rattle.crashdisk.specs.Call.{DiskState, ArePresent, Writes, Cuts, Syncs}
-use Rattle.crashdisk.specs.Keeps.{Suits, Still}
-use Rattle.crashdisk.specs.internal.Facts.{IsSteady, Spreads, IsClear}
-use Rattle.crashdisk.specs.declared.file.File.{File}
-use Rattle.crashdisk.specs.declared.file.File.TheVariants.{Db}
-use Rattle.crashdisk.specs.declared.error.DiskError.{DiskError}
-use Rattle.crashdisk.proofs.call.EffectsOfCalls.{steady_writes, steady_cuts}
-use Rattle.crashdisk.proofs.call.UnchangingCalls.{image_still}
-use Rattle.crashdisk.proofs.page.PlacesOfPages.{page_at, page_within, sector_some, cut_clear}
-use Rattle.crashdisk.proofs.page.RunsOfPages.{run_cases, run_apart, run_clear}
-use Rattle.crashdisk.proofs.page.RecoverablePages.{suits_still, suits_syncs, suits_writes, suits_cuts}
-use Rattle.crashdisk.proofs.page.ClearPlacesOfPage.{whole_pages, page_is_clear}
-use Rattle.crashdisk.proofs.sync.BytesOfSyncedLog.{file_syncs}
-use Rattle.recovery.specs.internal.Files.{ArePages}
-use Rattle.recovery.specs.internal.Phases.{Filling}
+use Rattle.std.proofs.Common.{◌≡◌, ◌⊎◌, ⊎_elim, ℕ, ◌+◌, ◌-◌, ◌*◌, ◌/◌, ◌<◌, ◌≤◌, List, length, get_or, ◌∙◌, subst, arith, Result}
+use Rattle.recovery.proofs.Below.{Database, page, file_page, IsFile, IsJust, size_some, page_by_bytes, file_count, IsImage, Meets, DiskState, ArePresent, Writes, Cuts, Syncs, Suits, Still, IsSteady, Spreads, IsClear, File, Db, DiskError, steady_writes, steady_cuts, image_still, page_at, page_within, sector_some, cut_clear, run_cases, run_apart, run_clear, suits_still, suits_syncs, suits_writes, suits_cuts, whole_pages, page_is_clear, file_syncs, ArePages, Filling}
+
+-- fewer pages
+pub filling_wider : (size : ℕ) (d : Database) (Unnamed Other : ℕ → Type 0) (s : DiskState) → ((p : ℕ) → Other p → Unnamed p) → Filling size d Unnamed s → Filling size d Other s
+filling_wider size d Unnamed Other s fewer is = record { suits = is.suits; full = is.full; steady = λ p i a b un lt. is.steady p i a b (fewer p un) lt }
 
 module _ (size : ℕ) (d : Database) (Unnamed : ℕ → Type 0) where
   filling_by : (old new : DiskState) → Filling size d Unnamed old → Suits size new

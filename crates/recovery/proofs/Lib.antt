@@ -1,3 +1,5 @@
+pub mod DisksDuringCalls
+pub mod Below
 pub mod AnswersOfSteps
 pub mod ShownDatabase
 pub mod NarrowedImages
@@ -5,6 +7,8 @@ pub mod ToldRefusals
 pub mod OverwrittenLog
 pub mod PiecewiseScan
 pub mod FilledFile
+pub mod CopiedRuns
+pub mod EndOfRestore
 pub mod PhasesOfRestore
 pub mod ZeroedFront
 pub mod Words

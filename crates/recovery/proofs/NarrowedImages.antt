@@ -1,19 +1,6 @@
 -- A call that adds no log to those that may be read, and no file to those that may be left.
-use Rattle.std.proofs.Common.{◌≡◌, ◌⊎◌, inl, inr, ⊎_elim, ℕ, Bool, true, false, List, sym, ◌∙◌, subst, []}
-use Rattle.std.specs.Prelude.{Result, Ok, Err}
-use Rattle.sqval.specs.Database.{Database}
-use Rattle.crashdisk.specs.State.{FileState, IsImage}
-use Rattle.crashdisk.specs.Call.{DiskState, IsSoundDisk, Syncs, Looks, SinceSync, IsCrash}
-use Rattle.crashdisk.specs.Keeps.{Still, SameFiles}
-use Rattle.crashdisk.specs.declared.file.File.{File}
-use Rattle.crashdisk.specs.declared.file.File.TheVariants.{Db, Log}
-use Rattle.crashdisk.specs.declared.error.DiskError.{DiskError}
-use Rattle.crashdisk.proofs.sync.BytesOfSyncedLog.{present_image, since_db, file_syncs, log_syncs}
-use Rattle.crashdisk.proofs.byte.SettledFiles.{settled_one, settled_synced}
-use Rattle.crashdisk.proofs.call.SoundDiskUnderCalls.{sound_syncs}
-use Rattle.crashdisk.proofs.call.EffectsOfCalls.{image_sync, image_looks}
-use Rattle.crashdisk.proofs.call.UnchangingCalls.{same_files, same_sound, image_same, present_in}
-use Rattle.recovery.specs.Logs.{LogKind, MayBeLeft, MayBeRead, ShowsAlone}
+use Rattle.std.proofs.Common.{◌≡◌, ◌⊎◌, inl, inr, ⊎_elim, ℕ, Bool, true, false, List, sym, ◌∙◌, subst, [], Result, Ok, Err}
+use Rattle.recovery.proofs.Below.{Database, FileState, IsImage, DiskState, IsSoundDisk, Syncs, Looks, SinceSync, IsCrash, Still, SameFiles, File, Db, Log, DiskError, present_image, since_db, file_syncs, log_syncs, settled_one, settled_synced, sound_syncs, image_sync, image_looks, same_files, same_sound, image_same, present_in, LogKind, MayBeLeft, MayBeRead, ShowsAlone}
 use Rattle.recovery.proofs.ShownDatabase.{read_cases, shows_by}
 
 -- no log may be read, and no file is left, that might not have been before

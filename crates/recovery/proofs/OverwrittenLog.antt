@@ -1,15 +1,6 @@
 -- A write over a log of which nothing was unsynced, whatever was answered.
-use Rattle.std.proofs.Common.{◌≡◌, ⊎_elim, ℕ, ◌+◌, max, Bool, true, false, List, [], ◌∷◌, ◌++◌, length, sym, ◌∙◌, ap, subst}
-use Rattle.std.specs.Prelude.{Result, Ok, Err}
-use Rattle.crashdisk.specs.State.{FileState, IsImage, IsSound, Changed, WriteTouches, written}
-use Rattle.crashdisk.specs.Call.{DiskState, IsSoundDisk, Writes, ChangedBy, with_write}
-use Rattle.crashdisk.specs.Keeps.{IsLogDurable}
-use Rattle.crashdisk.specs.declared.file.File.TheVariants.{Log}
-use Rattle.crashdisk.specs.declared.error.DiskError.{DiskError}
-use Rattle.crashdisk.specs.declared.error.DiskError.TheVariants.{Stopped, TooLong, Failed, NoMemory}
-use Rattle.crashdisk.proofs.call.SoundDiskUnderCalls.{sound_writes}
-use Rattle.crashdisk.proofs.byte.SettledFiles.{settled_one}
-use Rattle.recovery.specs.Logs.{LogKind, MayBeRead}
+use Rattle.std.proofs.Common.{◌≡◌, ⊎_elim, ℕ, ◌+◌, max, Bool, true, false, List, [], ◌∷◌, ◌++◌, length, sym, ◌∙◌, ap, subst, Result, Ok, Err}
+use Rattle.recovery.proofs.Below.{FileState, IsImage, IsSound, Changed, WriteTouches, written, DiskState, IsSoundDisk, Writes, ChangedBy, with_write, IsLogDurable, Log, DiskError, Stopped, TooLong, Failed, NoMemory, sound_writes, settled_one, LogKind, MayBeRead}
 use Rattle.recovery.proofs.ShownDatabase.{read_cases}
 
 -- the log as the write leaves it, done or in part

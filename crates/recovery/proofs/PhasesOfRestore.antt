@@ -1,24 +1,6 @@
 -- In each step of a restore what may be left shows the database that it showed at the start.
-use Rattle.std.proofs.Common.{◌≡◌, inl, inr, ⊎_elim, ℕ, false, List, sym, subst}
-use Rattle.std.specs.Prelude.{Result, Ok, Err}
-use Rattle.sqval.specs.Database.{Database, IsFile}
-use Rattle.crashdisk.specs.State.{byte, IsImage, IsSettled}
-use Rattle.crashdisk.specs.Call.{DiskState, IsSoundDisk, ArePresent, Syncs, Elsewhere}
-use Rattle.crashdisk.specs.Keeps.{IsLogDurable, Still}
-use Rattle.crashdisk.specs.internal.Keeps.{KeepsLog, Told, SyncStep}
-use Rattle.crashdisk.specs.declared.file.File.{File}
-use Rattle.crashdisk.specs.declared.file.File.TheVariants.{Db, Log}
-use Rattle.crashdisk.specs.declared.error.DiskError.{DiskError}
-use Rattle.crashdisk.proofs.byte.SettledFiles.{settled_one, settled_image}
-use Rattle.crashdisk.proofs.image.OriginOfImages.{table}
-use Rattle.crashdisk.proofs.call.EffectsOfCalls.{image_elsewhere, present_list, settled_sync}
-use Rattle.crashdisk.proofs.call.SoundDiskUnderCalls.{sound_syncs}
-use Rattle.crashdisk.proofs.call.UnchangingCalls.{image_still, present_in}
-use Rattle.crashdisk.proofs.sync.BytesOfSyncedLog.{down_one, down_by, down_syncs, down_present, down_present_one}
-use Rattle.recovery.specs.Logs.{LogKind, MayBeRead, ShowsAlone}
-use Rattle.recovery.specs.internal.Files.{ArePages, IsFiled}
-use Rattle.recovery.specs.internal.Logs.{Repeats}
-use Rattle.recovery.specs.internal.Phases.{Unwritten, Filling, Restoring, Restored}
+use Rattle.std.proofs.Common.{◌≡◌, inl, inr, ⊎_elim, ℕ, false, List, sym, subst, Result, Ok, Err}
+use Rattle.recovery.proofs.Below.{Database, IsFile, byte, IsImage, IsSettled, DiskState, IsSoundDisk, ArePresent, Syncs, Elsewhere, IsLogDurable, Still, KeepsLog, Told, SyncStep, File, Db, Log, DiskError, settled_one, settled_image, table, image_elsewhere, present_list, settled_sync, sound_syncs, image_still, present_in, down_one, down_by, down_syncs, down_present, down_present_one, LogKind, MayBeRead, ShowsAlone, ArePages, IsFiled, Repeats, Filling, Unwritten, Restoring, Restored}
 use Rattle.recovery.proofs.NarrowedImages.{Narrows, narrows_syncs, alone_read, read_alone}
 use Rattle.recovery.proofs.FilledFile.{filling_syncs, filling_other, filled_just, filled_file}
 

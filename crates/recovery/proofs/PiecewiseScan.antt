@@ -1,18 +1,6 @@
 -- The scan of a log, one piece after another.
-use Rattle.std.proofs.Common.{◌≡◌, ℕ, ◌+◌, ◌<◌, ◌≤◌, List, ◌++◌, length, get_or, take, sym, ◌∙◌, ap, subst, arith, inl, inr}
-use Rattle.std.specs.Prelude.{Bool, true, false, Option, Some, None, Result, Ok, Err, IsErrAnd}
-use Rattle.std.proofs.lemmas.List.{take_all, get_or_past}
-use Rattle.std.proofs.lemmas.Bool.{cases_lt}
-use Rattle.sqval.specs.Bytes.{AreBytes}
-use Rattle.crashdisk.specs.State.{FileState, IsSound, byte}
-use Rattle.crashdisk.specs.Call.{DiskState, IsSoundDisk, ArePresent, Looks}
-use Rattle.crashdisk.specs.Keeps.{HadRefusal}
-use Rattle.crashdisk.specs.declared.error.DiskError.{DiskError}
-use Rattle.crashdisk.proofs.call.SoundFileUnderChanges.{byte_is_byte}
-use Rattle.crashdisk.proofs.call.UnchangingCalls.{had_refusal}
-use Rattle.crashdisk.proofs.sync.BytesOfSyncedLog.{piece_read}
-use Rattle.recovery.specs.Scanning.{ScanKind, PieceAnswer, ScanAnswer, IsSoundKind}
-use Rattle.recovery.specs.internal.Scanning.{PiecesAnswer}
+use Rattle.std.proofs.Common.{◌≡◌, ℕ, ◌+◌, ◌<◌, ◌≤◌, List, ◌++◌, length, get_or, take, sym, ◌∙◌, ap, subst, arith, inl, inr, Bool, true, false, Option, Some, None, Result, Ok, Err, IsErrAnd, take_all}
+use Rattle.recovery.proofs.Below.{get_or_past, cases_lt, AreBytes, FileState, IsSound, byte, DiskState, IsSoundDisk, ArePresent, Looks, HadRefusal, DiskError, byte_is_byte, had_refusal, piece_read, ScanKind, PieceAnswer, ScanAnswer, IsSoundKind, PiecesAnswer}
 
 -- the bytes of a log are bytes
 pub present_bytes : (sector : ℕ) (log : FileState) (w : List ℕ) → IsSound sector log → ArePresent log w → AreBytes w

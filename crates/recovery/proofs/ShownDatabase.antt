@@ -1,12 +1,6 @@
 -- What it takes that all shows one database, and that it stays shown.
 use Rattle.std.proofs.Common.{◌≡◌, ◌⊎◌, inl, inr, ℕ, Bool, true, false, List, refl, sym, subst}
-use Rattle.sqval.specs.Database.{Database}
-use Rattle.crashdisk.specs.State.{IsImage}
-use Rattle.crashdisk.specs.Call.{DiskState, IsSoundDisk, IsCrash}
-use Rattle.crashdisk.proofs.sync.BytesOfSyncedLog.{present_image}
-use Rattle.crashdisk.proofs.call.SoundDiskUnderCalls.{sound_crash}
-use Rattle.crashdisk.proofs.byte.SettledFiles.{settled_one}
-use Rattle.recovery.specs.Logs.{LogKind, MayBeLeft, MayBeRead, ShowsAlone}
+use Rattle.recovery.proofs.Below.{Database, IsImage, DiskState, IsSoundDisk, IsCrash, present_image, sound_crash, settled_one, LogKind, MayBeLeft, MayBeRead, ShowsAlone}
 
 module _ (kind : LogKind) where
   -- Where each log that may be left, or has listed values alone, has a property that makes it show the database, all shows it.

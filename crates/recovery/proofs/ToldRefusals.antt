@@ -1,13 +1,6 @@
 -- A refused call of the disk is told: by one call, and by calls after others that weren't refused.
-use Rattle.std.proofs.Common.{◌≡◌, ⊎_elim, ℕ, ◌<◌, ◌≤◌, refl, ◌∙◌, ap, subst, arith}
-use Rattle.std.specs.Prelude.{Result, Ok, Err, IsErrAnd}
-use Rattle.sqval.proofs.database.AnswersOfEngine.{passed}
-use Rattle.crashdisk.specs.Call.{DiskState, counted}
-use Rattle.crashdisk.specs.Keeps.{TellsRefusal}
-use Rattle.crashdisk.specs.internal.Keeps.{Told, SyncStep}
-use Rattle.crashdisk.specs.declared.file.File.{File}
-use Rattle.crashdisk.specs.declared.error.DiskError.{DiskError}
-use Rattle.recovery.specs.internal.Steps.{ZeroSteps}
+use Rattle.std.proofs.Common.{◌≡◌, ⊎_elim, ℕ, ◌<◌, ◌≤◌, refl, ◌∙◌, ap, subst, arith, Result, Ok, Err, IsErrAnd}
+use Rattle.recovery.proofs.Below.{passed, DiskState, counted, TellsRefusal, Told, SyncStep, File, DiskError, ZeroSteps}
 
 module _ {T E : Type 0} (device : E) (r : Result T E) where
   -- the call was done

@@ -1,26 +1,7 @@
 -- Zeros are written, or half written, over the front of a log that is durable.
-use Rattle.std.proofs.Common.{◌≡◌, ◌⊎◌, inl, inr, ⊎_elim, ℕ, ◌+◌, ◌-◌, ◌/◌, ◌<◌, ◌≤◌, max, Bool, true, false, List, [], ◌∷◌, length, get_or, replicate, sym, ◌∙◌, ap, subst, arith}
-use Rattle.std.specs.Prelude.{Result, Ok}
-use Rattle.std.proofs.lemmas.List.{get_or-take, get_or-replicate, get_or_past, length-replicate, ext_get_or}
-use Rattle.std.proofs.lemmas.Bool.{cases_lt}
-use Rattle.std.proofs.lemmas.Nat.{le-div}
-use Rattle.std.proofs.Math.Nat.{div-eq_of_lt}
-use Rattle.sqval.specs.Bytes.{part}
-use Rattle.sqval.specs.Database.{Database}
-use Rattle.crashdisk.specs.State.{FileState, IsImage, IsSound, WriteTouches, written, Changed, IsSettled}
-use Rattle.crashdisk.specs.Call.{DiskState, Writes}
-use Rattle.crashdisk.specs.Keeps.{IsLogDurable, StandsWhole}
-use Rattle.crashdisk.specs.internal.Facts.{Spreads}
-use Rattle.crashdisk.specs.declared.file.File.TheVariants.{Log}
-use Rattle.crashdisk.specs.declared.error.DiskError.{DiskError}
-use Rattle.crashdisk.proofs.byte.FixedBytes.{alters_write, whole_write}
-use Rattle.crashdisk.proofs.byte.SettledFiles.{settled_one}
-use Rattle.crashdisk.proofs.call.SoundDiskUnderCalls.{sound_writes}
+use Rattle.std.proofs.Common.{◌≡◌, inl, inr, ⊎_elim, ℕ, ◌+◌, ◌-◌, ◌/◌, ◌<◌, ◌≤◌, max, Bool, true, false, List, [], ◌∷◌, length, get_or, replicate, sym, ◌∙◌, ap, subst, arith, Result, Ok, get_or-take, ext_get_or}
+use Rattle.recovery.proofs.Below.{get_or-replicate, get_or_past, length-replicate, cases_lt, le-div, div-eq_of_lt, part, Database, FileState, IsImage, IsSound, WriteTouches, written, Changed, IsSettled, DiskState, Writes, IsLogDurable, StandsWhole, Spreads, Log, DiskError, alters_write, whole_write, settled_one, sound_writes, LogKind, Repeats, Restored, ZeroSteps}
 use Rattle.crashdisk.proofs.sync.BytesOfSyncedLog.{one_write}
-use Rattle.recovery.specs.Logs.{LogKind}
-use Rattle.recovery.specs.internal.Logs.{Repeats}
-use Rattle.recovery.specs.internal.Phases.{Restored}
-use Rattle.recovery.specs.internal.Steps.{ZeroSteps}
 use Rattle.recovery.proofs.OverwrittenLog.{Overwritten, written_read}
 use Rattle.recovery.proofs.PhasesOfRestore.{may_down, restored_by, restored_syncs}
 

@@ -1,5 +1,7 @@
 pub mod Files
 pub mod Steps
+pub mod Copying
+pub mod Phases
 pub mod Moments
 pub mod Logs
 pub mod Histories

@@ -5,3 +5,4 @@ pub mod Steps
 pub mod Logs
 pub mod Scanning
 pub mod Phases
+pub mod Copying

@@ -1,3 +1,4 @@
+pub mod Words
 pub mod journal
 pub mod disk
 pub mod replays

@@ -3,6 +3,7 @@ pub mod Phases
 pub mod Steps
 pub mod Plans
 pub mod Copying
+pub mod RecordPlan
 pub mod Fits
 pub mod Commits
 pub mod Listing

@@ -5,6 +5,7 @@ ghost use Rattle.rollcore.specs.Refusal.{number_of};
 ghost use Rattle.rollcore.specs.declared.error.RollError.TheVariants.{Device, NoMemory};
 
 use crashdisk::DiskError;
+use recovery::DeviceError;
 use sqval::CommitFault;
 use std::alloc::AllocError;
 use thiserror::Error;
@@ -96,6 +97,12 @@ impl From<DiskError> for RollError {
     fn from(_e: DiskError) -> RollError {
         RollError::Device
     }
+}
+
+impl DeviceError for RollError {
+    ghost device = { Device };
+
+    ghost device_gives = { λ _ e is. is };
 }
 
 impl From<CommitFault> for RollError {

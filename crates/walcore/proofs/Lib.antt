@@ -1,3 +1,4 @@
+pub mod Words
 pub mod crash
 pub mod folds
 pub mod log

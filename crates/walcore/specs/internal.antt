@@ -14,6 +14,7 @@ pub mod Going
 pub mod Commits
 pub mod Syncing
 pub mod Copying
+pub mod FramePlan
 pub mod Uncommitted
 pub mod Reading
 pub mod SoundScan

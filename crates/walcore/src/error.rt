@@ -5,6 +5,7 @@ ghost use Rattle.walcore.specs.Refusal.{number_of};
 ghost use Rattle.walcore.specs.declared.error.WalError.TheVariants.{Device, NoMemory};
 
 use crashdisk::DiskError;
+use recovery::DeviceError;
 use sqval::CommitFault;
 use std::alloc::AllocError;
 use thiserror::Error;
@@ -104,6 +105,12 @@ impl From<DiskError> for WalError {
     fn from(_e: DiskError) -> WalError {
         WalError::Device
     }
+}
+
+impl DeviceError for WalError {
+    ghost device = { Device };
+
+    ghost device_gives = { λ _ e is. is };
 }
 
 impl From<CommitFault> for WalError {

@@ -1,12 +1,12 @@
 -- The steps of a restore by what stands on the disk meanwhile: in each of them all that a crash may leave shows the
 -- database that it showed at the start (own).
-use Rattle.std.specs.Prelude.{◌≡◌, ℕ, ◌+◌, ◌-◌, ◌*◌, ◌<◌, ◌≤◌, List, length, get_or}
+use Rattle.std.specs.Prelude.{◌≡◌, ℕ, ◌≤◌, List, length}
 use Rattle.sqval.specs.Database.{Database, page, file_page}
 use Rattle.crashdisk.specs.State.{IsImage}
 use Rattle.crashdisk.specs.Call.{DiskState, IsSoundDisk, ArePresent}
-use Rattle.crashdisk.specs.Keeps.{IsLogDurable, Suits}
-use Rattle.crashdisk.specs.internal.Facts.{IsSteady}
+use Rattle.crashdisk.specs.Keeps.{IsLogDurable}
 use Rattle.recovery.specs.Logs.{LogKind, MayBeRead}
+use Rattle.recovery.specs.Phases.{Filling}
 use Rattle.recovery.specs.internal.Files.{IsFiled}
 use Rattle.recovery.specs.internal.Logs.{Repeats}
 
@@ -15,13 +15,6 @@ pub record Unwritten (kind : LogKind) (size : ℕ) (d : Database) (w : List ℕ)
   pub durable : IsLogDurable s w
   pub shows : (db : List ℕ) → IsImage s.sector s.tears s.db db → kind.Show size db w d
   pub present : (db : List ℕ) → ArePresent s.db db → kind.Show size db w d
-
--- Pages are written into the file, or its length is set. The pages of d that the log doesn't have stand in each file
--- that a crash may leave, with zeros past its end.
-pub record Filling (size : ℕ) (d : Database) (Unnamed : ℕ → Type 0) (s : DiskState) : Type 0 where
-  pub suits : Suits size s
-  pub full : (p : ℕ) → 1 ≤ p → p ≤ length d → length (page d p) ≡ size
-  pub steady : (p i : ℕ) → 1 ≤ p → p ≤ length d → Unnamed p → i < size → IsSteady s.sector s.tears s.db ((p - 1) * size + i) (get_or (page d p) i 0)
 
 -- the same from a log that is durable: it shows d with each file that has these pages
 pub record Restoring (kind : LogKind) (size : ℕ) (d : Database) (Unnamed : ℕ → Type 0) (w : List ℕ) (s : DiskState) : Type 0 where

@@ -1,9 +1,6 @@
 -- A commit that isn't refused.
-use Rattle.std.proofs.Common.{◌≡◌, ℕ, ◌≤◌, false, ◌∷◌, [], arith}
-use Rattle.std.specs.Prelude.{nat_lt, None}
-use Rattle.std.proofs.lemmas.Bool.Decides.{nat_tests}
-use Rattle.recovery.proofs.Words.{Pages, page_faults, IsFaultless, faultless, none_both, one_none}
-use Rattle.rollcore.specs.Machine.{recorded, segments_of, refusal_of}
+use Rattle.std.proofs.Common.{◌≡◌, ℕ, ◌≤◌, false, ◌∷◌, [], arith, nat_lt, None}
+use Rattle.rollcore.proofs.Words.{nat_tests, Pages, page_faults, IsFaultless, faultless, none_both, one_none, recorded, segments_of, refusal_of}
 
 module _ (old_size page_size : ℕ) (pages : Pages) (size nonces : ℕ) (none : refusal_of old_size page_size pages size nonces ≡ None) where
   pub granted : IsFaultless old_size page_size pages size

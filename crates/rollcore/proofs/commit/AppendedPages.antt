@@ -1,14 +1,6 @@
 -- Pages go into the file that the database doesn't have yet.
-use Rattle.std.proofs.Common.{◌≡◌, inr, ⊎_elim, ℕ, ◌+◌, ◌-◌, ◌*◌, ◌<◌, ◌≤◌, true, false, cond, List, ◌∷◌, ◌++◌, length, get_or, take, refl, sym, ◌∙◌, ap, subst, arith, append_assoc, []}
-use Rattle.std.specs.Prelude.{Result, Ok, Err, Bool, nat_lt}
-use Rattle.std.specs.List.{Contains}
-use Rattle.std.specs.Borrow.{Bor}
-use Rattle.std.proofs.lemmas.Bool.Decides.{nat_tests}
-use Rattle.std.proofs.lemmas.List.{append-nil, take_all, take_more, get_or-map, length-map}
-use Rattle.std.proofs.lemmas.List.Elements.{Contains-append_cases, Contains-push_cases}
-use Rattle.recovery.proofs.Words.{most_bytes, Database, Pages, page, lent, DiskState, Writes, Db, DiskError, refusal_after}
-use Rattle.rollcore.specs.internal.Segments.{Journaled, Harmless, ArePut, PageStep, AreSome, AreOf, new_numbers}
-use Rattle.rollcore.specs.declared.error.RollError.{RollError}
+use Rattle.std.proofs.Common.{◌≡◌, inr, ⊎_elim, ℕ, ◌+◌, ◌-◌, ◌*◌, ◌<◌, ◌≤◌, true, false, cond, List, ◌∷◌, ◌++◌, length, get_or, take, refl, sym, ◌∙◌, ap, subst, arith, append_assoc, [], Result, Ok, Err, Bool, nat_lt, append-nil, take_all}
+use Rattle.rollcore.proofs.Words.{Contains, Bor, nat_tests, take_more, get_or-map, length-map, Contains-append_cases, Contains-push_cases, most_bytes, Database, Pages, page, lent, DiskState, Writes, Db, DiskError, refusal_after, Journaled, Harmless, ArePut, PageStep, AreSome, AreOf, new_numbers, RollError}
 use Rattle.rollcore.proofs.commit.OverwrittenPages.{journaled_writes, journaled_unharmed, put_writes, page_refused, page_done}
 
 new_more : (n : ℕ) (xs : Pages) (x : ℕ × List ℕ) → n < x.0 → new_numbers n (xs ++ x ∷ []) ≡ new_numbers n xs ++ x.0 ∷ []

@@ -1,16 +1,6 @@
 -- The end of a commit: zeros are written over the journal's first header, and come durable.
-use Rattle.std.proofs.Common.{◌≡◌, ◌⊎◌, inl, inr, ⊎_elim, ℕ, ◌<◌, ◌≤◌, true, false, List, ◌∷◌, length, get_or, replicate, refl, sym, ◌∙◌, subst, arith, []}
-use Rattle.std.specs.Prelude.{Result, Ok}
-use Rattle.std.proofs.lemmas.Bool.{cases_lt}
-use Rattle.std.proofs.lemmas.List.{get_or-replicate, get_or_past, length-replicate}
-use Rattle.recovery.proofs.Words.{word, IsPageSize, Database, IsJust, FileState, IsImage, IsSound, IsSettled, DiskState, Writes, Syncs, Log, DiskError, settled_one, sector_some, file_count, down_present, MayBeRead, ShowsWhole, Overwritten, written_read}
-use Rattle.sqjournal.specs.Journal.{IsHot}
-use Rattle.rollcore.specs.Alone.{AreWhole, journal_log}
-use Rattle.rollcore.specs.Fits.{Rests}
-use Rattle.rollcore.specs.internal.Commits.{ShowsEither}
-use Rattle.rollcore.specs.Replaying.{zeroed}
-use Rattle.rollcore.specs.internal.Journaling.{IsJournaled}
-use Rattle.rollcore.specs.internal.Segments.{IsAt, Journaled}
+use Rattle.std.proofs.Common.{◌≡◌, ◌⊎◌, inl, inr, ⊎_elim, ℕ, ◌<◌, ◌≤◌, true, false, List, ◌∷◌, length, get_or, replicate, refl, sym, ◌∙◌, subst, arith, [], Result, Ok}
+use Rattle.rollcore.proofs.Words.{cases_lt, get_or-replicate, get_or_past, length-replicate, word, IsPageSize, Database, IsJust, FileState, IsImage, IsSound, IsSettled, DiskState, Writes, Syncs, Log, DiskError, settled_one, sector_some, file_count, down_present, MayBeRead, ShowsWhole, Overwritten, written_read, IsHot, AreWhole, journal_log, Rests, ShowsEither, zeroed, IsJournaled, IsAt, Journaled}
 use Rattle.rollcore.proofs.journal.EquivalentJournals.{hot_long}
 use Rattle.rollcore.proofs.replays.ZeroedHeader.{zeroed_listed, zeroed_torn}
 use Rattle.rollcore.proofs.replays.FinalSteps.{zero_done}

@@ -1,18 +1,9 @@
 -- A commit whose pages are all in the file: it becomes durable, and the journal ends.
-use Rattle.std.proofs.Common.{◌≡◌, ◌⊎◌, inl, ⊎_elim, ℕ, ◌*◌, ◌<◌, ◌≤◌, List, ◌++◌, length, replicate, refl, sym, ◌∙◌, ap, subst, arith, lit≤}
-use Rattle.std.specs.Prelude.{Result, Ok, Err, None, OnOk}
-use Rattle.std.proofs.lemmas.List.{length-map, get_or-map}
-use Rattle.recovery.proofs.Words.{Database, Pages, apply, IsJust, IsHeld, length-apply, IsFaultless, held_applied, FileState, IsSettled, DiskState, Writes, Cuts, Syncs, Db, Log, DiskError, counted_grows, steady_syncs, IsLogDurable, SyncStep, down_syncs, down_present, told_ok, sync_refused, none_ok, had_refusal, refusal_after, suits_writes, suits_syncs, ArePages, ZeroSteps, zero_refused, MayBeRead}
-use Rattle.sqjournal.specs.Journal.{IsHot}
-use Rattle.rollcore.specs.internal.Commits.{change_at, AreChanges, PutAnswer}
-use Rattle.rollcore.specs.internal.Journaling.{IsJournaled}
-use Rattle.rollcore.specs.Machine.{refusal_of}
-use Rattle.rollcore.specs.internal.Segments.{IsAt, Harmless, Journaled, ArePut, AreOf, AreSome, pages_of, new_numbers}
-use Rattle.rollcore.specs.Replaying.{zeroed}
-use Rattle.rollcore.specs.internal.Steps.{EndAnswer}
-use Rattle.rollcore.specs.declared.changes.Change.{Change}
-use Rattle.rollcore.specs.declared.error.RollError.{RollError}
-use Rattle.rollcore.specs.declared.error.RollError.TheVariants.{Device}
+use Rattle.std.proofs.Common.{◌≡◌, ◌⊎◌, inl, ⊎_elim, ℕ, ◌*◌, ◌<◌, ◌≤◌, List, ◌++◌, length, replicate, refl, sym, ◌∙◌, ap, subst, arith, lit≤, Result, Ok, Err, None, OnOk}
+use Rattle.rollcore.proofs.Words.{length-map, get_or-map, Database, Pages, apply, IsJust, IsHeld, length-apply, IsFaultless, held_applied, FileState, IsSettled, DiskState, Writes, Cuts, Syncs, Db, Log, DiskError, counted_grows, steady_syncs, IsLogDurable, SyncStep, down_syncs, down_present, told_ok, sync_refused, none_ok, had_refusal, refusal_after, suits_writes, suits_syncs, ArePages, ZeroSteps, zero_refused, MayBeRead, IsHot, EndSteps, ended, end_later, tells_end, Finishes, IsSoundDisk, change_at, AreChanges, PutAnswer, IsJournaled, refusal_of, IsAt, Harmless, Journaled, ArePut, AreOf, AreSome, pages_of, new_numbers, zeroed, EndAnswer, Change, RollError, Device, journal_log}
+use Rattle.rollcore.proofs.replays.FinalSteps.{end_answer}
+use Rattle.rollcore.proofs.replays.ZeroedHeader.{end_shows}
+use Rattle.rollcore.proofs.replays.LengthOfDatabaseFile.{ends_ended}
 use Rattle.rollcore.proofs.commit.CommitPoint.{closing_left, closing_down, closing_shows, closing_sectors}
 use Rattle.rollcore.proofs.commit.AcceptedCommit.{granted}
 use Rattle.rollcore.proofs.journal.WrittenSegmentHeader.{read_syncs}
@@ -21,7 +12,6 @@ use Rattle.rollcore.proofs.commit.OverwrittenPages.{journaled_cuts, journaled_un
 use Rattle.rollcore.proofs.journal.UnharmedOldDatabase.{at_by, sectors_of}
 use Rattle.rollcore.proofs.journal.EquivalentJournals.{hot_long}
 use Rattle.rollcore.proofs.journal.RestoredDatabase.{journaled_hot}
-use Rattle.rollcore.specs.Alone.{journal_log}
 
 -- a refusal that leaves the database from before the commit
 pub put_harmless : (T : Type 0) (size : ℕ) (d e : Database) (error : RollError) (old new : DiskState) → Harmless size d error old new → PutAnswer {T = T} size d e (Err error) old new
@@ -70,7 +60,7 @@ module _ (size sector : ℕ) (d : Database) (named : List ℕ) (place : ℕ) (w 
   at_sync called b c at synced = at_by size sector d named place b c at (suits_syncs size Log called b c at.suits synced) synced.elsewhere.sector synced.elsewhere.tears synced.elsewhere.other
 
   module _ {T : Type 0} (e : Database) where
-    pub synced_failed : (r q : Result T RollError) (error : RollError) (old new : DiskState) → Journaled size sector d named place w old → r ≡ Err error → q ≡ Err error → SyncStep Device Db r old new → PutAnswer size d e q old new
+    synced_failed : (r q : Result T RollError) (error : RollError) (old new : DiskState) → Journaled size sector d named place w old → r ≡ Err error → q ≡ Err error → SyncStep Device Db r old new → PutAnswer size d e q old new
     synced_failed r q error old new is was passes step =
         let had = sync_refused Device Db r error old new is.at.suits.sound was step in
         subst (λ (x : Result T RollError). PutAnswer size d e x old new) (sym passes) (put_harmless T size d e error old new (record {
@@ -99,7 +89,7 @@ module _ (size sector : ℕ) (d : Database) (named : List ℕ) (place : ℕ) (w 
       is : Journaled size sector d named place w b
       is = journaled_syncs synced.0 a b was synced.2
 
-      pub zero_failed : (r q : Result T RollError) (error : RollError) → r ≡ Err error → q ≡ Err error → ZeroSteps Device 28 r b c → PutAnswer size d e q a c
+      zero_failed : (r q : Result T RollError) (error : RollError) → r ≡ Err error → q ≡ Err error → ZeroSteps Device 28 r b c → PutAnswer size d e q a c
       zero_failed r q error r_is passes steps =
           let had = zero_refused Device 28 (lit≤ tt) r error b c is.at.suits.sound r_is steps in
           let left = zero_at r b c is steps in
@@ -111,13 +101,33 @@ module _ (size sector : ℕ) (d : Database) (named : List ℕ) (place : ℕ) (w 
             closing_sectors size sector d e named place c settled.0 left.0 begun durable settled.2 left.1,
           )
 
-      pub zero_closed : (r : Result T RollError) (v x : T) → r ≡ Ok v → ZeroSteps Device 28 r b c → PutAnswer {T = T} size d e (Ok x) a c
+      zero_closed : (r : Result T RollError) (v x : T) → r ≡ Ok v → ZeroSteps Device 28 r b c → PutAnswer {T = T} size d e (Ok x) a c
       zero_closed r v x r_is steps = ⊎_elim
           (λ failed. absurd (none_ok Device failed.0 r v failed.1 r_is failed.2))
           (λ all.
           let t = told_ok Device all.2.0 r v r_is all.2.1 in
           closing_down size sector d named place w begun b c is e all.0 settled.0 all.1.1 (subst (λ (x : Result T DiskError). Syncs Log x all.0 c) t.1 all.2.2) settled.1 settled.2)
           steps
+
+    -- the file is synced, and the header zeroed
+    put_end : (r : Result T RollError) (a c : DiskState) → Journaled size sector d named place w a → ArePages size e a.db → IsHeld size e → EndSteps Device 28 r a c → PutAnswer size d e r a c
+    put_end (Ok v) a c was pages held steps =
+        let done = ended Device 28 v a c steps in
+        zero_closed (Ok done.1.0) done.1.0 a done.0 c was pages held refl done.1.1 (Ok v) v v refl done.2
+    put_end (Err x) a c was pages held steps = ⊎_elim
+        (λ failed. synced_failed (Err x) (Err x) x a c was refl refl failed.1)
+        (λ done. zero_failed (Ok done.1.0) done.1.0 a done.0 c was pages held refl done.1.1 (Err x) (Err x) x refl refl done.2)
+        steps
+
+-- the end of a replay, and of a commit
+pub finishes : {T : Type 0} (r : Result T RollError) (a b : DiskState) → IsSoundDisk a → EndSteps Device 28 r a b → Finishes r a b
+finishes r a b sound steps = record {
+  asks = λ most size. record { later = end_later Device 28 r a b steps (λ f. tt) (refl, refl) sound; told = tells_end Device 28 r a b steps };
+  ends = end_answer r a b sound steps;
+  shows = λ size w d is pages. end_shows size w d r a b is pages steps;
+  lengths = λ sectors w durable hot names. ends_ended w a b sound sectors durable hot names r steps;
+  commit = λ size sector d e named place w is begun pages held. put_end size sector d named place w begun e r a b is pages held steps;
+}
 
 -- an answer from a later state on
 pub put_after : {T : Type 0} (size : ℕ) (d e : Database) (r : Result T RollError) (a b c : DiskState) → a.refused ≤ b.refused → PutAnswer size d e r b c → PutAnswer size d e r a c

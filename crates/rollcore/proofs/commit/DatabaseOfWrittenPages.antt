@@ -1,19 +1,7 @@
 -- The new database, once all its pages are in the file.
-use Rattle.std.proofs.Common.{◌≡◌, ◌⊎◌, inl, inr, ⊎_elim, ℕ, zero, suc, ◌+◌, ◌-◌, ◌*◌, ◌<◌, ◌≤◌, List, ◌∷◌, ◌++◌, length, get_or, take, drop, refl, sym, ◌∙◌, ap, subst, arith, length-take, length-drop, []}
-use Rattle.std.specs.Prelude.{Ok, Option, Some, None, unwrap_or}
-use Rattle.std.specs.List.{Contains}
-use Rattle.std.proofs.lemmas.Bool.{cases_lt}
-use Rattle.std.proofs.lemmas.Bool.Decides.{nat_tests}
-use Rattle.std.proofs.lemmas.List.{length-map, get_or-map, get_or-take, get_or-drop}
-use Rattle.std.proofs.lemmas.List.Elements.{Contains-append_left, Contains-append_right}
-use Rattle.std.proofs.Math.Nat.{mul-le-mul_right}
-use Rattle.recovery.proofs.Words.{most_bytes, Database, Pages, page, supplied, apply, IsJust, IsHeld, byte, IsSettled, DiskState, IsSoundDisk, Cuts, Syncs, Db, table, cut_below, present_cut, present_list, present_steady, settled_sync, page_at, page_within, page_by_bytes, present_byte, ArePages}
-use Rattle.sqval.proofs.database.CommittedDatabase.{number_at, content_at, length-apply, page-apply}
-use Rattle.sqval.proofs.database.FaultlessCommit.{IsFaultless, supplied_here, above_supplied}
-use Rattle.rollcore.specs.Commits.{AreChanged}
-use Rattle.rollcore.specs.internal.Commits.{change_at, AreChanges}
-use Rattle.rollcore.specs.internal.Segments.{Journaled, ArePut, Becomes, AreTurned, AreOf, AreFresh, pages_of, new_numbers}
-use Rattle.rollcore.specs.declared.changes.Change.{Change}
+use Rattle.std.proofs.Common.{◌≡◌, ◌⊎◌, inl, inr, ⊎_elim, ℕ, zero, suc, ◌+◌, ◌-◌, ◌*◌, ◌<◌, ◌≤◌, List, ◌∷◌, ◌++◌, length, get_or, take, drop, refl, sym, ◌∙◌, ap, subst, arith, length-take, length-drop, [], Ok, Option, Some, None, unwrap_or, get_or-take, get_or-drop}
+use Rattle.rollcore.proofs.Words.{Contains, cases_lt, nat_tests, length-map, get_or-map, Contains-append_left, Contains-append_right, mul-le-mul_right, most_bytes, Database, Pages, page, supplied, apply, IsJust, IsHeld, byte, IsSettled, DiskState, IsSoundDisk, Cuts, Syncs, Db, table, cut_below, present_cut, present_list, present_steady, settled_sync, page_at, page_within, page_by_bytes, present_byte, ArePages, number_at, length-apply, page-apply, IsFaultless, supplied_here, above_supplied, AreChanged, change_at, AreChanges, Journaled, ArePut, Becomes, AreTurned, AreOf, AreFresh, pages_of, new_numbers, Change}
+use Rattle.sqval.proofs.database.CommittedDatabase.{content_at}
 
 -- ---- The file has all pages.
 

@@ -1,21 +1,7 @@
 -- The changes of a commit, as they are listed, are those that it makes.
-use Rattle.std.proofs.Common.{◌≡◌, ◌≢◌, ◌⊎◌, inl, inr, ⊎_elim, ℕ, zero, suc, ◌+◌, ◌-◌, ◌<◌, ◌≤◌, Bool, true, false, cond, List, [], ◌∷◌, ◌++◌, map, length, get_or, refl, sym, ◌∙◌, ap, subst, arith, length-append, append-nil, zero-add}
-use Rattle.std.specs.Prelude.{◌==◌, nat_le, if◌then◌else◌, Option, Some, None}
-use Rattle.std.specs.List.{All, Contains, AllByRecursion, IsDistinct, sum_by}
-use Rattle.std.specs.List.Sorted.{IsPermutation, IsNonDecreasing, IsNonDecreasingBy, IsStrictlyIncreasing}
-use Rattle.std.proofs.lemmas.Bool.{cases_eq, cases_lt}
-use Rattle.std.proofs.lemmas.Bool.Decides.{nat_tests}
-use Rattle.std.proofs.lemmas.List.{get_or-map, get_or_append_left, get_or-append_right, length-map, length_push, get_or_at}
-use Rattle.std.proofs.lemmas.List.Sorted.{All-permutation, Contains-permutation, IsPermutation-map, length_permutation}
-use Rattle.std.proofs.lemmas.List.Sums.{sum_by-cons}
-use Rattle.std.proofs.lemmas.Map.Keys.{IsDistinct-IsPermutation, IsStrictlyIncreasing-from_distinct, sorted_from_strictly_increasing, below_from_sorted}
-use Rattle.recovery.proofs.Words.{Pages, supplied, number_at, IsFaultless}
-use Rattle.sqval.specs.internal.JudgedPages.{numbers_of}
-use Rattle.sqval.proofs.page.PageNumbers.{distinct}
-use Rattle.rollcore.specs.Machine.{recorded}
-use Rattle.rollcore.specs.internal.Commits.{change_at, AreChanges}
-use Rattle.rollcore.specs.internal.Listing.{written, cut_off}
-use Rattle.rollcore.specs.declared.changes.Change.{Change}
+use Rattle.std.proofs.Common.{◌≡◌, ◌≢◌, ◌⊎◌, inl, inr, ⊎_elim, ℕ, zero, suc, ◌+◌, ◌-◌, ◌<◌, ◌≤◌, Bool, true, false, cond, List, [], ◌∷◌, ◌++◌, map, length, get_or, refl, sym, ◌∙◌, ap, subst, arith, length-append, append-nil, zero-add, ◌==◌, nat_le, if◌then◌else◌, Option, Some, None}
+use Rattle.rollcore.proofs.Words.{All, Contains, AllByRecursion, IsDistinct, sum_by, IsPermutation, IsNonDecreasing, IsNonDecreasingBy, IsStrictlyIncreasing, cases_eq, cases_lt, nat_tests, get_or-map, get_or_append_left, get_or-append_right, length-map, length_push, get_or_at, All-permutation, Contains-permutation, IsPermutation-map, length_permutation, sum_by-cons, IsDistinct-IsPermutation, IsStrictlyIncreasing-from_distinct, sorted_from_strictly_increasing, below_from_sorted, Pages, supplied, number_at, IsFaultless, numbers_of, distinct, recorded, change_at, AreChanges, cut_off, Change}
+use Rattle.rollcore.specs.internal.Listing.{written}
 
 -- ---- Pages that are there already.
 

@@ -1,25 +1,8 @@
 -- Pages go into the file whose old contents stand in the journal.
-use Rattle.std.proofs.Common.{◌≡◌, ◌≢◌, ◌⊎◌, inl, inr, ⊎_elim, ℕ, ◌+◌, ◌-◌, ◌*◌, ◌<◌, ◌≤◌, List, ◌∷◌, ◌++◌, length, get_or, take, sym, ◌∙◌, ap, subst, arith, append_assoc, length-take, []}
-use Rattle.std.specs.Prelude.{Result, Ok, Err, Option, Some, None}
-use Rattle.std.specs.Borrow.{Bor}
-use Rattle.std.specs.List.{Contains}
-use Rattle.std.proofs.lemmas.Bool.{cases_eq, cases_lt}
-use Rattle.std.proofs.lemmas.List.{append-nil, take_all, take_more, length-map, get_or-map, get_or-take}
-use Rattle.std.proofs.lemmas.List.Elements.{Contains-push_cases, Contains-append_cases}
-use Rattle.recovery.proofs.Words.{most_bytes, Database, Pages, page, lent, FileState, DiskState, IsSoundDisk, Writes, Cuts, Spreads, IsClear, Db, DiskError, HadRefusal, down_writes, down_cuts, down_one, told_err, told_ok, had_refusal, refusal_after}
-use Rattle.crashdisk.proofs.call.SoundFileUnderChanges.{written_inside, written_outside, where_at}
-use Rattle.crashdisk.proofs.call.EffectsOfCalls.{steady_writes, steady_cuts, present_written}
-use Rattle.rollcore.specs.internal.Journaling.{IsJournaled}
-use Rattle.rollcore.specs.internal.Segments.{IsAt, Unharmed, Harmless, Journaled, ArePut, PageStep, Becomes, AreTurned, AreSome, pages_of}
-use Rattle.rollcore.specs.internal.Commits.{change_at}
-use Rattle.rollcore.specs.declared.changes.Change.{Change}
-use Rattle.rollcore.specs.declared.error.RollError.{RollError}
-use Rattle.rollcore.specs.declared.error.RollError.TheVariants.{Device}
-use Rattle.crashdisk.proofs.page.PlacesOfPages.{page_at, page_end, page_apart, page_within, page_clear, cut_clear, sector_some}
+use Rattle.std.proofs.Common.{◌≡◌, ◌≢◌, ◌⊎◌, inl, inr, ⊎_elim, ℕ, ◌+◌, ◌-◌, ◌*◌, ◌<◌, ◌≤◌, List, ◌∷◌, ◌++◌, length, get_or, take, sym, ◌∙◌, ap, subst, arith, append_assoc, length-take, [], Result, Ok, Err, Option, Some, None, append-nil, take_all, get_or-take}
+use Rattle.rollcore.proofs.Words.{Bor, Contains, cases_eq, cases_lt, take_more, length-map, get_or-map, Contains-push_cases, Contains-append_cases, most_bytes, Database, Pages, page, lent, FileState, DiskState, IsSoundDisk, Writes, Cuts, Spreads, IsClear, Db, DiskError, HadRefusal, down_writes, down_cuts, down_one, told_err, told_ok, had_refusal, refusal_after, written_inside, written_outside, where_at, steady_writes, steady_cuts, present_written, IsJournaled, IsAt, Unharmed, Harmless, Journaled, ArePut, PageStep, Becomes, AreTurned, AreSome, pages_of, change_at, Change, RollError, Device, page_at, page_end, page_apart, page_within, page_clear, cut_clear, sector_some, suits_writes, suits_cuts, whole_pages, page_is_clear}
 use Rattle.rollcore.proofs.journal.RecordsOfOldPages.{page_in}
-use Rattle.crashdisk.proofs.page.RecoverablePages.{suits_writes, suits_cuts}
 use Rattle.rollcore.proofs.journal.UnharmedOldDatabase.{image_read, unharmed_still}
-use Rattle.crashdisk.proofs.page.ClearPlacesOfPage.{whole_pages, page_is_clear}
 
 module _ (size sector : ℕ) (d : Database) (named : List ℕ) (place : ℕ) (w : List ℕ) (begun : 0 < place) where
   clear : (s : DiskState) → IsAt size sector d named place s → (p i : ℕ) → 1 ≤ p → p ≤ length d → (Contains named p → ⊥) → i < size → IsClear s.sector s.tears s.db (page_at size p + i)

@@ -1,22 +1,6 @@
 -- What a commit changes is cut into parts, and each is a segment.
-use Rattle.std.proofs.Common.{◌≡◌, ◌⊎◌, inl, inr, ⊎_elim, ℕ, suc, ◌+◌, ◌-◌, ◌*◌, ◌^◌, ◌<◌, ◌≤◌, List, [], ◌∷◌, ◌++◌, length, get_or, take, drop, replicate, refl, sym, ◌∙◌, ap, subst, arith, length-take, length-drop}
-use Rattle.std.specs.Prelude.{Result, Ok, Err, Some, None, min}
-use Rattle.std.specs.Borrow.{Bor}
-use Rattle.std.specs.List.{Contains}
-use Rattle.std.proofs.lemmas.List.{take_all, take-map, drop-map, length-map, length-replicate, get_or-map, get_or-take, length-take-le, drop-drop}
-use Rattle.std.proofs.lemmas.Bool.{cases_lt}
-use Rattle.std.proofs.Math.Nat.{mul-le-mul_left, mul-le-mul_right}
-use Rattle.std.proofs.Math.Seq.{take-add, take-suc}
-use Rattle.recovery.proofs.Words.{Database, Pages, apply, IsJust, IsHeld, most_bytes, lent, IsFaultless, DiskState, Suits, get_or-file_page}
-use Rattle.rollcore.specs.Fits.{Rests}
-use Rattle.rollcore.specs.Journaling.{old_pages, sizes, HasParts, parts_of}
-use Rattle.rollcore.specs.Machine.{segments_of, refusal_of}
-use Rattle.rollcore.specs.Commits.{KeepsCore}
-use Rattle.rollcore.specs.internal.Commits.{AreChanges, ArePlaced, AreWithin, IsReady, change_at}
-use Rattle.rollcore.specs.internal.Segments.{Journaled, SegmentAnswer, Parted, PartAnswer, SegmentsAnswer, ArePut, AreSome, AreFresh, AreTurned, pages_of}
-use Rattle.rollcore.specs.declared.changes.Change.{Change}
-use Rattle.rollcore.specs.declared.error.RollError.{RollError}
-use Rattle.rollcore.specs.declared.state.Core.{Core}
+use Rattle.std.proofs.Common.{◌≡◌, ◌⊎◌, inl, inr, ⊎_elim, ℕ, suc, ◌+◌, ◌-◌, ◌*◌, ◌^◌, ◌<◌, ◌≤◌, List, [], ◌∷◌, ◌++◌, length, get_or, take, drop, replicate, refl, sym, ◌∙◌, ap, subst, arith, length-take, length-drop, Result, Ok, Err, Some, None, min, take_all, get_or-take, length-take-le, drop-drop}
+use Rattle.rollcore.proofs.Words.{Bor, Contains, take-map, drop-map, length-map, length-replicate, get_or-map, cases_lt, mul-le-mul_left, mul-le-mul_right, take-add, take-suc, Database, Pages, apply, IsJust, IsHeld, most_bytes, lent, IsFaultless, DiskState, Suits, get_or-file_page, Rests, old_pages, sizes, HasParts, parts_of, segments_of, refusal_of, KeepsCore, AreChanges, ArePlaced, AreWithin, IsReady, change_at, Journaled, SegmentAnswer, Parted, PartAnswer, SegmentsAnswer, ArePut, AreSome, AreFresh, AreTurned, pages_of, Change, RollError, Core}
 use Rattle.rollcore.proofs.commit.AcceptedCommit.{granted, segments_enough}
 use Rattle.rollcore.proofs.commit.AppendedPages.{lent_length, lent_at}
 use Rattle.rollcore.proofs.commit.DatabaseOfWrittenPages.{changes_few, fresh_by, turned_slice, slice_at, slice_within}

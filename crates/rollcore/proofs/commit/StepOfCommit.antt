@@ -1,27 +1,12 @@
 -- A commit is judged, carried out or refused: what the machine steps to, and what fits then.
-use Rattle.std.proofs.Common.{◌≡◌, ◌⊎◌, inl, inr, ⊎_elim, ℕ, ◌+◌, ◌-◌, ◌^◌, ◌<◌, Bool, true, false, List, ◌∷◌, ◌++◌, length, get_or, refl, sym, ◌∙◌, ap, subst, arith, length-append, []}
-use Rattle.std.specs.Prelude.{cond, IsTrue, Result, Ok, Err, Option, Some, None}
-use Rattle.std.specs.Borrow.{Bor}
-use Rattle.std.proofs.lemmas.Bool.{cases_lt}
-use Rattle.std.proofs.lemmas.List.{get_or_append_left, get_or-append_right}
-use Rattle.recovery.proofs.Words.{Database, Pages, apply, IsHeld, first_true, page_faults, lent, Done, Refused, Refuses, IsFaultless, faultless, held_applied, length-apply, DiskState, HasCalls, Suits, HadRefusal, IsSameDisk, Later, TellsRefusal, no_calls, answered, ShowsWhole, last, newest}
-use Rattle.rollcore.specs.Changes.{MayChange, MayCommit}
-use Rattle.rollcore.specs.Machine.{State, closed, appended, committed, recorded, refusal_of, commit_refusal, Commits}
-use Rattle.rollcore.specs.Refusal.{number_of}
-use Rattle.rollcore.specs.internal.Committing.{RestsAt}
-use Rattle.rollcore.specs.Fits.{NamesSectors, Rests, FitsCore, StepsTo}
-use Rattle.rollcore.specs.Commits.{KeepsCore, AreChanged}
-use Rattle.rollcore.specs.internal.Commits.{ShowsEither, AreChanges, PutAnswer, IsReady, Ends, Closes, EndAnswer}
-use Rattle.rollcore.specs.declared.error.RollError.{RollError}
-use Rattle.rollcore.specs.declared.error.RollError.TheVariants.{NoMemory, Device}
-use Rattle.rollcore.specs.declared.state.Core.{Core}
+use Rattle.std.proofs.Common.{◌≡◌, ◌⊎◌, inl, inr, ⊎_elim, ℕ, ◌+◌, ◌-◌, ◌^◌, ◌<◌, Bool, true, false, List, ◌∷◌, ◌++◌, length, get_or, refl, sym, ◌∙◌, ap, subst, arith, length-append, [], cond, IsTrue, Result, Ok, Err, Option, Some, None}
+use Rattle.rollcore.proofs.Words.{Bor, cases_lt, get_or_append_left, get_or-append_right, Database, Pages, apply, IsHeld, first_true, page_faults, lent, Done, Refused, Refuses, IsFaultless, faultless, held_applied, length-apply, DiskState, HasCalls, Suits, HadRefusal, IsSameDisk, Later, TellsRefusal, no_calls, answered, ShowsWhole, last, newest, MayChange, MayCommit, State, closed, appended, committed, recorded, refusal_of, commit_refusal, Commits, number_of, RestsAt, NamesSectors, Rests, FitsCore, StepsTo, KeepsCore, AreChanged, ShowsEither, AreChanges, PutAnswer, IsReady, Ends, Closes, RollError, NoMemory, Device, Core, pages_of, journal_log}
+use Rattle.rollcore.specs.internal.Commits.{EndAnswer}
 use Rattle.rollcore.proofs.commit.AcceptedCommit.{granted}
 use Rattle.rollcore.proofs.commit.ListedChanges.{recorded_few}
 use Rattle.rollcore.proofs.openings.RecoveredFiles.{fits_rested}
 use Rattle.rollcore.proofs.disk.InvariantsOfCalls.{suits_go}
-use Rattle.rollcore.specs.internal.Segments.{pages_of}
 use Rattle.rollcore.proofs.commit.DatabaseOfWrittenPages.{are_changed}
-use Rattle.rollcore.specs.Alone.{journal_log}
 
 -- pages that aren't refused have few records
 pub few_records : (old_size page_size : ℕ) (pages : Pages) (size : ℕ) → first_true (page_faults old_size page_size pages size) ≡ None → old_size < 2 ^ 32 → recorded pages old_size size < 2 ^ 64

@@ -1,7 +1,6 @@
 -- A log of which nothing is unsynced, and what it takes that all shows one database.
 use Rattle.std.proofs.Common.{inl, ℕ, List, refl, sym, subst}
-use Rattle.recovery.proofs.Words.{DiskState, settled_image, IsLogDurable, MayBeLeft}
-use Rattle.rollcore.specs.Alone.{AreWhole, journal_log}
+use Rattle.rollcore.proofs.Words.{DiskState, settled_image, IsLogDurable, MayBeLeft, AreWhole, journal_log}
 use Rattle.rollcore.proofs.journal.EquivalentJournals.{hot_within, header_within}
 
 -- the log itself may be left

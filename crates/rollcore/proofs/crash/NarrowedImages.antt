@@ -1,9 +1,6 @@
 -- A call that adds no log to those that may be read adds none that shows less.
 use Rattle.std.proofs.Common.{ℕ, ◌≤◌, List, sym, ◌∙◌, subst}
-use Rattle.recovery.proofs.Words.{DiskState, word, Database, Narrows}
-use Rattle.rollcore.specs.Alone.{journal_log}
-use Rattle.rollcore.specs.Fits.{ShowsHistory, NamesSectors}
-use Rattle.rollcore.specs.Lengths.{EndsBy}
+use Rattle.rollcore.proofs.Words.{DiskState, word, Database, Narrows, journal_log, ShowsHistory, NamesSectors, EndsBy}
 
 module _ (s t : DiskState) (narrows : Narrows journal_log s t) where
   pub history_narrows : (size : ℕ) (h : List Database) (floor : ℕ) → ShowsHistory size h floor s → ShowsHistory size h floor t

@@ -1,11 +1,7 @@
 -- What calls of a disk leave as it was.
-use Rattle.std.proofs.Common.{⊎_elim, ℕ, ◌∷◌, sym, subst, []}
-use Rattle.std.specs.Prelude.{Result, Ok, Err, Bool, true, false}
-use Rattle.recovery.proofs.Words.{IsSectorSize, DiskState, IsSoundDisk, Change, write, Log, DiskError, Suits, Later, TellsRefusal, suits_by, later_still, later_then, later_write}
-use Rattle.rollcore.specs.Changes.{Asks}
-use Rattle.rollcore.specs.internal.Opening.{PutsZero, BreakSteps}
-use Rattle.rollcore.specs.declared.error.RollError.{RollError}
-use Rattle.rollcore.specs.declared.error.RollError.TheVariants.{Device}
+use Rattle.std.proofs.Common.{⊎_elim, ℕ, ◌∷◌, sym, subst, [], Result, Ok, Err, Bool, true, false}
+use Rattle.rollcore.proofs.Words.{IsSectorSize, DiskState, IsSoundDisk, write, Log, DiskError, Suits, Later, TellsRefusal, suits_by, later_still, later_then, later_write, Asks, PutsZero, BreakSteps, RollError, Device}
+use Rattle.recovery.proofs.Words.{Change}
 
 pub sectors_go : {May : Change → Type 0} (a b : DiskState) → Later May a b → IsSectorSize a.sector → IsSectorSize b.sector
 sectors_go a b goes sectors = subst IsSectorSize (sym goes.sector) sectors

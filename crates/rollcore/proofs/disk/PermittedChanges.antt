@@ -1,10 +1,7 @@
 -- What may be asked of a disk, among more that may.
 use Rattle.std.proofs.Common.{◌≡◌, inl, inr, ℕ, ◌+◌, ◌-◌, ◌≤◌, List, [], ◌∷◌, ◌++◌, length, replicate, refl}
-use Rattle.sqjournal.specs.Header.{header_bytes}
-use Rattle.sqjournal.specs.declared.header.JournalHeader.{JournalHeader}
-use Rattle.recovery.proofs.Words.{longest, Change, write, Log}
-use Rattle.rollcore.specs.Changes.{MayReplay, MayRecover, MayCommit}
-use Rattle.rollcore.specs.Journaling.{record_bytes}
+use Rattle.rollcore.proofs.Words.{header_bytes, JournalHeader, longest, write, Log, MayReplay, MayRecover, MayCommit, record_bytes}
+use Rattle.recovery.proofs.Words.{Change}
 
 pub recover_may : (size : ℕ) (change : Change) → MayReplay size change → MayRecover size change
 recover_may size change may = inl may

@@ -1,11 +1,7 @@
 -- Calls of a disk, one after another: that one was refused is told.
-use Rattle.std.proofs.Common.{◌≡◌, ⊎_elim, ℕ, ◌≤◌, ◌*◌, List, replicate, length, refl, sym, subst, arith}
-use Rattle.std.specs.Prelude.{Result, Ok, Err}
-use Rattle.std.proofs.lemmas.Bool.{cases_lt}
-use Rattle.recovery.proofs.Words.{most_bytes, DiskState, IsSoundDisk, Change, write, sync, counted, File, Log, DiskError, Still, Later, TellsRefusal, SyncStep, later_same, later_then, later_still, later_wider, later_write, sync_later, ZeroSteps, tells_called, tells_ok, tells_again}
-use Rattle.rollcore.specs.Changes.{Asks}
-use Rattle.rollcore.specs.declared.error.RollError.{RollError}
-use Rattle.rollcore.specs.declared.error.RollError.TheVariants.{Device}
+use Rattle.std.proofs.Common.{◌≡◌, ⊎_elim, ℕ, ◌≤◌, ◌*◌, List, length, sym, subst, arith, Result, Ok, Err}
+use Rattle.rollcore.proofs.Words.{cases_lt, most_bytes, DiskState, IsSoundDisk, sync, counted, File, DiskError, Still, Later, TellsRefusal, SyncStep, later_same, later_then, later_still, later_wider, sync_later, tells_called, tells_ok, tells_again, Asks, RollError, Device}
+use Rattle.recovery.proofs.Words.{Change}
 
 -- ---- That a call was refused is told.
 
@@ -61,13 +57,3 @@ module _ {May : Change → Type 0} where
 
     pub asks_then : (v : U) (a b c : DiskState) → r ≡ Ok v → Asks May r a b → Asks May q b c → Asks May q a c
     asks_then v a b c was first second = record { later = later_then a b c first.later second.later; told = told_then q r v a b c was first.told second.told }
-
-  -- the journal's first header is zeroed
-  pub asks_zeros : {T : Type 0} (q : Result T RollError) (a b : DiskState) → May (write Log 0 (replicate 28 0)) → May (sync Log) → IsSoundDisk a → ZeroSteps Device 28 q a b → Asks May q a b
-  asks_zeros {T = T} q a b zeros syncs sound steps = ⊎_elim
-      (λ failed. record { later = later_write Log 0 (replicate 28 0) failed.0 a b zeros sound failed.3; told = tells_called Device failed.0 q a b failed.3.elsewhere.refused failed.2 })
-      (λ done.
-      let first : Later May a done.0 = later_write Log 0 (replicate 28 0) (Ok done.1.0) a done.0 zeros sound done.1.1 in
-      let none : Asks {T = T} May (Ok done.1.0) a done.0 = record { later = first; told = tells_ok Device (Ok done.1.0) (Ok done.1.0) done.1.0 a done.0 refl done.1.1.elsewhere.refused } in
-      asks_then q (Ok done.1.0) done.1.0 a done.0 b refl none (asks_step Log q done.0 b syncs first.sound done.2))
-      steps

@@ -1,20 +1,12 @@
 -- The records of a segment come durable.
-use Rattle.std.proofs.Common.{◌≡◌, ◌⊎◌, inl, inr, ⊎_elim, ℕ, ◌+◌, ◌-◌, ◌≤◌, true, false, List, ◌∷◌, length, get_or, sym, ◌∙◌, ap, subst, arith, []}
-use Rattle.std.specs.Prelude.{Result, Ok, Err, Bool}
-use Rattle.recovery.proofs.Words.{Database, FileState, byte, written, DiskState, ArePresent, Log, DiskError, table, written_inside, written_outside, present_steady, present_written, present_list, Still, SyncStep, present_byte, sync_refused, sector_some, refusal_after, suits_syncs}
-use Rattle.sqjournal.specs.Journal.{records_end, AreRecords}
-use Rattle.rollcore.specs.internal.Opening.{PutsZero, BreakSteps}
-use Rattle.rollcore.specs.Journaling.{old_pages, sizes, next_place}
-use Rattle.rollcore.specs.internal.Journaling.{SameBelow}
-use Rattle.rollcore.specs.internal.Segments.{IsAt, Recording, Recorded, Ended, Prepared, KeepsParts, Harmless}
-use Rattle.rollcore.specs.declared.error.RollError.{RollError}
+use Rattle.std.proofs.Common.{◌≡◌, ◌⊎◌, inl, inr, ⊎_elim, ℕ, ◌+◌, ◌-◌, ◌≤◌, true, false, List, ◌∷◌, length, get_or, sym, ◌∙◌, ap, subst, arith, [], Result, Ok, Err, Bool}
+use Rattle.rollcore.proofs.Words.{Database, FileState, byte, written, DiskState, ArePresent, Log, DiskError, table, written_inside, written_outside, present_steady, present_written, present_list, Still, SyncStep, present_byte, sync_refused, sector_some, refusal_after, suits_syncs, records_end, AreRecords, PutsZero, BreakSteps, old_pages, sizes, next_place, SameBelow, IsAt, Recording, Recorded, Ended, Prepared, KeepsParts, Harmless, RollError, Device}
 use Rattle.rollcore.proofs.replays.FinalSteps.{sync_down}
 use Rattle.rollcore.proofs.journal.UnharmedOldDatabase.{at_by}
 use Rattle.rollcore.proofs.journal.WritesBehindHeader.{recording_still, recording_writes, recording_syncs, recording_unharmed}
 use Rattle.rollcore.proofs.journal.WholeSegments.{records_same, next_above, next_of}
 use Rattle.rollcore.proofs.journal.JournalWithNewHeader.{journaled_same, parts_kept}
 use Rattle.rollcore.proofs.journal.RestoredDatabase.{zero_gate}
-use Rattle.rollcore.specs.declared.error.RollError.TheVariants.{Device}
 
 module _ (size sector : ℕ) (d : Database) (named : List ℕ) (place : ℕ) (w part : List ℕ) (nonce : ℕ) where
   abbrev pub next : ℕ

@@ -1,19 +1,6 @@
 -- The headers of a journal, and journals that say the same.
-use Rattle.std.proofs.Common.{◌≡◌, ◌⊎◌, inl, inr, ⊎_elim, ℕ, ◌+◌, ◌-◌, ◌*◌, ◌/◌, ◌<◌, ◌≤◌, min, List, [], ◌∷◌, length, get_or, take, drop, refl, sym, ◌∙◌, ap, subst, arith, length-drop}
-use Rattle.std.proofs.lemmas.List.{ext_get_or, get_or-take, get_or-drop, length-take}
-use Rattle.std.proofs.lemmas.Nat.{le-div}
-use Rattle.std.proofs.Math.Nat.{mul-le-mul_right}
-use Rattle.byteorder.specs.Endian.{big_number}
-use Rattle.recovery.proofs.Words.{part, word, IsPageSize, Database, Pages, file_page}
-use Rattle.sqjournal.specs.NonceSum.{nonce_sum}
-use Rattle.sqjournal.specs.Header.{next_header}
-use Rattle.sqjournal.specs.Journal.{Segment, Sizes, sizes_of, record_len, records_end, IsHeader, IsRecord, AreRecords, AreSegments, StopsAtHeader, StopsAtRecord, IsHot, IsJournal}
-use Rattle.sqjournal.specs.Restored.{all_records, last_content, IsRolledBack}
-use Rattle.std.specs.Prelude.{unwrap_or}
-use Rattle.sqjournal.specs.declared.reading.Why.{Why}
-use Rattle.sqjournal.specs.declared.reading.Why.TheVariants.{End, Header, Short, PageZero, Sum}
-use Rattle.sqjournal.proofs.read.JournalOfTakenBytes.{size_bounds}
-use Rattle.rollcore.specs.Alone.{HasHeaderAt}
+use Rattle.std.proofs.Common.{◌≡◌, ◌⊎◌, inl, inr, ⊎_elim, ℕ, ◌+◌, ◌-◌, ◌*◌, ◌/◌, ◌<◌, ◌≤◌, min, List, [], ◌∷◌, length, get_or, take, drop, refl, sym, ◌∙◌, ap, subst, arith, length-drop, ext_get_or, get_or-take, get_or-drop, length-take, unwrap_or}
+use Rattle.rollcore.proofs.Words.{le-div, mul-le-mul_right, big_number, part, word, IsPageSize, Database, Pages, file_page, nonce_sum, next_header, Segment, Sizes, sizes_of, record_len, records_end, IsHeader, IsRecord, AreRecords, AreSegments, StopsAtHeader, StopsAtRecord, IsHot, IsJournal, all_records, last_content, IsRolledBack, Why, End, Header, Short, PageZero, Sum, size_bounds, HasHeaderAt}
 
 -- ---- Headers lie in the journal.
 

@@ -1,21 +1,6 @@
 -- A log that journals pages does so while nothing below the next header changes; and once the header of a segment stands, it journals that too.
-use Rattle.std.proofs.Common.{◌≡◌, ◌⊎◌, inl, inr, ⊎_elim, ℕ, suc, ◌+◌, ◌-◌, ◌<◌, ◌≤◌, List, ◌∷◌, ◌++◌, length, get_or, drop, refl, sym, ◌∙◌, ap, subst, arith, []}
-use Rattle.std.specs.List.{Contains}
-use Rattle.std.proofs.lemmas.Bool.{cases_eq, cases_lt}
-use Rattle.std.proofs.lemmas.List.{append-nil, append_assoc, map-append, length-map, get_or-take, get_or-drop}
-use Rattle.std.proofs.lemmas.List.Elements.{Contains-push_cases}
-use Rattle.recovery.proofs.Words.{part, word, IsPageSize, Database, Pages, page}
-use Rattle.sqval.proofs.page.PageSizes.{one_of, is_page_size}
-use Rattle.sqjournal.specs.Header.{HasMagic, Names, header_bytes}
-use Rattle.sqjournal.specs.Journal.{Segment, Sizes, sizes_of, IsHeader, AreRecords, AreAll, AreSegments, IsHot, IsJournal}
-use Rattle.sqjournal.specs.Restored.{all_records}
-use Rattle.sqjournal.specs.declared.header.JournalHeader.{JournalHeader}
-use Rattle.sqjournal.proofs.read.JournalOfTakenBytes.{size_bounds}
-use Rattle.sqjournal.proofs.journal.DependenceOnPrefix.{part_front}
-use Rattle.rollcore.specs.Alone.{HasHeaderAt, AreWhole}
-use Rattle.crashdisk.specs.Keeps.{StandsWhole}
-use Rattle.rollcore.specs.Journaling.{old_pages, sizes, next_place, AreFull, HasParts}
-use Rattle.rollcore.specs.internal.Journaling.{IsJournaled, Tells, IsHeaderOf, IsPrepared, SameBelow}
+use Rattle.std.proofs.Common.{◌≡◌, ◌⊎◌, inl, inr, ⊎_elim, ℕ, suc, ◌+◌, ◌-◌, ◌<◌, ◌≤◌, List, ◌∷◌, ◌++◌, length, get_or, drop, refl, sym, ◌∙◌, ap, subst, arith, [], append-nil, append_assoc, get_or-take, get_or-drop}
+use Rattle.rollcore.proofs.Words.{Contains, cases_eq, cases_lt, map-append, length-map, Contains-push_cases, part, word, IsPageSize, Database, Pages, page, one_of, is_page_size, HasMagic, Names, header_bytes, Segment, Sizes, sizes_of, IsHeader, AreRecords, AreAll, AreSegments, IsHot, IsJournal, all_records, JournalHeader, size_bounds, part_front, HasHeaderAt, AreWhole, StandsWhole, old_pages, sizes, next_place, AreFull, HasParts, IsJournaled, Tells, IsHeaderOf, IsPrepared, SameBelow}
 use Rattle.rollcore.proofs.journal.EquivalentJournals.{hot_long}
 use Rattle.rollcore.proofs.journal.WholeSegments.{part_at, word_at, end_within, next_of, records_kept, full_kept, full_begun, full_none, full_more, full_join, full_header}
 use Rattle.rollcore.proofs.journal.SegmentsFromAnyPlace.{magic_or, read, read_header}

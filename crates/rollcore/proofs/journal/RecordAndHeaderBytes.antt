@@ -1,14 +1,6 @@
 -- Records and headers as they are written, and what is a header's magic.
-use Rattle.std.proofs.Common.{◌≡◌, ⊎_elim, ℕ, ◌+◌, ◌^◌, ◌<◌, ◌≤◌, List, length, get_or, take, drop, refl, sym, ◌∙◌, ap, arith, length-append, length-drop}
-use Rattle.std.proofs.lemmas.List.{take_at, drop_at, drop-drop, get_or-take, get_or-drop, get_or_past, length-take}
-use Rattle.std.proofs.lemmas.Bool.{cases_lt}
-use Rattle.byteorder.specs.Endian.{big_bytes, big_number}
-use Rattle.recovery.proofs.Words.{part, word}
-use Rattle.sqjournal.specs.NonceSum.{nonce_sum}
-use Rattle.sqjournal.specs.Header.{magic, HasMagic}
-use Rattle.sqjournal.specs.Journal.{Sizes, record_len, IsRecord}
-use Rattle.sqjournal.proofs.journal.WordsOfHeader.{four}
-use Rattle.rollcore.specs.Journaling.{record_bytes}
+use Rattle.std.proofs.Common.{◌≡◌, ⊎_elim, ℕ, ◌+◌, ◌^◌, ◌<◌, ◌≤◌, List, length, get_or, take, drop, refl, sym, ◌∙◌, ap, arith, length-append, length-drop, take_at, drop_at, drop-drop, get_or-take, get_or-drop, length-take}
+use Rattle.rollcore.proofs.Words.{get_or_past, cases_lt, big_bytes, big_number, part, word, nonce_sum, magic, HasMagic, Sizes, record_len, IsRecord, four, record_bytes}
 use Rattle.rollcore.proofs.journal.WholeSegments.{part_at, word_at}
 
 -- ---- The magic.

@@ -1,19 +1,6 @@
 -- Records of old pages go into the journal.
-use Rattle.std.proofs.Common.{◌≡◌, inl, inr, ⊎_elim, ℕ, suc, ◌+◌, ◌-◌, ◌*◌, ◌^◌, ◌<◌, ◌≤◌, List, ◌∷◌, ◌++◌, length, get_or, take, drop, refl, sym, ◌∙◌, ap, subst, arith, length-append, length-drop, []}
-use Rattle.std.specs.Prelude.{Result, Ok, Err}
-use Rattle.std.specs.List.{Contains}
-use Rattle.std.proofs.lemmas.List.{drop_all, take_all, drop_at, take_at, take_more, length-take-le, map-append, get_or-map, append-nil}
-use Rattle.std.proofs.lemmas.Grind.{same_number_lists}
-use Rattle.std.proofs.Math.Nat.{mul-le-mul_left, mul-le-mul_right}
-use Rattle.byteorder.specs.Endian.{big_bytes}
-use Rattle.recovery.proofs.Words.{part, most_bytes, Database, page, FileState, byte, written, longest, DiskState, IsSoundDisk, Writes, Looks, Db, Log, DiskError, table, written_inside, written_outside, present_steady, present_written, present_list, Still, present_byte, page_end, size_some, had_refusal, still_looks, refusal_after}
-use Rattle.sqjournal.specs.NonceSum.{nonce_sum}
-use Rattle.sqjournal.specs.Journal.{records_end, AreRecords, IsRecord}
-use Rattle.rollcore.specs.Journaling.{old_pages, sizes, record_bytes}
-use Rattle.rollcore.specs.internal.Segments.{IsAt, Recording, Recorded, LogsRecord, RecordStep, Harmless, pages_of, AreFresh}
-use Rattle.rollcore.specs.declared.changes.Change.{Change}
-use Rattle.rollcore.specs.declared.error.RollError.{RollError}
-use Rattle.rollcore.specs.declared.error.RollError.TheVariants.{Device}
+use Rattle.std.proofs.Common.{◌≡◌, inl, inr, ⊎_elim, ℕ, suc, ◌+◌, ◌-◌, ◌*◌, ◌^◌, ◌<◌, ◌≤◌, List, ◌∷◌, ◌++◌, length, get_or, take, drop, refl, sym, ◌∙◌, ap, subst, arith, length-append, length-drop, [], Result, Ok, Err, take_all, drop_at, take_at, length-take-le, append-nil}
+use Rattle.rollcore.proofs.Words.{Contains, drop_all, take_more, map-append, get_or-map, same_number_lists, mul-le-mul_left, mul-le-mul_right, big_bytes, part, most_bytes, Database, page, FileState, byte, written, longest, DiskState, IsSoundDisk, Writes, Looks, Db, Log, DiskError, table, written_inside, written_outside, present_steady, present_written, present_list, Still, present_byte, page_end, size_some, had_refusal, still_looks, refusal_after, nonce_sum, records_end, AreRecords, IsRecord, old_pages, sizes, record_bytes, IsAt, Recording, Recorded, LogsRecord, RecordStep, Harmless, pages_of, AreFresh, Change, RollError, Device}
 use Rattle.rollcore.proofs.journal.WritesBehindHeader.{recording_still, recording_writes, recording_unharmed}
 use Rattle.rollcore.proofs.journal.RecordAndHeaderBytes.{length-record, record_is}
 use Rattle.rollcore.proofs.journal.WholeSegments.{records_more, records_same, end_count}

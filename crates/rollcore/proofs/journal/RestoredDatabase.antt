@@ -1,24 +1,10 @@
 -- What a log that journals pages restores: the database whose pages they are.
-use Rattle.std.proofs.Common.{◌≡◌, ◌≢◌, ◌⊎◌, inl, inr, ⊎_elim, ℕ, zero, suc, ◌+◌, ◌<◌, ◌≤◌, cond, List, ◌∷◌, ◌++◌, length, get_or, reverse, refl, sym, ◌∙◌, ap, subst, arith, []}
-use Rattle.std.specs.Prelude.{◌==◌, Option, Some, None, unwrap_or}
-use Rattle.std.specs.List.{Contains}
-use Rattle.std.proofs.lemmas.Bool.{cases_eq}
-use Rattle.std.proofs.lemmas.Bool.Decides.{nat_tests}
-use Rattle.std.proofs.lemmas.List.{reverse-append, map-append}
-use Rattle.std.proofs.lemmas.List.Elements.{Contains-push, Contains-append_left}
-use Rattle.recovery.proofs.Words.{word, IsPageSize, Database, Pages, page, file_page, supplied, file_count, ShowsWhole}
-use Rattle.sqjournal.specs.Header.{HasMagic}
-use Rattle.sqjournal.specs.Journal.{Segment, Sizes, AreSegments, IsHot}
-use Rattle.sqjournal.specs.Restored.{all_records, last_content, IsRolledBack}
-use Rattle.sqjournal.proofs.read.JournalOfTakenBytes.{size_bounds}
-use Rattle.rollcore.specs.Replaying.{zeroed}
-use Rattle.rollcore.specs.Journaling.{old_pages, sizes}
-use Rattle.rollcore.specs.internal.Journaling.{IsJournaled, Tells, HasOthers}
+use Rattle.std.proofs.Common.{◌≡◌, ◌≢◌, ◌⊎◌, inl, inr, ⊎_elim, ℕ, zero, suc, ◌+◌, ◌<◌, ◌≤◌, cond, List, ◌∷◌, ◌++◌, length, get_or, reverse, refl, sym, ◌∙◌, ap, subst, arith, [], ◌==◌, Option, Some, None, unwrap_or}
+use Rattle.rollcore.proofs.Words.{Contains, cases_eq, nat_tests, reverse-append, map-append, Contains-push, Contains-append_left, word, IsPageSize, Database, Pages, page, file_page, supplied, file_count, ShowsWhole, HasMagic, Segment, Sizes, AreSegments, IsHot, all_records, last_content, IsRolledBack, size_bounds, zeroed, old_pages, sizes, IsJournaled, Tells, HasOthers, journal_log}
 use Rattle.rollcore.proofs.journal.WholeSegments.{full_begun, full_ends, full_none}
 use Rattle.rollcore.proofs.journal.SegmentsFromAnyPlace.{stops_or}
 use Rattle.rollcore.proofs.journal.RecordAndHeaderBytes.{magic_byte}
 use Rattle.rollcore.proofs.journal.JournalWithNewHeader.{NamesFirst, sizes_are, begun_hot, old_none}
-use Rattle.rollcore.specs.Alone.{journal_log}
 
 -- ---- The content of a page that is named.
 

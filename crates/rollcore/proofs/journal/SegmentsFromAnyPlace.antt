@@ -1,17 +1,6 @@
 -- From any place on some segments are read.
 use Rattle.std.proofs.Common.{◌≡◌, ◌⊎◌, inl, inr, ⊎_elim, ℕ, zero, suc, ◌+◌, ◌<◌, ◌≤◌, List, [], ◌∷◌, length, refl, sym, ap, subst, arith}
-use Rattle.std.specs.Str.{bytes_eq}
-use Rattle.std.proofs.lemmas.Slice.Eq.{bytes_eq-Decides}
-use Rattle.std.proofs.lemmas.Bool.{cases_Bool, cases_eq, cases_lt}
-use Rattle.std.proofs.lemmas.Bool.Decides.{not_from_Decides}
-use Rattle.recovery.proofs.Words.{part, word, Pages}
-use Rattle.sqjournal.specs.NonceSum.{nonce_sum}
-use Rattle.sqjournal.specs.Header.{magic, HasMagic}
-use Rattle.sqjournal.specs.Journal.{Segment, Sizes, to_the_end, record_len, records_end, IsHeader, IsRecord, AreRecords, StopsAtHeader, StopsAtRecord, AreSegments}
-use Rattle.sqjournal.specs.declared.reading.Why.{Why}
-use Rattle.sqjournal.specs.declared.reading.Why.TheVariants.{End, Header, Short, PageZero, Sum}
-use Rattle.rollcore.specs.Alone.{HasHeaderAt}
-use Rattle.rollcore.specs.Journaling.{next_place}
+use Rattle.rollcore.proofs.Words.{bytes_eq, bytes_eq-Decides, cases_Bool, cases_eq, cases_lt, not_from_Decides, part, word, Pages, nonce_sum, magic, HasMagic, Segment, Sizes, to_the_end, record_len, records_end, IsHeader, IsRecord, AreRecords, StopsAtHeader, StopsAtRecord, AreSegments, Why, End, Header, Short, PageZero, Sum, HasHeaderAt, next_place}
 use Rattle.rollcore.proofs.journal.WholeSegments.{next_of}
 
 -- ---- Tests.

@@ -1,14 +1,6 @@
 -- The calls that bring a segment's header durable.
-use Rattle.std.proofs.Common.{◌≡◌, ℕ, ◌+◌, ◌-◌, ◌^◌, ◌≤◌, List, ◌++◌, length, replicate, refl, ◌∙◌, arith}
-use Rattle.std.specs.Prelude.{Result, Ok, Err}
-use Rattle.recovery.proofs.Words.{Database, DiskState, Writes, Syncs, Log, DiskError, had_refusal, refusal_after}
-use Rattle.sqjournal.specs.Header.{Names, header_bytes}
-use Rattle.sqjournal.specs.declared.header.JournalHeader.{JournalHeader}
-use Rattle.sqjournal.proofs.read.JournalOfTakenBytes.{size_bounds}
-use Rattle.rollcore.specs.Journaling.{old_pages, sizes, next_place}
-use Rattle.rollcore.specs.internal.Journaling.{IsHeaderOf}
-use Rattle.rollcore.specs.internal.Segments.{Unharmed, Harmless, Journaled, Prepared, Heading, AddsPart}
-use Rattle.rollcore.specs.declared.error.RollError.TheVariants.{Device}
+use Rattle.std.proofs.Common.{◌≡◌, ℕ, ◌+◌, ◌-◌, ◌^◌, ◌≤◌, List, ◌++◌, length, replicate, refl, ◌∙◌, arith, Result, Ok, Err}
+use Rattle.rollcore.proofs.Words.{Database, DiskState, Writes, Syncs, Log, DiskError, had_refusal, refusal_after, Names, header_bytes, JournalHeader, size_bounds, old_pages, sizes, next_place, IsHeaderOf, Unharmed, Harmless, Journaled, Prepared, Heading, AddsPart, Device}
 use Rattle.rollcore.proofs.journal.UnharmedOldDatabase.{sectors_of, unharmed_by}
 use Rattle.rollcore.proofs.journal.WrittenSegmentHeader.{heading_writes, headed, heading_syncs, heading_down}
 use Rattle.rollcore.proofs.journal.WholeSegments.{next_of}

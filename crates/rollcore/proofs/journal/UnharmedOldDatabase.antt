@@ -1,12 +1,7 @@
 -- What is left while a segment of the journal is written shows the database from before the commit.
 use Rattle.std.proofs.Common.{◌≡◌, ◌⊎◌, inl, inr, ⊎_elim, ℕ, ◌+◌, ◌*◌, Bool, List, ◌++◌, length, get_or, sym, ◌∙◌, subst, arith}
-use Rattle.std.proofs.lemmas.List.Elements.{Contains-append_left}
-use Rattle.recovery.proofs.Words.{word, IsPageSize, Database, page, FileState, IsImage, DiskState, IsSteady, Suits, page_at, page_by_bytes, MayBeRead}
-use Rattle.rollcore.specs.internal.Journaling.{Tells, HasOthers}
-use Rattle.rollcore.specs.internal.Segments.{Unharmed, StandOthers, IsAt}
+use Rattle.rollcore.proofs.Words.{Contains-append_left, word, IsPageSize, Database, page, FileState, IsImage, DiskState, IsSteady, Suits, page_at, page_by_bytes, MayBeRead, Tells, HasOthers, Unharmed, StandOthers, IsAt, image_listed, journal_log}
 use Rattle.rollcore.proofs.journal.RestoredDatabase.{shows, sector_told}
-use Rattle.crashdisk.proofs.sync.BytesOfSyncedLog.{image_listed}
-use Rattle.rollcore.specs.Alone.{journal_log}
 
 pub image_read : (s : DiskState) (w : List ℕ) → MayBeRead journal_log s w → IsImage s.sector s.tears s.log w
 image_read s w (inl listed) = image_listed s.sector s.tears s.log w listed

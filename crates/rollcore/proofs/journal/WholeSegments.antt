@@ -1,14 +1,6 @@
 -- Whole segments of a journal, from a place up to where the next header may stand.
-use Rattle.std.proofs.Common.{◌≡◌, ◌⊎◌, inl, inr, ℕ, ◌+◌, ◌-◌, ◌*◌, ◌/◌, ◌<◌, ◌≤◌, List, [], ◌∷◌, ◌++◌, length, get_or, drop, refl, sym, ◌∙◌, ap, subst, arith, length-drop}
-use Rattle.std.proofs.lemmas.List.{ext_get_or, get_or-take, get_or-drop, length-take-le}
-use Rattle.std.proofs.Math.Nat.{lt-div-mul-add}
-use Rattle.byteorder.specs.Endian.{big_number}
-use Rattle.recovery.proofs.Words.{part, word, Pages}
-use Rattle.sqjournal.specs.Header.{next_header}
-use Rattle.sqjournal.specs.Journal.{Segment, Sizes, record_len, records_end, IsHeader, IsRecord, AreRecords, AreAll, AreSegments, StopsAtHeader}
-use Rattle.sqjournal.specs.declared.reading.Why.{Why}
-use Rattle.rollcore.specs.Alone.{HasHeaderAt}
-use Rattle.rollcore.specs.Journaling.{next_place, AreFull}
+use Rattle.std.proofs.Common.{◌≡◌, ◌⊎◌, inl, inr, ℕ, ◌+◌, ◌-◌, ◌*◌, ◌/◌, ◌<◌, ◌≤◌, List, [], ◌∷◌, ◌++◌, length, get_or, drop, refl, sym, ◌∙◌, ap, subst, arith, length-drop, ext_get_or, get_or-take, get_or-drop, length-take-le}
+use Rattle.rollcore.proofs.Words.{lt-div-mul-add, big_number, part, word, Pages, next_header, Segment, Sizes, record_len, records_end, IsHeader, IsRecord, AreRecords, AreAll, AreSegments, StopsAtHeader, Why, HasHeaderAt, next_place, AreFull}
 
 -- ---- Parts.
 

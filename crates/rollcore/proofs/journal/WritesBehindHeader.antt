@@ -1,17 +1,8 @@
 -- What is written behind the place of a header.
-use Rattle.std.proofs.Common.{◌≡◌, inl, inr, ℕ, ◌+◌, ◌*◌, ◌/◌, ◌<◌, ◌≤◌, Bool, List, length, get_or, sym, ap, subst, arith}
-use Rattle.std.specs.Prelude.{Result}
-use Rattle.std.proofs.Math.Nat.{div-lt_iff_lt-mul}
-use Rattle.recovery.proofs.Words.{Database, DiskState, Writes, Syncs, Log, DiskError, settled_one, steady_writes, steady_syncs, Still, sector_some, still_sound, suits_by, suits_writes, suits_syncs, MayBeRead}
-use Rattle.crashdisk.specs.State.{FileState, IsImage, Meets}
-use Rattle.crashdisk.specs.internal.Facts.{Steady, IsSteady, Spreads, IsClear}
-use Rattle.crashdisk.proofs.call.WritesInOneRange.{started, then_write, then_sync}
-use Rattle.rollcore.specs.internal.Journaling.{Tells}
-use Rattle.rollcore.specs.internal.Segments.{Unharmed, IsAt, Journaled, Recording}
-use Rattle.crashdisk.proofs.page.ClearPlacesOfPage.{untouched}
+use Rattle.std.proofs.Common.{◌≡◌, inl, inr, ℕ, ◌+◌, ◌*◌, ◌/◌, ◌<◌, ◌≤◌, Bool, List, length, get_or, sym, ap, subst, arith, Result}
+use Rattle.rollcore.proofs.Words.{div-lt_iff_lt-mul, Database, DiskState, Writes, Syncs, Log, DiskError, settled_one, steady_writes, steady_syncs, Still, sector_some, still_sound, suits_by, suits_writes, suits_syncs, MayBeRead, FileState, IsImage, Meets, Steady, IsSteady, Spreads, IsClear, started, then_write, then_sync, Tells, Unharmed, IsAt, Journaled, Recording, untouched, journal_log}
 use Rattle.rollcore.proofs.journal.UnharmedOldDatabase.{image_read, at_by, unharmed_still}
 use Rattle.rollcore.proofs.journal.JournalWithNewHeader.{journaled_same}
-use Rattle.rollcore.specs.Alone.{journal_log}
 
 -- places in one sector are all below the end of a sector, or none is
 below_sector : (sector k i j : ℕ) → 1 ≤ sector → i < k * sector → j / sector ≡ i / sector → j < k * sector

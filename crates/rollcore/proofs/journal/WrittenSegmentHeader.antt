@@ -1,24 +1,7 @@
 -- The header of a segment is written, and becomes durable.
-use Rattle.std.proofs.Common.{◌≡◌, ◌⊎◌, inl, inr, ⊎_elim, ℕ, ◌+◌, ◌-◌, ◌*◌, ◌/◌, ◌<◌, ◌≤◌, max, Bool, true, false, List, ◌∷◌, ◌++◌, length, get_or, replicate, refl, sym, ◌∙◌, ap, subst, arith, length-append, []}
-use Rattle.std.specs.Prelude.{Result, Ok, Err}
-use Rattle.std.proofs.lemmas.Bool.{cases_lt}
-use Rattle.std.proofs.lemmas.List.{get_or_append_left, get_or_past, length-replicate}
-use Rattle.std.proofs.lemmas.List.Elements.{Contains-append_left}
-use Rattle.std.proofs.lemmas.Nat.{div-mul-add}
-use Rattle.recovery.proofs.Words.{IsPageSize, Database, byte, IsImage, IsSound, WriteTouches, written, Changed, Spreads, Log, DiskError, alters_write, written_inside, present_list, present_written, suits_writes, suits_syncs, MayBeRead, written_read}
-use Rattle.sqjournal.specs.Header.{Names, header_bytes}
-use Rattle.sqjournal.specs.Journal.{records_end}
-use Rattle.sqjournal.specs.declared.header.JournalHeader.{JournalHeader}
-use Rattle.crashdisk.specs.Call.{DiskState, ArePresent, Writes, Syncs, SyncedBy, SinceSync}
-use Rattle.crashdisk.proofs.image.OriginOfImages.{table, comes}
-use Rattle.crashdisk.proofs.byte.SettledFiles.{settled_one, settled_synced}
-use Rattle.rollcore.specs.Alone.{AreWhole, journal_log}
-use Rattle.rollcore.specs.Journaling.{old_pages, sizes, next_place}
-use Rattle.rollcore.specs.internal.Journaling.{IsJournaled, Tells, IsHeaderOf}
-use Rattle.rollcore.specs.internal.Segments.{IsAt, Journaled, Prepared, Heading, AddsPart}
+use Rattle.std.proofs.Common.{◌≡◌, ◌⊎◌, inl, inr, ⊎_elim, ℕ, ◌+◌, ◌-◌, ◌*◌, ◌/◌, ◌<◌, ◌≤◌, max, Bool, true, false, List, ◌∷◌, ◌++◌, length, get_or, replicate, refl, sym, ◌∙◌, ap, subst, arith, length-append, [], Result, Ok, Err}
+use Rattle.rollcore.proofs.Words.{cases_lt, get_or_append_left, get_or_past, length-replicate, Contains-append_left, div-mul-add, IsPageSize, Database, byte, IsImage, IsSound, WriteTouches, written, Changed, Spreads, Log, DiskError, alters_write, written_inside, present_list, present_written, suits_writes, suits_syncs, MayBeRead, written_read, Names, header_bytes, records_end, JournalHeader, DiskState, ArePresent, Writes, Syncs, SyncedBy, SinceSync, table, comes, settled_one, settled_synced, AreWhole, journal_log, old_pages, sizes, next_place, IsJournaled, Tells, IsHeaderOf, IsAt, Journaled, Prepared, Heading, AddsPart, page_sector, sector_some, present_byte, present_image, log_syncs}
 use Rattle.rollcore.proofs.journal.EquivalentJournals.{hot_long}
-use Rattle.crashdisk.proofs.page.PlacesOfPages.{page_sector, sector_some}
-use Rattle.crashdisk.proofs.sync.BytesOfSyncedLog.{present_byte, present_image, log_syncs}
 use Rattle.rollcore.proofs.replays.FinalSteps.{sync_down}
 use Rattle.rollcore.proofs.journal.UnharmedOldDatabase.{at_by, sectors_of}
 use Rattle.rollcore.proofs.journal.WholeSegments.{next_of}

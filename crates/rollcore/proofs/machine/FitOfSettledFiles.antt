@@ -1,14 +1,8 @@
 -- A disk on which both files are durable fits the machine's beginning.
 use Rattle.std.proofs.Common.{◌≡◌, inr, ⊎_elim, ℕ, zero, suc, ◌<◌, ◌≤◌, Bool, true, List, [], ◌∷◌, get_or, refl, sym, ◌∙◌, subst, arith}
-use Rattle.std.proofs.lemmas.Bool.{cases_lt}
-use Rattle.recovery.proofs.Words.{word, IsPageSize, Database, IsJust, IsHeld, IsSectorSize, IsSettled, IsImage, DiskState, IsNew, Suits, IsLogDurable, sound_new, settled_one, down_read, MayBeRead, ShowsWhole}
-use Rattle.sqjournal.specs.Journal.{IsHot}
-use Rattle.rollcore.specs.Machine.{start}
-use Rattle.rollcore.specs.Fits.{NamesSectors, FitsDisk}
-use Rattle.rollcore.specs.Replaying.{TearsJournal}
+use Rattle.rollcore.proofs.Words.{cases_lt, word, IsPageSize, Database, IsJust, IsHeld, IsSectorSize, IsSettled, IsImage, DiskState, IsNew, Suits, IsLogDurable, sound_new, settled_one, down_read, MayBeRead, ShowsWhole, IsHot, start, NamesSectors, FitsDisk, TearsJournal, journal_log}
 use Rattle.rollcore.proofs.openings.ErasedMagic.{magic_long}
 use Rattle.rollcore.proofs.openings.RecoveredFiles.{fits_rested}
-use Rattle.rollcore.specs.Alone.{journal_log}
 
 held_at : (size : ℕ) (base : Database) → IsHeld size base → (i : ℕ) → i < 1 → IsHeld size (get_or (base ∷ []) i [])
 held_at size base held zero lt = held

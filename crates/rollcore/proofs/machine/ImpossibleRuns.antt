@@ -1,11 +1,6 @@
 -- What is no run of the machine.
-use Rattle.std.proofs.Common.{◌≡◌, ℕ, zero, suc, ◌<◌, ◌≤◌, List, [], ◌∷◌, length, get_or, refl, subst, arith, inl, inr, Option, true}
-use Rattle.std.specs.Prelude.{None}
-use Rattle.sqval.specs.Database.{page}
-use Rattle.recovery.proofs.Words.{IsHeld, Refuses}
-use Rattle.rollcore.specs.Alone.{Show}
-use Rattle.rollcore.specs.Machine.{start, opened, committed, appended, closed, refusal_of}
-use Rattle.rollcore.specs.Rows.{three, NoLostCommit, NoHalf}
+use Rattle.std.proofs.Common.{◌≡◌, ℕ, zero, suc, ◌<◌, ◌≤◌, List, [], ◌∷◌, length, get_or, refl, subst, arith, inl, inr, Option, true, None}
+use Rattle.rollcore.proofs.Words.{page, IsHeld, Refuses, Show, start, opened, committed, appended, closed, refusal_of, three, NoLostCommit, NoHalf}
 use Rattle.rollcore.proofs.machine.StepsOfRun.{after, opening, first_opening}
 use Rattle.rollcore.proofs.openings.RecoveredFiles.{same_count, same_page}
 

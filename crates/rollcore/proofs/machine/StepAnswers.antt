@@ -1,8 +1,6 @@
 -- What a step may answer, and that it leads to one state alone.
 use Rattle.std.proofs.Common.{inl, inr, ℕ, true, false, List, refl, ◌∙◌, ap}
-use Rattle.recovery.proofs.Words.{Pages, page, Files, Answer, Done, Page, Refused, PlainStep, told, IsOf, refused_of, accepted, IsExpected, newest}
-use Rattle.rollcore.specs.Machine.{Act, Opens, Commits, Reads, Crashes, Sets, State, closed, appended, commit_refusal, read_refusal, OpenStep, CommitStep, ReadStep, Step}
-use Rattle.rollcore.specs.Laws.{expected, takes_memory, needs_disk}
+use Rattle.rollcore.proofs.Words.{Pages, page, Files, Answer, Done, Page, Refused, PlainStep, told, IsOf, refused_of, accepted, IsExpected, newest, Act, Opens, Commits, Reads, Crashes, Sets, State, closed, appended, commit_refusal, read_refusal, OpenStep, CommitStep, ReadStep, Step, expected, takes_memory, needs_disk}
 
 open_of : (s : State) (found : Files) (answer : Answer) (b a : ℕ) (t : State) → OpenStep s found answer b a t → IsOf Done true true answer b a
 open_of s found Done b a t h = inl refl

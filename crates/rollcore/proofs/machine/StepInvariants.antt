@@ -1,9 +1,6 @@
 -- What each step of the machine keeps.
-use Rattle.std.proofs.Common.{◌≡◌, ℕ, ◌+◌, ◌<◌, ◌≤◌, List, ◌∷◌, ◌++◌, length, take, refl, sym, ◌∙◌, ap, subst, arith, length-append, length-take, lit<, []}
-use Rattle.std.proofs.lemmas.List.{take-append-le, take-take}
-use Rattle.recovery.proofs.Words.{Database, apply, Answer, Moment, Runs, newest}
-use Rattle.rollcore.specs.Machine.{Act, State, start, closed, Step}
-use Rattle.rollcore.specs.Laws.{IsSane, Keeps}
+use Rattle.std.proofs.Common.{◌≡◌, ℕ, ◌+◌, ◌<◌, ◌≤◌, List, ◌∷◌, ◌++◌, length, take, refl, sym, ◌∙◌, ap, subst, arith, length-append, length-take, lit<, [], take-take}
+use Rattle.rollcore.proofs.Words.{take-append-le, Database, apply, Answer, Moment, Runs, newest, Act, State, start, closed, Step, IsSane, Keeps}
 use Rattle.rollcore.proofs.machine.StepTargets.{Targets, step_in}
 
 -- ---- The floor is a place of the history.

@@ -1,7 +1,6 @@
 -- Where one step may lead.
 use Rattle.std.proofs.Common.{◌≡◌, inl, inr, ℕ, ◌<◌, ◌≤◌, Bool, true, false, List, length, Option, Some, None, refl, sym, subst}
-use Rattle.recovery.proofs.Words.{Pages, Files, Answer, Done, Page, Refused, Refuses, PlainStep}
-use Rattle.rollcore.specs.Machine.{Act, Opens, Commits, Reads, Crashes, Sets, State, opened, closed, appended, committed, commit_refusal, read_refusal, OpenStep, CommitStep, ReadStep, Step}
+use Rattle.rollcore.proofs.Words.{Pages, Files, Answer, Done, Page, Refused, Refuses, PlainStep, Act, Opens, Commits, Reads, Crashes, Sets, State, opened, closed, appended, committed, commit_refusal, read_refusal, OpenStep, CommitStep, ReadStep, Step}
 
 -- P holds of each state that a step may lead to
 pub record Targets (P : State → Type 0) (s : State) : Type 0 where

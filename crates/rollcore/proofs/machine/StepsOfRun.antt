@@ -1,9 +1,6 @@
 -- The steps of a run, one after another.
 use Rattle.std.proofs.Common.{◌≡◌, ℕ, ◌<◌, ◌≤◌, List, [], ◌∷◌, length, refl, subst, arith}
-use Rattle.recovery.proofs.Words.{Files, Answer, Done, Moment, Runs, at}
-use Rattle.rollcore.specs.Alone.{Show}
-use Rattle.rollcore.specs.Machine.{Act, Opens, State, opened, start, Step}
-use Rattle.rollcore.specs.Rows.{IsRunOn, three}
+use Rattle.rollcore.proofs.Words.{Files, Answer, Done, Moment, Runs, at, Show, Act, Opens, State, opened, start, Step, IsRunOn, three}
 
 -- these moments are a run on from here
 pub record Leads (s : State) (before : ℕ) (ms : List (Moment Act)) : Type 0 where

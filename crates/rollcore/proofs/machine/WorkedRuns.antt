@@ -1,9 +1,6 @@
 -- Worked runs, step by step.
 use Rattle.std.proofs.Common.{◌≡◌, ℕ, true, List, ◌∷◌, length, Option, Some, None, refl, inl, inr, lit<, lit≤, []}
-use Rattle.sqval.specs.Database.{page}
-use Rattle.recovery.proofs.Words.{HasCause, Refuses, refuses_first}
-use Rattle.rollcore.specs.Machine.{refusal_of}
-use Rattle.rollcore.specs.Rows.{Committed, Stopped, StoppedLate, CallsRefused}
+use Rattle.rollcore.proofs.Words.{page, HasCause, Refuses, refuses_first, refusal_of, Committed, Stopped, StoppedLate, CallsRefused}
 use Rattle.rollcore.proofs.machine.StepsOfRun.{end, next, go, on_base}
 
 -- a commit of a page of the right length

@@ -1,24 +1,10 @@
 -- The first byte of a magic is made a zero at the front of a log that isn't hot: no log that may be read is.
-use Rattle.std.proofs.Common.{◌≡◌, inl, inr, ⊎_elim, ℕ, ◌+◌, ◌-◌, ◌/◌, ◌<◌, ◌≤◌, max, Bool, true, false, List, ◌∷◌, length, get_or, take, drop, refl, sym, ◌∙◌, ap, subst, arith, length-drop, length-take, []}
-use Rattle.std.specs.Prelude.{Result, Ok, Err}
-use Rattle.std.specs.List.{Contains}
-use Rattle.std.proofs.lemmas.List.{get_or-take, get_or-drop, get_or-append_right, ext_get_or}
-use Rattle.std.proofs.lemmas.List.Elements.{Contains-push_cases}
-use Rattle.std.proofs.lemmas.Bool.{cases_lt}
-use Rattle.recovery.proofs.Words.{word, Database, IsPageSize, FileState, byte, IsImage, IsSound, WriteTouches, written, Changed, IsSectorSize, DiskState, IsSoundDisk, ArePresent, Writes, InFile, Log, DiskError, settled_one, written_inside, written_outside, present_written, IsLogDurable, Still, Later, SyncStep, still_sound, refusal_after, down_by, down_present, present_byte, sync_refused, down_read, may_down, ShowsAlone, shows_by, narrows_syncs, written_read}
-use Rattle.sqjournal.specs.Header.{HasMagic}
-use Rattle.sqjournal.specs.Journal.{IsHot}
-use Rattle.crashdisk.proofs.byte.FixedBytes.{alters_write, whole_write}
-use Rattle.rollcore.specs.Alone.{AreWhole, Show, journal_log}
-use Rattle.rollcore.specs.internal.Lengths.{ShowsOne}
-use Rattle.rollcore.specs.Opening.{LosesMagic}
-use Rattle.rollcore.specs.internal.Opening.{PutsZero, BreakSteps, AreCold, FrontAnswer}
-use Rattle.rollcore.specs.declared.error.RollError.{RollError}
+use Rattle.std.proofs.Common.{◌≡◌, inl, inr, ⊎_elim, ℕ, ◌+◌, ◌-◌, ◌/◌, ◌<◌, ◌≤◌, max, Bool, true, false, List, ◌∷◌, length, get_or, take, drop, refl, sym, ◌∙◌, ap, subst, arith, length-drop, length-take, [], Result, Ok, Err, get_or-take, get_or-drop, ext_get_or}
+use Rattle.rollcore.proofs.Words.{Contains, get_or-append_right, Contains-push_cases, cases_lt, word, Database, IsPageSize, FileState, byte, IsImage, IsSound, WriteTouches, written, Changed, IsSectorSize, DiskState, IsSoundDisk, ArePresent, Writes, InFile, Log, DiskError, settled_one, written_inside, written_outside, present_written, IsLogDurable, Still, Later, SyncStep, still_sound, refusal_after, down_by, down_present, present_byte, sync_refused, down_read, may_down, ShowsAlone, shows_by, narrows_syncs, written_read, HasMagic, IsHot, alters_write, whole_write, AreWhole, Show, journal_log, ShowsOne, LosesMagic, PutsZero, BreakSteps, AreCold, FrontAnswer, RollError, Device}
 use Rattle.rollcore.proofs.journal.EquivalentJournals.{zeros_cold, part_same, word_same}
 use Rattle.rollcore.proofs.crash.ImagesOfSyncedLog.{down_left}
 use Rattle.rollcore.proofs.replays.FinalSteps.{sync_down}
 use Rattle.rollcore.proofs.disk.InvariantsOfCalls.{goes_broken}
-use Rattle.rollcore.specs.declared.error.RollError.TheVariants.{Device}
 
 -- a log with a magic at its front has eight bytes
 pub magic_long : (w : List ℕ) → HasMagic w 0 → 8 ≤ length w

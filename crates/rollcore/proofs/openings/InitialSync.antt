@@ -1,11 +1,6 @@
 -- An opening syncs the log before anything else.
-use Rattle.std.proofs.Common.{◌≡◌, inl, inr, subst, ℕ}
-use Rattle.std.specs.Prelude.{Result, Ok, Err, MatchResult}
-use Rattle.recovery.proofs.Words.{DiskState, Syncs, Log, DiskError, SyncStep, told_err, told_ok, Agrees}
-use Rattle.rollcore.specs.Opening.{AgreesSynced, RefusedSynced}
-use Rattle.rollcore.specs.declared.error.RollError.{RollError}
-use Rattle.rollcore.specs.declared.error.RollError.TheVariants.{Device}
-use Rattle.rollcore.specs.Alone.{journal_log}
+use Rattle.std.proofs.Common.{◌≡◌, inl, inr, subst, ℕ, Result, Ok, Err, MatchResult}
+use Rattle.rollcore.proofs.Words.{DiskState, Syncs, Log, DiskError, SyncStep, told_err, told_ok, Agrees, AgreesSynced, RefusedSynced, RollError, Device, journal_log}
 
 -- what an opening does, by its answer
 abbrev pub Opens : {U : Type 0} → Result U RollError → (old new : DiskState) → Type 0

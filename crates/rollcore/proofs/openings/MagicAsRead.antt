@@ -1,14 +1,6 @@
 -- What stands where a magic may stand, as it is read.
-use Rattle.std.proofs.Common.{◌≡◌, ⊎_elim, inl, inr, ℕ, ◌+◌, ◌<◌, ◌≤◌, Bool, List, ◌∷◌, length, get_or, take, drop, refl, sym, ◌∙◌, ap, subst, arith, length-drop, []}
-use Rattle.std.specs.Prelude.{Result, Err}
-use Rattle.std.proofs.lemmas.List.{ext_get_or, get_or-take, get_or-drop, length-take-le}
-use Rattle.std.proofs.lemmas.Bool.{cases_lt}
-use Rattle.recovery.proofs.Words.{part, FileState, byte, longest, DiskState, IsSoundDisk, ArePresent, Writes, Looks, Log, DiskError, Still, present_byte, had_refusal, refusal_after, still_looks, still_sound}
-use Rattle.sqjournal.specs.Header.{HasMagic, magic}
-use Rattle.crashdisk.proofs.call.SoundFileUnderChanges.{byte_past}
-use Rattle.rollcore.specs.internal.Opening.{PutsZero, BreakSteps}
-use Rattle.rollcore.specs.declared.error.RollError.{RollError}
-use Rattle.rollcore.specs.declared.error.RollError.TheVariants.{Device}
+use Rattle.std.proofs.Common.{◌≡◌, ⊎_elim, inl, inr, ℕ, ◌+◌, ◌<◌, ◌≤◌, Bool, List, ◌∷◌, length, get_or, take, drop, refl, sym, ◌∙◌, ap, subst, arith, length-drop, [], Result, Err, ext_get_or, get_or-take, get_or-drop, length-take-le}
+use Rattle.rollcore.proofs.Words.{cases_lt, part, FileState, byte, longest, DiskState, IsSoundDisk, ArePresent, Writes, Looks, Log, DiskError, Still, present_byte, had_refusal, refusal_after, still_looks, still_sound, HasMagic, magic, byte_past, PutsZero, BreakSteps, RollError, Device}
 
 module _ (w : List ℕ) (s : FileState) (at : ℕ) (front : List ℕ) (are : ArePresent s w) (eight : length front ≡ 8) (same : (i : ℕ) → i < length front → get_or front i 0 ≡ byte s (at + i)) where
   read_byte : (i : ℕ) → i < 8 → get_or front i 0 ≡ get_or w (at + i) 0

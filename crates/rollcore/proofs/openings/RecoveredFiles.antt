@@ -1,30 +1,6 @@
 -- What an opening has recovered, by its steps.
-use Rattle.std.proofs.Common.{◌≡◌, inl, inr, ⊎_elim, ℕ, ◌+◌, ◌-◌, ◌*◌, ◌<◌, ◌≤◌, Bool, true, false, cond, List, length, get_or, take, refl, sym, ◌∙◌, ap, subst, arith, Option, unwrap_or, []}
-use Rattle.std.specs.Prelude.{Result, Ok, Err, IsTrue, Some, MatchOption}
-use Rattle.std.proofs.lemmas.List.{get_or-take, ext_get_or, length-take-le}
-use Rattle.std.proofs.lemmas.Bool.{cases_eq}
-use Rattle.recovery.proofs.Words.{word, most_bytes, IsHeld, FileState, byte, IsImage, DiskState, IsSoundDisk, ArePresent, table, present_list, Suits, IsLogDurable, Still, SyncStep, Files, may_down, down_read, unwritten_begins, unwritten_still, unwritten_shows, present_image, down_present, down_by, file_syncs, sync_refused, Log, size_some, file_count, refusal_after, sector_within, AreFiles, MayRefuse, may_after, ShowsAlone, MayBeRead, ShowsWhole, shows_by, narrows_syncs, narrows_still, at, last, newest}
-use Rattle.sqval.specs.Database.{Database, page, file_page}
-use Rattle.sqjournal.specs.Header.{HasMagic}
-use Rattle.sqjournal.specs.Journal.{Segment, IsHot}
-use Rattle.sqjournal.specs.Restored.{all_records, last_content}
-use Rattle.sqjournal.proofs.read.UniquenessOfReading.{one_journal}
-use Rattle.rollcore.specs.Alone.{Show, journal_log}
-use Rattle.rollcore.specs.Changes.{MayRecover, Asks}
-use Rattle.rollcore.specs.internal.Plans.{IsBelow, IsSmall, IsPlanWithin, PlanAnswer, ReadAnswer}
-use Rattle.rollcore.specs.Replaying.{zeroed}
-use Rattle.rollcore.specs.internal.Steps.{torn_sector, RolledAnswer}
-use Rattle.rollcore.specs.Machine.{State, opened, closed}
-use Rattle.rollcore.specs.Refusal.{number_of}
-use Rattle.rollcore.specs.Fits.{ShowsHistory, FitsDisk, Rests, OpenedTo, GivenUpTo}
-use Rattle.rollcore.specs.declared.state.Core.{Core}
-use Rattle.rollcore.specs.Lengths.{EndsBy}
-use Rattle.rollcore.specs.internal.Lengths.{ShowsOne}
-use Rattle.rollcore.specs.internal.Opening.{CountAnswer, SizeJudged, FrontAnswer, RecoverAnswer, RecoveredAt, IsNewCore}
-use Rattle.rollcore.specs.declared.plan.Plan.{Plan}
-use Rattle.rollcore.specs.declared.replaying.Replayed.{Replayed}
-use Rattle.rollcore.specs.declared.error.RollError.{RollError}
-use Rattle.rollcore.specs.declared.error.RollError.TheVariants.{TooLarge, PageSize, NoMemory, Device, SectorAbovePage}
+use Rattle.std.proofs.Common.{◌≡◌, inl, inr, ⊎_elim, ℕ, ◌+◌, ◌-◌, ◌*◌, ◌<◌, ◌≤◌, Bool, true, false, cond, List, length, get_or, take, refl, sym, ◌∙◌, ap, subst, arith, Option, unwrap_or, [], Result, Ok, Err, IsTrue, Some, MatchOption, get_or-take, ext_get_or, length-take-le}
+use Rattle.rollcore.proofs.Words.{cases_eq, word, most_bytes, IsHeld, FileState, byte, IsImage, DiskState, IsSoundDisk, ArePresent, table, present_list, Suits, IsLogDurable, Still, SyncStep, Files, may_down, down_read, unwritten_begins, unwritten_still, unwritten_shows, present_image, down_present, down_by, file_syncs, sync_refused, Log, size_some, file_count, refusal_after, sector_within, AreFiles, MayRefuse, may_after, ShowsAlone, MayBeRead, ShowsWhole, shows_by, narrows_syncs, narrows_still, at, last, newest, Database, page, file_page, HasMagic, Segment, IsHot, all_records, last_content, one_journal, Show, journal_log, MayRecover, Asks, IsBelow, IsSmall, IsPlanWithin, PlanAnswer, ReadAnswer, zeroed, torn_sector, RolledAnswer, State, opened, closed, number_of, ShowsHistory, FitsDisk, Rests, OpenedTo, GivenUpTo, Core, EndsBy, ShowsOne, CountAnswer, SizeJudged, FrontAnswer, RecoverAnswer, RecoveredAt, IsNewCore, Plan, Replayed, RollError, TooLarge, PageSize, NoMemory, Device, SectorAbovePage}
 use Rattle.rollcore.proofs.openings.ErasedMagic.{zero_gate, lost_magic, cold_one}
 use Rattle.rollcore.proofs.crash.ImagesOfSyncedLog.{down_left}
 use Rattle.rollcore.proofs.replays.LengthOfDatabaseFile.{ends_down, named_by}

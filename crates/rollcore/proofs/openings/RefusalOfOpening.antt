@@ -1,17 +1,6 @@
 -- What refuses an opening, whatever stands on the disk.
-use Rattle.std.proofs.Common.{◌≡◌, ◌⊎◌, inl, inr, ⊎_elim, ℕ, ◌<◌, ◌≤◌, Bool, true, false, cond, List, length, refl, sym, ◌∙◌, ap, subst, arith}
-use Rattle.std.specs.Prelude.{Result, Ok, Err, IfErr, Option}
-use Rattle.recovery.proofs.Words.{word, FileState, DiskState, IsSoundDisk, ArePresent, Syncs, InFile, Log, DiskError, HadRefusal, KeepsBytes, IsLogDurable, Still, TearsPages, Later, SyncStep, most_bytes, sync_refused, told_ok, sync_later, refusal_after, present_in, present_synced, if_err, still_bytes}
-use Rattle.sqjournal.specs.Journal.{IsHot}
-use Rattle.rollcore.specs.internal.Steps.{torn_sector, RolledAnswer}
-use Rattle.rollcore.specs.internal.Plans.{IsFit, IsWithin, PlanAnswer, ReadAnswer}
-use Rattle.rollcore.specs.Replaying.{TearsJournal}
-use Rattle.rollcore.specs.Opening.{IsAboveLimit, RefusedFor, MayOpen, LeavesFiles}
-use Rattle.rollcore.specs.internal.Opening.{CountAnswer, SizeJudged, BreakSteps, FrontAnswer, FilesAnswer}
-use Rattle.rollcore.specs.declared.plan.Plan.{Plan}
-use Rattle.rollcore.specs.declared.replaying.Replayed.{Replayed}
-use Rattle.rollcore.specs.declared.error.RollError.{RollError}
-use Rattle.rollcore.specs.declared.error.RollError.TheVariants.{TooLarge, PageSize, NoMemory, Device, SectorAbovePage}
+use Rattle.std.proofs.Common.{◌≡◌, ◌⊎◌, inl, inr, ⊎_elim, ℕ, ◌<◌, ◌≤◌, Bool, true, false, cond, List, length, refl, sym, ◌∙◌, ap, subst, arith, Result, Ok, Err, IfErr, Option}
+use Rattle.rollcore.proofs.Words.{word, FileState, DiskState, IsSoundDisk, ArePresent, Syncs, InFile, Log, DiskError, HadRefusal, KeepsBytes, IsLogDurable, Still, TearsPages, Later, SyncStep, most_bytes, sync_refused, told_ok, sync_later, refusal_after, present_in, present_synced, if_err, still_bytes, IsHot, torn_sector, RolledAnswer, IsFit, IsWithin, PlanAnswer, ReadAnswer, TearsJournal, IsAboveLimit, RefusedFor, MayOpen, LeavesFiles, CountAnswer, SizeJudged, BreakSteps, FrontAnswer, FilesAnswer, Plan, Replayed, RollError, TooLarge, PageSize, NoMemory, Device, SectorAbovePage}
 use Rattle.rollcore.proofs.replays.AnswerOfParts.{tears_by, fits_whole, short, small}
 use Rattle.rollcore.proofs.replays.FinalSteps.{sync_down}
 

@@ -1,20 +1,8 @@
 -- What a read answers is what the newest database has.
-use Rattle.std.proofs.Common.{◌≡◌, ℕ, ◌+◌, ◌-◌, ◌*◌, ◌<◌, ◌≤◌, false, List, length, get_or, refl, sym, ◌∙◌, ap, subst, arith}
-use Rattle.std.specs.Prelude.{Result, Ok, Err, IfErr, Some, None}
-use Rattle.std.proofs.Math.Nat.{mul-le-mul_right}
-use Rattle.recovery.proofs.Words.{page, Answer, Page, Refused, byte, longest, DiskState, IsSoundDisk, Db, table, image_present, present_list, SameFiles, Still, TellsRefusal, present_byte, down_by, page_by_bytes, page_end, calls_wider, suits_by, none_above, is_zero, is_above, is_closed, refuses_first, refuses_cause, answered, newest}
-use Rattle.rollcore.specs.Machine.{State, Act, Reads, Step, read_refusal}
-use Rattle.rollcore.specs.Refusal.{number_of}
-use Rattle.crashdisk.specs.internal.Keeps.{PlaceAnswer}
-use Rattle.rollcore.specs.Paging.{ReadJudged, ReadAnswers}
-use Rattle.rollcore.specs.Fits.{FitsDisk, IsCore, FitsCore, Rests, StepsTo}
-use Rattle.rollcore.specs.declared.error.RollError.{RollError}
-use Rattle.rollcore.specs.declared.error.RollError.TheVariants.{Closed, PageZero, PageAboveSize, BadLength, Device}
-use Rattle.rollcore.specs.declared.state.Core.{Core}
+use Rattle.std.proofs.Common.{◌≡◌, ℕ, ◌+◌, ◌-◌, ◌*◌, ◌<◌, ◌≤◌, false, List, length, get_or, refl, sym, ◌∙◌, ap, subst, arith, Result, Ok, Err, IfErr, Some, None}
+use Rattle.rollcore.proofs.Words.{mul-le-mul_right, page, Answer, Page, Refused, byte, longest, DiskState, IsSoundDisk, Db, table, image_present, present_list, SameFiles, Still, TellsRefusal, present_byte, down_by, page_by_bytes, page_end, calls_wider, suits_by, none_above, is_zero, is_above, is_closed, refuses_first, refuses_cause, answered, newest, State, Act, Reads, Step, read_refusal, number_of, PlaceAnswer, ReadJudged, ReadAnswers, FitsDisk, IsCore, FitsCore, Rests, StepsTo, RollError, Closed, PageAboveSize, BadLength, Device, Core, still, same_files, same_sound, image_same, present_in, narrows_same, journal_log}
+use Rattle.rollcore.specs.declared.error.RollError.TheVariants.{PageZero}
 use Rattle.rollcore.proofs.crash.NarrowedImages.{history_narrows, sectors_narrow}
-use Rattle.crashdisk.proofs.call.UnchangingCalls.{still, same_files, same_sound, image_same, present_in}
-use Rattle.recovery.proofs.NarrowedImages.{narrows_same}
-use Rattle.rollcore.specs.Alone.{journal_log}
 
 -- ---- what fits a core still fits after calls that change nothing
 

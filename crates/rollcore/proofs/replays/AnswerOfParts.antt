@@ -1,30 +1,10 @@
 -- What a replay answers, of its parts.
-use Rattle.std.proofs.Common.{◌≡◌, ◌⊎◌, ⊎_elim, ℕ, ◌+◌, ◌-◌, ◌*◌, ◌<◌, ◌≤◌, Bool, true, false, cond, List, length, get_or, drop, replicate, refl, sym, ◌∙◌, ap, subst, arith, []}
-use Rattle.std.specs.Prelude.{Result, Ok, Err, Option, MatchOption, Some, None, IsTrue}
-use Rattle.std.specs.List.{flat_map}
-use Rattle.std.proofs.lemmas.List.{ext_get_or, get_or_append_left, get_or-replicate, length-replicate}
-use Rattle.std.proofs.Math.Nat.{mul-le-mul_right}
-use Rattle.recovery.proofs.Words.{word, FileState, byte, IsSettled, longest, DiskState, IsSoundDisk, ArePresent, Syncs, Looks, Log, DiskError, table, present_list, KeepsBytes, Still, refusal_after, present_in, had_refusal, down_by, down_syncs, Unwritten, ArePages}
-use Rattle.sqval.specs.Database.{Database, page}
-use Rattle.sqjournal.specs.Journal.{IsHot}
-use Rattle.sqjournal.specs.Restored.{IsRolledBack}
-use Rattle.sqjournal.specs.Took.{HasCount}
-use Rattle.crashdisk.proofs.call.SoundFileUnderChanges.{byte_below}
-use Rattle.rollcore.specs.Replaying.{TearsJournal, IsTooLargeWithin, zeroed, IsIdle, ReplayAnswer}
-use Rattle.rollcore.specs.internal.Steps.{torn_sector, EndAnswer, RolledAnswer}
-use Rattle.rollcore.specs.internal.Plans.{IsBelow, IsFit, IsPlan, IsPlanWithin, IsWithin, PlanAnswer, ReadAnswer}
-use Rattle.rollcore.specs.declared.plan.Plan.{Plan}
-use Rattle.rollcore.specs.declared.replaying.Replayed.{Replayed}
-use Rattle.rollcore.specs.declared.error.RollError.{RollError}
-use Rattle.rollcore.specs.declared.error.RollError.TheVariants.{TooLarge, NoMemory, Device, SectorAbovePage}
+use Rattle.std.proofs.Common.{◌≡◌, ◌⊎◌, ⊎_elim, ℕ, ◌+◌, ◌-◌, ◌*◌, ◌<◌, ◌≤◌, Bool, true, false, cond, List, length, get_or, drop, replicate, refl, sym, ◌∙◌, ap, subst, arith, [], Result, Ok, Err, Option, MatchOption, Some, None, IsTrue, ext_get_or}
+use Rattle.rollcore.proofs.Words.{flat_map, get_or_append_left, get_or-replicate, length-replicate, mul-le-mul_right, word, FileState, byte, IsSettled, longest, DiskState, IsSoundDisk, ArePresent, Syncs, Looks, Log, DiskError, table, present_list, KeepsBytes, Still, refusal_after, present_in, had_refusal, down_by, down_syncs, Unwritten, ArePages, Database, page, IsHot, IsRolledBack, HasCount, byte_below, TearsJournal, IsTooLargeWithin, zeroed, IsIdle, ReplayAnswer, torn_sector, EndAnswer, RolledAnswer, IsBelow, IsFit, IsPlan, IsPlanWithin, IsWithin, PlanAnswer, ReadAnswer, Plan, Replayed, RollError, TooLarge, NoMemory, Device, SectorAbovePage, has_count, journal_log, Writing, CopyAnswer}
 use Rattle.rollcore.proofs.journal.EquivalentJournals.{hot_long, zeros_cold}
 use Rattle.rollcore.proofs.replays.DecisivePrefixOfJournal.{read_count}
 use Rattle.rollcore.proofs.replays.ScanOfLogPrefix.{had_refusal_any}
-use Rattle.sqjournal.proofs.read.BytesTakenByReplay.{has_count}
-use Rattle.rollcore.specs.Alone.{journal_log}
-use Rattle.rollcore.specs.internal.Phases.{Writing}
 use Rattle.rollcore.proofs.replays.LastRecordOfPage.{flat_is, made_length, rolled_exists}
-use Rattle.recovery.specs.internal.Steps.{CopyAnswer}
 
 -- ---- What is planned is replayed.
 

@@ -1,21 +1,7 @@
 -- A journal of which a front was read behind which no bytes change what it says.
-use Rattle.std.proofs.Common.{◌≡◌, inr, ⊎_elim, ℕ, ◌+◌, ◌≤◌, List, [], ◌∷◌, ◌++◌, length, refl, sym, ◌∙◌, ap, subst, arith, length-append}
-use Rattle.std.specs.Prelude.{Option, Some, None}
-use Rattle.std.proofs.lemmas.List.{append-nil}
-use Rattle.std.proofs.lemmas.Bool.{cases_lt}
-use Rattle.recovery.proofs.Words.{word, IsPageSize}
-use Rattle.sqjournal.specs.Header.{next_header, Names}
-use Rattle.sqjournal.specs.Journal.{Segment, Sizes, sizes_of, records_end, AreSegments, IsHot, IsFirst, entries, entry_of}
-use Rattle.sqjournal.specs.Took.{Took, Says, IsSettled, HasEntry, HasCount}
-use Rattle.sqjournal.specs.declared.header.JournalHeader.{JournalHeader}
-use Rattle.sqjournal.specs.declared.reading.Record.{Record}
-use Rattle.sqjournal.specs.declared.reading.Why.{Why}
-use Rattle.sqjournal.specs.declared.reading.Why.TheVariants.{End, Header}
-use Rattle.sqjournal.specs.declared.replay.Replay.{Replay}
-use Rattle.sqjournal.specs.declared.replay.Stop.{Stop}
-use Rattle.sqjournal.proofs.read.JournalOfTakenBytes.{size_bounds}
-use Rattle.sqjournal.proofs.journal.DependenceOnPrefix.{part_more, word_more}
-use Rattle.rollcore.specs.internal.Steps.{HasRead}
+use Rattle.std.proofs.Common.{◌≡◌, inr, ⊎_elim, ℕ, ◌+◌, ◌≤◌, List, [], ◌∷◌, ◌++◌, length, refl, sym, ◌∙◌, ap, subst, arith, length-append, Option, Some, None, append-nil}
+use Rattle.rollcore.proofs.Words.{cases_lt, word, IsPageSize, next_header, Names, Segment, Sizes, sizes_of, records_end, AreSegments, IsHot, IsFirst, entries, entry_of, Took, Says, HasEntry, HasCount, JournalHeader, Record, Why, End, Header, Replay, Stop, size_bounds, part_more, word_more, HasRead}
+use Rattle.sqjournal.specs.Took.{IsSettled}
 use Rattle.rollcore.proofs.journal.EquivalentJournals.{hot_long}
 use Rattle.rollcore.proofs.journal.WholeSegments.{end_above, next_of}
 

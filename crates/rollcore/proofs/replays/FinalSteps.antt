@@ -1,13 +1,6 @@
 -- The end of a replay: the database is synced, and the journal's first header zeroed and synced.
-use Rattle.std.proofs.Common.{◌≡◌, inr, ⊎_elim, ℕ, ◌+◌, ◌-◌, ◌≤◌, List, length, get_or, drop, replicate, refl, sym, ◌∙◌, ap, subst, arith, length-append, length-drop}
-use Rattle.std.specs.Prelude.{Result, Ok, Err}
-use Rattle.std.proofs.lemmas.List.{length-replicate, get_or-replicate, get_or_append_left, get_or-append_right, get_or-drop}
-use Rattle.std.proofs.lemmas.Bool.{cases_lt}
-use Rattle.recovery.proofs.Words.{FileState, IsSettled, DiskState, IsSoundDisk, ArePresent, Writes, Syncs, InFile, Db, Log, DiskError, present_written, written_inside, written_outside, sound_writes, HadRefusal, IsLogDurable, Later, SyncStep, refusal_after, present_byte, synced_down, told_ok, none_ok, sync_later, sync_done, ZeroSteps, zero_db}
-use Rattle.rollcore.specs.Replaying.{zeroed}
-use Rattle.rollcore.specs.internal.Steps.{EndAnswer}
-use Rattle.rollcore.specs.declared.error.RollError.{RollError}
-use Rattle.rollcore.specs.declared.error.RollError.TheVariants.{Device}
+use Rattle.std.proofs.Common.{◌≡◌, inr, ⊎_elim, ℕ, ◌+◌, ◌-◌, ◌≤◌, List, length, get_or, drop, replicate, refl, sym, ◌∙◌, ap, subst, arith, lit≤, length-append, length-drop, Result, Ok, Err, get_or-drop}
+use Rattle.rollcore.proofs.Words.{length-replicate, get_or-replicate, get_or_append_left, get_or-append_right, cases_lt, FileState, DiskState, IsSoundDisk, ArePresent, Writes, Syncs, InFile, Db, Log, DiskError, present_written, written_inside, written_outside, sound_writes, IsLogDurable, Later, SyncStep, present_byte, synced_down, told_ok, none_ok, sync_later, ZeroSteps, EndSteps, ended, end_refused, end_settled, zeroed, EndAnswer, RollError, Device}
 
 module _ {T : Type 0} where
   -- ---- The header is zeroed.
@@ -15,7 +8,7 @@ module _ {T : Type 0} where
   zero_present : (u : T) (w : List ℕ) (a b : DiskState) → ArePresent a.log w → 28 ≤ length w → Writes Log 0 (replicate 28 0) (Ok u) a b → ArePresent b.log (zeroed w)
   zero_present u w a b are enough wrote =
       let front : length {A = ℕ} (replicate 28 0) ≡ 28 = length-replicate {A = ℕ} 28 0 in
-      let long : length (zeroed w) ≡ length w = omega (arith, length-append {A = ℕ} (replicate 28 0) (drop 28 w), front, length-drop 28 w) in
+      let long : length (zeroed w) ≡ length w = omega (arith, lit≤, length-append {A = ℕ} (replicate 28 0) (drop 28 w), front, length-drop 28 w) in
       record {
         len = omega (arith, long, are.len, wrote.file.1.len, front, enough);
         each = λ i lt. ⊎_elim
@@ -46,14 +39,12 @@ module _ {T : Type 0} where
 
   -- ---- All of it.
 
-  pub end_refused : {U : Type 0} (r : Result T RollError) (q : Result U RollError) (e : RollError) (a b c : DiskState) → a.refused ≤ b.refused → q ≡ Err e → (e ≡ Device) × HadRefusal b c → EndAnswer q a c
+  pub end_answer : (r : Result T RollError) (a b : DiskState) → IsSoundDisk a → EndSteps Device 28 r a b → EndAnswer r a b
   unfolding EndAnswer
-  end_refused {U = U} r q e a b c le is had = subst (λ (x : Result U RollError). EndAnswer x a c) (sym is) (had.0, refusal_after a b c le had.1)
-
-  pub end_done : (r1 r2 : Result T RollError) (v1 v2 : T) (a b c : DiskState) → IsSoundDisk a → r1 ≡ Ok v1 → r2 ≡ Ok v2 → SyncStep Device Db r1 a b → ZeroSteps Device 28 r2 b c → EndAnswer {T = T} (Ok v2) a c
-  unfolding EndAnswer
-  end_done r1 r2 v1 v2 a b c sound is1 is2 first second =
-      let at_b : Later (InFile Db) a b = sync_later Device Db r1 a b refl sound first in (
-        λ db are. subst (λ (s : FileState). IsSettled s db) (sym (zero_db Device 28 r2 b c second)) (sync_done Device Db r1 v1 db a b sound is1 first are),
-        λ w are enough. zero_done r2 v2 w b c at_b.sound is2 second (subst (λ (s : FileState). ArePresent s w) (sym first.2.elsewhere.other) are) enough,
+  end_answer (Ok v) a b sound steps =
+      let done = ended Device 28 v a b steps in
+      let mid : Later (InFile Db) a done.0 = sync_later Device Db (Ok done.1.0) a done.0 refl sound done.1.1 in (
+        λ db are. end_settled Device 28 (Ok v) a b steps v db sound refl are,
+        λ w are enough. zero_done (Ok v) v w done.0 b mid.sound refl done.2 (subst (λ (s : FileState). ArePresent s w) (sym done.1.1.2.elsewhere.other) are) enough,
       )
+  end_answer (Err e) a b sound steps = end_refused Device 28 (Err e) a b steps (lit≤ tt) e sound refl

@@ -1,23 +1,6 @@
 -- The records of a journal: which is the last that names a page, and the database that they restore.
-use Rattle.std.proofs.Common.{◌≡◌, ◌≢◌, ◌⊎◌, inl, inr, ⊎_elim, ℕ, zero, suc, ◌+◌, ◌-◌, ◌*◌, ◌<◌, ◌≤◌, Bool, true, false, cond, List, ◌∷◌, ◌++◌, map, length, get_or, take, drop, reverse, refl, sym, ◌∙◌, ap, subst, arith, length-drop, []}
-use Rattle.std.specs.Prelude.{Option, Some, None, unwrap_or, slice_get, ◌==◌}
-use Rattle.std.specs.List.{range_with_len, flat_map}
-use Rattle.std.proofs.lemmas.List.{reverse-append, map-append, get_or-drop, get_or-take, take-append-drop, length-take-le, ext_get_or}
-use Rattle.std.proofs.Math.Seq.{take-add}
-use Rattle.std.proofs.lemmas.Option.{get_or_from_slice_get, slice_get-get_or, slice_get_within}
-use Rattle.std.proofs.lemmas.List.FromFn.{get_or-map-range_with_len, length-map-range_with_len}
-use Rattle.std.proofs.lemmas.Bool.{cases_lt}
-use Rattle.std.proofs.lemmas.Bool.Decides.{nat_tests}
-use Rattle.recovery.proofs.Words.{part, word, length-file_page}
-use Rattle.sqval.specs.Database.{Database, Pages, page, file_page, supplied}
-use Rattle.sqjournal.specs.Header.{next_header}
-use Rattle.sqjournal.specs.Journal.{Segment, Sizes, sizes_of, record_len, records_end, AreRecords, AreSegments, IsHot, IsJournal, placed, entries, entry_of}
-use Rattle.sqjournal.specs.Restored.{all_records, last_content, IsRolledBack}
-use Rattle.sqjournal.specs.Took.{HasEntry, HasCount}
-use Rattle.sqjournal.specs.declared.reading.Record.{Record}
-use Rattle.sqjournal.specs.declared.reading.Why.{Why}
-use Rattle.sqjournal.proofs.journal.RecordsOfEntries.{content_at, contents}
-use Rattle.sqjournal.proofs.read.UniquenessOfReading.{one_journal}
+use Rattle.std.proofs.Common.{◌≡◌, ◌≢◌, ◌⊎◌, inl, inr, ⊎_elim, ℕ, zero, suc, ◌+◌, ◌-◌, ◌*◌, ◌<◌, ◌≤◌, Bool, true, false, cond, List, ◌∷◌, ◌++◌, map, length, get_or, take, drop, reverse, refl, sym, ◌∙◌, ap, subst, arith, length-drop, [], Option, Some, None, unwrap_or, slice_get, ◌==◌, get_or-drop, get_or-take, take-append-drop, length-take-le, ext_get_or}
+use Rattle.rollcore.proofs.Words.{range_with_len, flat_map, reverse-append, map-append, take-add, get_or_from_slice_get, slice_get-get_or, slice_get_within, get_or-map-range_with_len, length-map-range_with_len, cases_lt, nat_tests, part, word, length-file_page, Database, Pages, page, file_page, supplied, next_header, Segment, Sizes, sizes_of, record_len, records_end, AreRecords, AreSegments, IsHot, IsJournal, placed, entries, entry_of, all_records, last_content, IsRolledBack, HasEntry, HasCount, Record, Why, content_at, contents, one_journal}
 
 -- ---- Lists.
 
@@ -214,7 +197,7 @@ named_or records p = by (last_content records p)
 -- ---- The database that is restored.
 
 -- page p after these entries
-pub made : (w db : List ℕ) → List Record → (p : ℕ) → List ℕ
+unfoldable pub made : (w db : List ℕ) → List Record → (p : ℕ) → List ℕ
 made w db es p = unwrap_or (last_content (records_of w es) p) (file_page (word w 24) db p)
 
 module _ (w db : List ℕ) (segments : List Segment) (end : ℕ) (why : Why) (is : IsJournal w segments end why) (hot : IsHot w) where
@@ -247,11 +230,6 @@ module _ (w db : List ℕ) (segments : List Segment) (end : ℕ) (why : Why) (is
       each = λ p a b. get_or-map-range_with_len page_of 1 (word w 16) (p - 1) p [] (omega (arith, length-map-range_with_len page_of 1 (word w 16))) (omega arith);
     },
   )
-
--- no entry yet
-pub made_none : (w db : List ℕ) (p : ℕ) → made w db [] p ≡ file_page (word w 24) db p
-unfolding made
-made_none w db p = refl
 
 -- one entry more
 module _ (w db : List ℕ) (es : List Record) (k : ℕ) (r : Record) (is : slice_get es k ≡ Some r) where

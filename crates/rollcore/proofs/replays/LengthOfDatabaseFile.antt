@@ -1,20 +1,10 @@
 -- How long the file is that may be left, while a journal is replayed into it.
-use Rattle.std.proofs.Common.{◌≡◌, ⊎_elim, ℕ, ◌*◌, ◌≤◌, Bool, true, false, cond, List, ◌∷◌, length, get_or, replicate, sym, ◌∙◌, ap, subst, arith, [], refl}
-use Rattle.std.specs.Prelude.{Result, Ok, Err}
-use Rattle.std.proofs.lemmas.List.{length-replicate}
-use Rattle.recovery.proofs.Words.{word, Database, IsImage, IsSound, IsSectorSize, DiskState, IsSoundDisk, Writes, Syncs, InFile, sound_writes, Db, Log, DiskError, image_elsewhere, IsLogDurable, IsLong, Later, Told, SyncStep, sector_some, down_syncs, sync_later, down_read, may_down, zero_at, ArePages, ZeroSteps, MayBeRead, narrows_syncs, Overwritten, written_read}
-use Rattle.sqjournal.specs.Journal.{IsHot}
-use Rattle.sqjournal.specs.Restored.{IsRolledBack}
-use Rattle.rollcore.specs.Alone.{AreWhole, journal_log}
-use Rattle.rollcore.specs.internal.Steps.{torn_sector}
-use Rattle.rollcore.specs.internal.Plans.{IsFit}
-use Rattle.rollcore.specs.Lengths.{EndsBy}
-use Rattle.rollcore.specs.declared.error.RollError.{RollError}
+use Rattle.std.proofs.Common.{◌≡◌, ⊎_elim, ℕ, ◌*◌, ◌≤◌, Bool, true, false, cond, List, ◌∷◌, length, get_or, replicate, sym, ◌∙◌, ap, subst, arith, [], refl, Result, Ok}
+use Rattle.rollcore.proofs.Words.{length-replicate, word, Database, IsImage, IsSound, IsSectorSize, DiskState, IsSoundDisk, Writes, Syncs, InFile, sound_writes, Db, Log, DiskError, image_elsewhere, IsLogDurable, IsLong, Later, SyncStep, sector_some, down_syncs, sync_later, down_read, may_down, zero_at, ArePages, ZeroSteps, MayBeRead, narrows_syncs, Overwritten, written_read, IsHot, IsRolledBack, AreWhole, journal_log, torn_sector, IsFit, EndsBy, EndSteps, long_done, RollError, Device}
 use Rattle.rollcore.proofs.journal.EquivalentJournals.{SameBehind, word_same}
 use Rattle.rollcore.proofs.disk.InvariantsOfCalls.{sectors_go}
 use Rattle.rollcore.proofs.crash.NarrowedImages.{ends_narrow}
 use Rattle.rollcore.proofs.replays.ZeroedHeader.{zeroed_listed, zeroed_torn}
-use Rattle.rollcore.specs.declared.error.RollError.TheVariants.{Device}
 
 -- where a hot journal names no smaller sectors than those that tear
 abbrev pub IsNamed : List ℕ → DiskState → Type 0
@@ -38,21 +28,9 @@ named_by w s t sector tears names torn = subst (λ (n : ℕ). n ≤ word w 20) (
 pub fit_named : (w : List ℕ) (s : DiskState) → IsFit (torn_sector s) w → IsNamed w s
 fit_named w s fit torn = subst (λ (b : Bool). cond b s.sector 0 ≤ word w 20) torn fit.sector
 
--- ---- the file is so long as it is when it is synced
-
 module _ {T : Type 0} (old new : DiskState) where
-  long_synced : (v : T) (called : Result T DiskError) → Told Device called (Ok v) → Syncs Db called old new → IsLong old.db.len new
-  long_synced v (Ok x) told synced db image =
-      let least : old.db.len ≤ length db = subst (λ (k : ℕ). k ≤ length db) synced.file.least image.least in
-      let greatest : length db ≤ old.db.len = subst (λ (k : ℕ). length db ≤ k) synced.file.greatest image.greatest in
-      omega arith
-  long_synced v (Err e) told synced db image = absurd told
-
-  pub long_done : (v : T) → SyncStep {T = T} Device Db (Ok v) old new → IsLong old.db.len new
-  long_done v step = long_synced v step.0 step.1 step.2
-
   -- a sync of the file, whatever was answered
-  pub ends_settled : (n : ℕ) (w : List ℕ) (r : Result T RollError) → SyncStep Device Db r old new → IsLogDurable old w → IsHot w → IsNamed w old → EndsBy n new
+  ends_settled : (n : ℕ) (w : List ℕ) (r : Result T RollError) → SyncStep Device Db r old new → IsLogDurable old w → IsHot w → IsNamed w old → EndsBy n new
   ends_settled n w r step durable hot names = ends_hot w new (down_syncs w Db step.0 old new durable step.2) n hot (named_by w old new step.2.elsewhere.sector step.2.elsewhere.tears names)
 
 -- ---- the header is zeroed
@@ -95,7 +73,7 @@ module _ (w : List ℕ) (old new : DiskState) (sound : IsSoundDisk old) (sectors
   }
 
 module _ {T : Type 0} (w : List ℕ) (old new : DiskState) (sound : IsSoundDisk old) (sectors : IsSectorSize old.sector) (durable : IsLogDurable old w) (hot : IsHot w) (names : IsNamed w old) where
-  pub ends_zeroed : (n : ℕ) (r : Result T RollError) → ZeroSteps Device 28 r old new → IsLong n old → EndsBy n new
+  ends_zeroed : (n : ℕ) (r : Result T RollError) → ZeroSteps Device 28 r old new → IsLong n old → EndsBy n new
   unfolding zeros
   ends_zeroed n r steps long = ⊎_elim
       (λ failed. ends_written w old new sound sectors durable hot names n failed.0 failed.3 long)
@@ -106,11 +84,13 @@ module _ {T : Type 0} (w : List ℕ) (old new : DiskState) (sound : IsSoundDisk 
       steps
 
 -- the file is synced, and then the header zeroed
-pub ends_finished : {T U : Type 0} (w : List ℕ) (old mid new : DiskState) → IsSoundDisk old → IsSectorSize old.sector → IsLogDurable old w → IsHot w → IsNamed w old → (v : T) → SyncStep {T = T} Device Db (Ok v) old mid
-    → (r : Result U RollError) → ZeroSteps Device 28 r mid new → EndsBy old.db.len new
-ends_finished {T = T} w old mid new sound sectors durable hot names v step r steps =
-    let goes : Later (InFile Db) old mid = sync_later Device Db (Ok v) old mid refl sound step in
-    ends_zeroed w mid new goes.sound (sectors_go old mid goes sectors) (down_syncs w Db step.0 old mid durable step.2) hot (named_by w old mid goes.sector goes.tears names) old.db.len r steps (long_done old mid v step)
+pub ends_ended : {T : Type 0} (w : List ℕ) (old new : DiskState) → IsSoundDisk old → IsSectorSize old.sector → IsLogDurable old w → IsHot w → IsNamed w old → (r : Result T RollError) → EndSteps Device 28 r old new → EndsBy old.db.len new
+ends_ended w old new sound sectors durable hot names r steps = ⊎_elim
+    (λ failed. ends_settled old new old.db.len w r failed.1 durable hot names)
+    (λ done.
+    let goes : Later (InFile Db) old done.0 = sync_later Device Db (Ok done.1.0) old done.0 refl sound done.1.1 in
+    ends_zeroed w done.0 new goes.sound (sectors_go old done.0 goes sectors) (down_syncs w Db done.1.1.0 old done.0 durable done.1.1.2) hot (named_by w old done.0 goes.sector goes.tears names) old.db.len r done.2 (long_done old.db.len Device done.1.0 old done.0 refl done.1.1))
+    steps
 
 -- the pages that a hot journal restores
 pub rolled_length : (w db : List ℕ) (d : Database) (n : ℕ) (b : DiskState) → ArePages n d b.db → IsRolledBack db w d → n ≡ word w 24 → b.db.len ≡ word w 16 * word w 24

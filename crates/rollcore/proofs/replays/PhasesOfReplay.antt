@@ -1,20 +1,7 @@
 -- The parts of a replay keep what shows one database.
-use Rattle.std.proofs.Common.{◌≡◌, ⊎_elim, ℕ, ◌+◌, ◌-◌, ◌*◌, ◌≤◌, Bool, true, cond, List, length, get_or, sym, ◌∙◌, ap, subst, arith}
-use Rattle.std.specs.Prelude.{Result, Ok, Err, Option, Some, unwrap_or}
-use Rattle.recovery.proofs.Words.{word, IsPageSize, Database, Pages, page, file_page, get_or-file_page, byte, IsSectorSize, DiskState, IsSoundDisk, Cuts, IsLogDurable, Still, Suits, SyncStep, Db, DiskError, table, image_present, suits_syncs, down_writes, down_cuts, down_syncs, ShowsAlone, Agrees, ArePages, Unwritten, Filling, filling_still, filling_writes, filling_cuts}
-use Rattle.sqjournal.specs.Journal.{Segment, IsHot}
-use Rattle.sqjournal.specs.Restored.{all_records, last_content, IsRolledBack}
-use Rattle.sqjournal.specs.Took.{HasEntry}
-use Rattle.sqjournal.specs.declared.reading.Record.{Record}
-use Rattle.sqjournal.proofs.read.UniquenessOfReading.{one_journal}
-use Rattle.recovery.proofs.PhasesOfRestore.{down_still, unwritten_begins, restoring_by, restoring_shows, restoring_syncs, restored_step}
-use Rattle.rollcore.specs.Alone.{journal_log}
-use Rattle.rollcore.specs.internal.Phases.{Unnamed, Writing, Filed}
-use Rattle.rollcore.specs.internal.Plans.{IsFit}
-use Rattle.rollcore.specs.internal.Steps.{torn_sector, PutsRun, RunAnswer}
-use Rattle.rollcore.specs.declared.error.RollError.{RollError}
-use Rattle.rollcore.specs.declared.error.RollError.TheVariants.{Device}
-use Rattle.rollcore.proofs.replays.LastRecordOfPage.{made_length, named_or, entries_of, records_are, entry_is, entry_named}
+use Rattle.std.proofs.Common.{◌≡◌, ⊎_elim, ℕ, ◌≤◌, Bool, true, cond, List, length, get_or, sym, ◌∙◌, ap, subst, arith, Result, Ok, Option, Some, unwrap_or}
+use Rattle.rollcore.proofs.Words.{word, IsPageSize, Database, page, file_page, get_or-file_page, byte, IsSectorSize, DiskState, IsSoundDisk, IsLogDurable, Suits, SyncStep, Db, table, image_present, suits_syncs, down_syncs, ShowsAlone, Agrees, ArePages, Unwritten, Filling, Segment, IsHot, all_records, last_content, IsRolledBack, one_journal, unwritten_begins, restoring_by, restoring_shows, restoring_syncs, restored_step, KeepsLog, down_by, filling_wider, IsLacking, journal_log, Unnamed, Writing, Filed, IsFit, torn_sector, RollError, Device}
+use Rattle.rollcore.proofs.replays.LastRecordOfPage.{made_length, named_or}
 
 pub agrees_by : (old new : DiskState) → ((size : ℕ) (w : List ℕ) (d : Database) → Unwritten journal_log size d w old → ShowsAlone journal_log size d new) → (size : ℕ) → Agrees journal_log size old new
 agrees_by old new shows size w d durable alone = shows size w d (unwritten_begins journal_log size d w old durable alone)
@@ -97,33 +84,12 @@ module _ (size : ℕ) (w : List ℕ) (d : Database) where
     pages = restoring_by journal_log size d (Unnamed (all_records is.segments)) w old new is.pages durable file;
   }
 
-  writing_still : (old new : DiskState) → Writing size w d old → Still old new → Writing size w d new
-  writing_still old new is still = writing_by old new is still.sector still.tears (down_still w old new still is.pages.durable) (filling_still size d (Unnamed (all_records is.segments)) old new is.pages.file still)
-
-  -- the length is set
-  pub writing_cuts : {T : Type 0} (n : ℕ) (result : Result T DiskError) (old new : DiskState) → Writing size w d old → n ≡ word w 16 * size → Cuts Db n result old new → Writing size w d new
-  writing_cuts n result old new is long cut = writing_by old new is cut.elsewhere.sector cut.elsewhere.tears (down_cuts w n result old new is.pages.durable cut)
-      (filling_cuts size d (Unnamed (all_records is.segments)) n result old new is.pages.file (long ∙ ap (λ k. k * size) (sym is.count)) cut)
-
-  -- the pages of entries from number i on
-  puts_run : (i k count : ℕ) (called : Result (Unit {0}) DiskError) (old new : DiskState) → 1 ≤ i → (is : Writing size w d old) → PutsRun size w count i k called old new → Writing size w d new
-  puts_run i k count called old new some is puts =
-      let mid = writing_still old puts.mid is puts.read in
-      writing_by puts.mid new mid puts.write.elsewhere.sector puts.write.elsewhere.tears (down_writes w ((puts.first.page - 1) * size) puts.bytes called puts.mid new mid.pages.durable puts.write)
-      (filling_writes size d (Unnamed (all_records mid.segments)) puts.first.page k puts.bytes called puts.mid new mid.pages.file puts.one
-      (λ j lt un.
-      let r : Record = record { page = puts.first.page + j; at = puts.first.at + j * (size + 8) } in
-      let has : HasEntry w (i + j - 1 + 1) (Some r) = subst (λ (n : ℕ). HasEntry w n (Some r)) (let e : i + j ≡ i + j - 1 + 1 = omega (arith, some) in e) (puts.are j lt) in
-      let found = entry_is w mid.segments mid.at mid.why mid.is (i + j - 1) r has in
-      entry_named w (entries_of w mid.segments) (i + j - 1) r found (ap (λ (l : Pages). last_content l r.page) (sym (records_are w mid.segments mid.at mid.why mid.is mid.hot)) ∙ un))
-      puts.long puts.write)
-
-  pub writing_run : (i count : ℕ) (result : Result ℕ RollError) (old new : DiskState) → 1 ≤ i → Writing size w d old → RunAnswer size w count i result old new → Writing size w d new
-  unfolding RunAnswer
-  writing_run i count (Ok k) old new some is answer = ⊎_elim
-      (λ none. subst (λ (s : DiskState). Writing size w d s) (sym none.2) is)
-      (λ puts. puts_run i k count (Ok (tt {0})) old new some is puts) answer
-  writing_run i count (Err e) old new some is answer = ⊎_elim (λ still. writing_still old new is still) (λ puts. puts_run i puts.0 count puts.1 old new some is puts.2) answer.2
+  -- the log is left alone
+  pub writing_keeps : (old new : DiskState) → Writing size w d old → KeepsLog old new → (Filling size d (IsLacking w) old → Filling size d (IsLacking w) new) → Writing size w d new
+  writing_keeps old new is keeps fills = writing_by old new is keeps.sector keeps.tears (down_by w old new is.pages.durable keeps.log keeps.tears keeps.kept keeps.handed)
+      (filling_wider size d (IsLacking w) (Unnamed (all_records is.segments)) new
+      (λ p un segments at why other. subst (λ (l : List Segment). Unnamed (all_records l) p) (sym (one_journal w segments is.segments at is.at why is.why other is.is).0) un)
+      (fills (filling_wider size d (Unnamed (all_records is.segments)) (IsLacking w) old (λ p lacks. lacks is.segments is.at is.why is.is) is.pages.file)))
 
   -- ---- The file is synced, or not.
 

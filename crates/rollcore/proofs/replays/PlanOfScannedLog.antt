@@ -1,18 +1,6 @@
 -- What a scanned journal is judged by, and what is planned of it.
-use Rattle.std.proofs.Common.{◌≡◌, ◌⊎◌, inl, inr, ⊎_elim, ℕ, ◌*◌, ◌/◌, ◌%◌, ◌<◌, ◌≤◌, List, sym, ◌∙◌, ap, subst, arith}
-use Rattle.std.proofs.Math.Nat.{div-mul-le_self, mod-eq-sub-div-mul}
-use Rattle.std.specs.Prelude.{Option, Some, None, Result, Ok, Err}
-use Rattle.recovery.proofs.Words.{word, DiskState}
-use Rattle.sqjournal.specs.Header.{Names}
-use Rattle.sqjournal.specs.Journal.{IsHot}
-use Rattle.sqjournal.specs.declared.header.JournalHeader.{JournalHeader}
-use Rattle.sqjournal.specs.declared.replay.Replay.{Replay}
-use Rattle.rollcore.specs.internal.Steps.{HasRead, ScanRefused, journal_scan}
-use Rattle.rollcore.specs.internal.Plans.{JudgeAnswer, PlanAnswer, ReadAnswer}
-use Rattle.rollcore.specs.declared.plan.Plan.{Plan}
-use Rattle.rollcore.specs.declared.error.RollError.{RollError}
-use Rattle.rollcore.specs.declared.error.RollError.TheVariants.{TooLarge, NoMemory, Device, SectorAbovePage}
-use Rattle.recovery.specs.Scanning.{ScanAnswer}
+use Rattle.std.proofs.Common.{◌≡◌, ◌⊎◌, inl, inr, ⊎_elim, ℕ, ◌*◌, ◌/◌, ◌%◌, ◌<◌, ◌≤◌, List, sym, ◌∙◌, ap, subst, arith, Option, Some, None, Result, Ok, Err}
+use Rattle.rollcore.proofs.Words.{div-mul-le_self, mod-eq-sub-div-mul, word, DiskState, Names, IsHot, JournalHeader, Replay, HasRead, ScanRefused, journal_scan, JudgeAnswer, PlanAnswer, ReadAnswer, Plan, RollError, TooLarge, NoMemory, Device, SectorAbovePage, ScanAnswer}
 
 module _ (most torn : ℕ) (w : List ℕ) (hot : IsHot w) (h : JournalHeader) (names : Names w h) where
   bytes_of : h.first_size * h.page_size ≡ word w 16 * word w 24

@@ -1,22 +1,10 @@
 -- What a scan of the first bytes of a log says of the log, and the count of refused calls.
-use Rattle.std.proofs.Common.{◌≡◌, inl, inr, ⊎_elim, ℕ, ◌+◌, ◌-◌, ◌^◌, ◌<◌, ◌≤◌, min, List, ◌++◌, length, take, drop, refl, sym, ◌∙◌, ap, subst, arith}
-use Rattle.std.specs.Prelude.{Bool, true, false, Result, Ok, Err}
-use Rattle.std.proofs.lemmas.List.{length-take-le, take-take, take-append-drop}
-use Rattle.std.proofs.lemmas.Bool.{cases_lt}
-use Rattle.recovery.proofs.Words.{IsPageSize, part, word, longest, DiskError, HadRefusal}
-use Rattle.sqjournal.specs.Header.{IsRefused}
-use Rattle.sqjournal.specs.Journal.{IsHot}
-use Rattle.sqjournal.specs.declared.error.JournalError.{JournalError}
-use Rattle.sqjournal.specs.declared.error.JournalError.TheVariants.{NotAJournal, SectorSize, PageSize, NoMemory, TooLong}
-use Rattle.sqjournal.proofs.journal.DependenceOnPrefix.{word_part}
-use Rattle.crashdisk.specs.Call.{DiskState, EndsWithin, counted}
-use Rattle.crashdisk.specs.declared.error.DiskError.TheVariants.{Stopped, Failed, TooLong as DiskTooLong, NoMemory as DiskNoMemory}
-use Rattle.rollcore.specs.internal.Steps.{IsWithoutHeader, ScanRefused, HasRead, journal_scan}
-use Rattle.rollcore.specs.declared.error.RollError.{RollError}
-use Rattle.rollcore.specs.declared.error.RollError.TheVariants.{TooLarge, NoMemory as WalNoMemory}
-use Rattle.sqjournal.specs.Took.{Took, Refuses, IsSettled}
-use Rattle.sqjournal.specs.declared.replay.Replay.{Replay}
-use Rattle.recovery.specs.Scanning.{PieceAnswer, ScanAnswer}
+use Rattle.std.proofs.Common.{◌≡◌, inl, inr, ⊎_elim, ℕ, ◌+◌, ◌-◌, ◌^◌, ◌<◌, ◌≤◌, min, List, ◌++◌, length, take, drop, refl, sym, ◌∙◌, ap, subst, arith, Bool, true, false, Result, Ok, Err, length-take-le, take-take, take-append-drop}
+use Rattle.rollcore.proofs.Words.{cases_lt, IsPageSize, part, word, longest, DiskError, HadRefusal, IsRefused, IsHot, JournalError, NotAJournal, SectorSize, TooLong, word_part, DiskState, EndsWithin, counted, Failed, IsWithoutHeader, ScanRefused, HasRead, journal_scan, RollError, TooLarge, Took, Replay, PieceAnswer, ScanAnswer}
+use Rattle.sqjournal.specs.declared.error.JournalError.TheVariants.{PageSize, NoMemory}
+use Rattle.crashdisk.specs.declared.error.DiskError.TheVariants.{Stopped, TooLong as DiskTooLong, NoMemory as DiskNoMemory}
+use Rattle.rollcore.specs.declared.error.RollError.TheVariants.{NoMemory as WalNoMemory}
+use Rattle.sqjournal.specs.Took.{Refuses, IsSettled}
 
 magic_front : (w : List ℕ) (n : ℕ) → n ≤ length w → 28 ≤ n → part (take n w) 0 8 ≡ part w 0 8
 magic_front w n fits long = take-take 8 n w (omega arith)

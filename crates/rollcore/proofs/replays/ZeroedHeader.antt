@@ -1,15 +1,7 @@
 -- While zeros are written over a journal's first header, the journal is what it was, or isn't hot.
-use Rattle.std.proofs.Common.{◌≡◌, ⊎_elim, ℕ, ◌+◌, ◌≤◌, max, Bool, true, false, List, [], ◌∷◌, length, get_or, replicate, sym, ◌∙◌, subst, arith}
-use Rattle.std.specs.Prelude.{Result}
-use Rattle.std.proofs.lemmas.List.{get_or_past, length-replicate}
-use Rattle.std.proofs.lemmas.Bool.{cases_lt}
-use Rattle.recovery.proofs.Words.{part, word, Database, FileState, IsImage, IsSound, WriteTouches, written, Changed, IsSettled, DiskState, sector_some, ShowsAlone, Repeats, ZeroSteps, may_down, restored_shows, zero_at, front_stands, front_bytes, front_listed, front_torn, zeroed_restored}
-use Rattle.sqjournal.specs.Journal.{IsHot}
-use Rattle.sqjournal.specs.Restored.{IsRestored}
-use Rattle.rollcore.specs.Alone.{AreWhole, journal_log}
-use Rattle.rollcore.specs.internal.Phases.{Filed}
-use Rattle.rollcore.specs.declared.error.RollError.{RollError}
-use Rattle.rollcore.specs.declared.error.RollError.TheVariants.{Device}
+use Rattle.std.proofs.Common.{◌≡◌, ⊎_elim, ℕ, ◌+◌, ◌≤◌, max, Bool, true, false, List, [], ◌∷◌, length, get_or, replicate, sym, ◌∙◌, subst, arith, Result}
+use Rattle.rollcore.proofs.Words.{get_or_past, length-replicate, cases_lt, part, word, Database, FileState, IsImage, IsSound, WriteTouches, written, Changed, IsSettled, DiskState, sector_some, ShowsAlone, Repeats, ZeroSteps, may_down, restored_shows, zero_at, front_stands, front_bytes, front_listed, front_torn, zeroed_restored, IsHot, IsRestored, AreWhole, journal_log, EndSteps, ArePages, Writing, Filed, RollError, Device}
+use Rattle.rollcore.proofs.replays.PhasesOfReplay.{synced_shows, synced_filed}
 use Rattle.rollcore.proofs.journal.EquivalentJournals.{hot_long, zeros_cold, SameBehind, hot_same, rolled_same, size_same}
 
 -- a journal that says the same restores the same
@@ -55,7 +47,7 @@ module _ (size : ℕ) (w : List ℕ) (d : Database) (old : DiskState) (is : File
   by_hot : (v : List ℕ) → (IsHot v → Repeats journal_log size d v) → Repeats journal_log size d v
   by_hot v repeats db file = record { hot = λ hot. (repeats hot db file).hot hot; cold = λ cold. file }
 
-  pub zeroed_shows : {T : Type 0} (result : Result T RollError) (new : DiskState) → ZeroSteps Device 28 result old new → ShowsAlone journal_log size d new
+  zeroed_shows : {T : Type 0} (result : Result T RollError) (new : DiskState) → ZeroSteps Device 28 result old new → ShowsAlone journal_log size d new
   zeroed_shows result new steps =
       let wide : 512 ≤ old.sector = sector_some old.sector is.suits.sectors in
       let n : length {A = ℕ} (replicate 28 0) ≡ 28 = length-replicate {A = ℕ} 28 0 in
@@ -66,3 +58,10 @@ module _ (size : ℕ) (w : List ℕ) (d : Database) (old : DiskState) (is : File
       let same = zeroed_torn old.sector w (replicate 28 0) old.log s.log wide is.durable.settled is.hot n (zero_at 28) is.suits.sound.log after changed v (is.sectors torn) image whole hot in
       restored_same size db w v d same is.hot (here db file)))
       Device result new steps)
+
+-- the file is synced, and the header zeroed, or not
+pub end_shows : {T : Type 0} (size : ℕ) (w : List ℕ) (d : Database) (result : Result T RollError) (old new : DiskState) → Writing size w d old → ArePages size d old.db → EndSteps Device 28 result old new → ShowsAlone journal_log size d new
+end_shows size w d result old new is pages steps = ⊎_elim
+    (λ failed. synced_shows size w d result old new is failed.1)
+    (λ done. zeroed_shows size w d done.0 (synced_filed size w d done.1.0 old done.0 is pages done.1.1) result new done.2)
+    steps

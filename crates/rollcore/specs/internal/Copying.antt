@@ -17,21 +17,15 @@ use Rattle.rollcore.specs.internal.Phases.{Writing}
 use Rattle.recovery.specs.internal.Phases.{Unwritten}
 use Rattle.rollcore.specs.internal.Plans.{IsPlan, IsFit, IsPlanWithin}
 use Rattle.rollcore.specs.internal.Segments.{Journaled}
-use Rattle.rollcore.specs.internal.Steps.{HasRead, RunAnswer, EndAnswer, RolledAnswer, torn_sector}
+use Rattle.rollcore.specs.internal.Steps.{HasRead, EndAnswer, RolledAnswer, torn_sector}
 use Rattle.rollcore.specs.declared.plan.Plan.{Plan}
 use Rattle.rollcore.specs.declared.replaying.Replayed.{Replayed}
 use Rattle.rollcore.specs.declared.error.RollError.{RollError}
-use Rattle.recovery.specs.internal.Files.{ArePages}
-use Rattle.recovery.specs.internal.Steps.{CopyAnswer}
+use Rattle.recovery.specs.Files.{ArePages}
+use Rattle.recovery.specs.Steps.{CopyAnswer}
 use Rattle.rollcore.specs.declared.error.RollError.TheVariants.{Device}
 use Rattle.recovery.specs.Logs.{ShowsAlone}
 use Rattle.rollcore.specs.Alone.{journal_log}
-
--- the page of entry number i, or more from it on, are copied, where they are pages of a database of so many
-pub record CopiesRun (size : ℕ) (scan : Replay) (count i : ℕ) (result : Result ℕ RollError) (old new : DiskState) : Type 0 where
-  pub log : KeepsLog old new
-  pub asks : (most : ℕ) → count * size ≤ most → Asks (MayReplayWithin most size) result old new
-  pub pages : (w : List ℕ) → ArePresent old.log w → HasRead w scan → size ≡ word w 24 → count * size ≤ longest → RunAnswer size w count i result old new
 
 -- the pages of all entries are copied, and the length is set to so many
 pub record CopiesRecords {T : Type 0} (size : ℕ) (scan : Replay) (count : ℕ) (result : Result T RollError) (old new : DiskState) : Type 0 where

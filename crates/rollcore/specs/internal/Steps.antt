@@ -1,19 +1,14 @@
 -- What the parts of a replay do to a disk (fileformat2, 3).
-use Rattle.std.specs.Prelude.{◌≡◌, ◌⊎◌, ℕ, ◌+◌, ◌-◌, ◌*◌, ◌<◌, ◌≤◌, Bool, false, cond, List, [], ◌++◌, length, get_or, Result, Ok, Err, Option, MatchOption, Some}
-use Rattle.sqval.specs.Bytes.{part}
-use Rattle.sqval.specs.Database.{page}
+use Rattle.std.specs.Prelude.{◌≡◌, ◌⊎◌, ℕ, ◌<◌, ◌≤◌, Bool, false, cond, List, [], ◌++◌, length, Result, Ok, Err}
 use Rattle.sqjournal.specs.Journal.{IsHot}
-use Rattle.sqjournal.specs.Took.{Took, IsSettled as IsSettledFront, HasEntry}
-use Rattle.sqjournal.specs.declared.reading.Record.{Record}
+use Rattle.sqjournal.specs.Took.{Took, IsSettled as IsSettledFront}
 use Rattle.sqjournal.specs.declared.replay.Replay.{Replay}
 use Rattle.sqjournal.specs.declared.error.JournalError.{JournalError}
 use Rattle.sqjournal.specs.declared.error.JournalError.TheVariants.{TooLong, NoMemory}
 use Rattle.crashdisk.specs.State.{IsSettled, longest}
-use Rattle.crashdisk.specs.Call.{DiskState, ArePresent, Writes}
-use Rattle.crashdisk.specs.declared.file.File.TheVariants.{Db}
-use Rattle.crashdisk.specs.declared.error.DiskError.{DiskError}
+use Rattle.crashdisk.specs.Call.{DiskState, ArePresent}
 use Rattle.rollcore.specs.Replaying.{zeroed, IsRolled}
-use Rattle.crashdisk.specs.Keeps.{HadRefusal, IsLogDurable, Still}
+use Rattle.crashdisk.specs.Keeps.{HadRefusal, IsLogDurable}
 use Rattle.rollcore.specs.declared.replaying.Replayed.{Replayed}
 use Rattle.rollcore.specs.declared.error.RollError.{RollError}
 use Rattle.rollcore.specs.declared.error.RollError.TheVariants.{TooLarge, NoMemory as RollNoMemory, Device}
@@ -49,33 +44,6 @@ pub record HasRead (w : List ℕ) (s : Replay) : Type 0 where
 -- the scan of a journal, which counts where it is hot
 abbrev pub journal_scan : ScanKind Replay RollError
 journal_scan = record { Took = Took; Read = HasRead; Counts = IsHot; Refused = ScanRefused }
-
--- ---- The copying.
-
--- k entries of a journal from number i on hold the pages of the database from one on, and stand one behind the other: they are
--- read, and the pages are written to their places at once
-pub record PutsRun (size : ℕ) (w : List ℕ) (count i k : ℕ) (called : Result (Unit {0}) DiskError) (old new : DiskState) : Type 0 where
-  pub first : Record
-  pub one : 1 ≤ first.page
-  pub within : first.page - 1 + k ≤ count
-  pub are : (j : ℕ) → j < k → HasEntry w (i + j) (Some (record { page = first.page + j; at = first.at + j * (size + 8) }))
-  pub bytes : List ℕ
-  pub long : length bytes ≡ k * size
-  pub each : (j x : ℕ) → j < k → x < size → get_or bytes (j * size + x) 0 ≡ get_or (part w (first.at + j * (size + 8)) size) x 0
-  pub mid : DiskState
-  pub read : Still old mid
-  pub write : Writes Db ((first.page - 1) * size) bytes called mid new
-
--- entry number i is none of a page of the database
-pub record IsLeftOut (w : List ℕ) (count i : ℕ) : Type 0 where
-  pub entry : Option Record
-  pub has : HasEntry w i entry
-  pub out : MatchOption entry (Unit {0}) (λ r. (r.page ≡ 0) ⊎ (count < r.page))
-
--- so many entries from number i on were put, or it alone is left out
-unfoldable pub RunAnswer : (size : ℕ) → List ℕ → (count i : ℕ) → Result ℕ RollError → (old new : DiskState) → Type 0
-RunAnswer size w count i (Ok k) old new = ((k ≡ 1) × IsLeftOut w count i × (new ≡ old)) ⊎ PutsRun size w count i k (Ok tt) old new
-RunAnswer size w count i (Err e) old new = (e ≡ Device) × HadRefusal old new × (Still old new ⊎ ((k : ℕ) × (called : Result (Unit {0}) DiskError) × PutsRun size w count i k called old new))
 
 -- ---- The end.
 

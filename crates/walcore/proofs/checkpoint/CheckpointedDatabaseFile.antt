@@ -1,32 +1,12 @@
 -- What a checkpoint does to the database file.
-use Rattle.std.proofs.Common.{◌≡◌, ℕ, ◌+◌, ◌-◌, ◌*◌, ◌≤◌, List, length, take, drop, refl, sym, ◌∙◌, ap, subst, arith, length-drop, []}
-use Rattle.std.specs.Prelude.{Result, Ok, Err}
-use Rattle.std.proofs.lemmas.List.{get_or-take, get_or-drop, length-take-le}
-use Rattle.std.proofs.lemmas.Grind.{same_number_lists}
-use Rattle.byteorder.specs.Endian.{big_number}
-use Rattle.recovery.proofs.Words.{Database, byte, DiskState, IsSoundDisk, ArePresent, Syncs, HasCalls, Db, Log, DiskError, table, sound_syncs, present_list, counted_grows, most_bytes, IsJust, Filling, Still, refusal_after, sync_refused, since_db, one_sync, no_calls, calls_then, ArePages}
-use Rattle.sqwal.specs.Frames.{frame_at, frame_end, page_of, size_of}
-use Rattle.sqwal.specs.Index.{FrameTable}
-use Rattle.sqwal.specs.View.{Unnamed, IsView}
-use Rattle.sqwal.proofs.log.DependenceOnPrefix.{frame_at-end, frame_end-le, page_same, size_same}
-use Rattle.walcore.specs.Plans.{IsTable}
-use Rattle.walcore.specs.internal.Plans.{IsCopy}
-use Rattle.crashdisk.specs.internal.Keeps.{KeepsLog, Told, SyncStep, PlaceAnswer}
-use Rattle.walcore.specs.Era.{IsBoundary, shown}
-use Rattle.walcore.specs.internal.Era.{IsDurable}
-use Rattle.walcore.specs.Standing.{Stands, IsPresent}
-use Rattle.walcore.specs.Bringing.{LeavesJust}
-use Rattle.walcore.specs.internal.Bringing.{SizeAnswer, CanBring, BroughtTo, Brings}
-use Rattle.walcore.specs.declared.error.WalError.{WalError}
-use Rattle.walcore.specs.Changes.{MayFill, MayFillWithin}
+use Rattle.std.proofs.Common.{◌≡◌, ℕ, ◌+◌, ◌-◌, ◌*◌, ◌≤◌, List, length, take, drop, refl, sym, ◌∙◌, ap, subst, arith, length-drop, [], Result, Ok, Err, get_or-take, get_or-drop, length-take-le}
+use Rattle.walcore.proofs.Words.{same_number_lists, big_number, Database, byte, DiskState, IsSoundDisk, ArePresent, Syncs, HasCalls, Db, Log, DiskError, table, sound_syncs, present_list, counted_grows, most_bytes, IsJust, Filling, Still, refusal_after, sync_refused, since_db, one_sync, no_calls, calls_then, ArePages, frame_at, frame_end, page_of, size_of, FrameTable, Unnamed, IsView, frame_at-end, frame_end-le, page_same, size_same, IsTable, IsCopy, KeepsLog, Told, SyncStep, PlaceAnswer, IsBoundary, shown, IsDurable, Stands, IsPresent, LeavesJust, SizeAnswer, CanBring, BroughtTo, Brings, WalError, MayFill, MayFillWithin, Device, CopyAnswer}
 use Rattle.walcore.proofs.disk.PermittedChanges.{nothing_may}
 use Rattle.walcore.proofs.crash.FrontOfSurvivingLog.{same_front}
 use Rattle.walcore.proofs.log.PresentFrames.{present_by}
 use Rattle.walcore.proofs.disk.DiskInvariantUnderCalls.{stands_syncs}
 use Rattle.walcore.proofs.checkpoint.DiskInvariantUnderCheckpoint.{stands_still, stands_valid, stands_count, stands_view, stands_filling, filling_stands, settled_just}
 use Rattle.walcore.proofs.read.ContentOfReadPage.{table_upto}
-use Rattle.walcore.specs.declared.error.WalError.TheVariants.{Device}
-use Rattle.recovery.specs.internal.Steps.{CopyAnswer}
 
 -- ---- the size that a frame names
 

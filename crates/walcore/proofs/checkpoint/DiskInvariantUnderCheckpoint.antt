@@ -1,16 +1,6 @@
 -- A checkpoint: the pages that frames name are written into the file, and what stands on the disk stands still.
-use Rattle.std.proofs.Common.{◌≡◌, inl, ⊎_elim, ℕ, ◌≤◌, List, length, take, get_or, refl, sym, ◌∙◌, ap, subst, arith}
-use Rattle.std.specs.Prelude.{Ok}
-use Rattle.recovery.proofs.Words.{IsImage, byte, DiskState, ArePresent, Syncs, Db, table, Database, page, file_page, IsJust, Filling, Still, KeepsLog, get_or-file_page, suits_still, image_still, present_image, ArePages}
-use Rattle.crashdisk.proofs.call.EffectsOfCalls.{one_synced, present_list}
-use Rattle.sqwal.specs.Frames.{frame_end, size_of, IsValidFrame, IsCommit}
-use Rattle.sqwal.specs.View.{Unnamed, IsOver, IsView}
-use Rattle.sqwal.proofs.log.DependenceOnPrefix.{all_same, size_same}
-use Rattle.sqwal.proofs.log.UniquenessOfView.{unnamed_same, over_same}
-use Rattle.walcore.specs.Era.{IsBoundary, shown}
-use Rattle.walcore.specs.internal.Era.{IsDurable}
-use Rattle.walcore.specs.Standing.{Stands}
-use Rattle.recovery.proofs.FilledFile.{filling_other, filled_just}
+use Rattle.std.proofs.Common.{◌≡◌, inl, ⊎_elim, ℕ, ◌≤◌, List, length, take, get_or, refl, sym, ◌∙◌, ap, subst, arith, Ok}
+use Rattle.walcore.proofs.Words.{IsImage, byte, DiskState, ArePresent, Syncs, Db, table, Database, page, file_page, IsJust, Filling, Still, KeepsLog, get_or-file_page, suits_still, image_still, present_image, ArePages, one_synced, present_list, frame_end, size_of, IsValidFrame, IsCommit, Unnamed, IsOver, IsView, all_same, size_same, unnamed_same, over_same, IsBoundary, shown, IsDurable, Stands, filling_other, filled_just}
 use Rattle.walcore.proofs.log.DurableFrames.{holds_elsewhere}
 
 module _ (size : ℕ) (logs : List (List ℕ)) (e : List ℕ) (n : ℕ) (h : List Database) (index : ℕ → ℕ) (mark d c : ℕ) (s : DiskState) (stands : Stands size logs e n h index mark d c s) where

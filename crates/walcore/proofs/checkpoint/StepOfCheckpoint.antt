@@ -1,27 +1,8 @@
 -- A checkpoint as a step of the machine.
-use Rattle.std.proofs.Common.{◌≡◌, ◌≢◌, inl, inr, ⊎_elim, ℕ, ◌+◌, ◌-◌, ◌<◌, ◌≤◌, Bool, true, false, ◌==◌, List, ◌∷◌, length, get_or, take, drop, refl, sym, ◌∙◌, ap, subst, arith, length-drop, []}
-use Rattle.std.specs.Prelude.{Result, Ok, Err, OnOk, IsTrue, Option, Some, None, not, if◌then◌else◌}
-use Rattle.std.proofs.lemmas.Bool.{cases_eq}
-use Rattle.std.proofs.lemmas.List.{length-take-le}
-use Rattle.std.proofs.lemmas.Bool.Decides.{nat_tests}
-use Rattle.recovery.proofs.Words.{Database, DiskState, HasCalls, Files, Done, Refused, Refuses, HasCause, first_true, IsJust, IsSameDisk, TellsRefusal, KeepsLog, present_image, still, same_files, AreFiles, answered, ShowsWhole, at, last, newest, quiet_same}
-use Rattle.walcore.specs.Machine.{State, reader_at, call_refusal, all_newest, closed, synced, checkpointed, Syncs, Checkpoints, CheckpointStep}
-use Rattle.walcore.specs.Making.{Made, Makes, MadeBySync, MadeByCopy}
-use Rattle.walcore.specs.Refusal.{number_of}
-use Rattle.walcore.specs.Made.{NoChance}
-use Rattle.sqwal.specs.Frames.{frame_end}
-use Rattle.walcore.specs.Era.{shown}
-use Rattle.walcore.specs.Changes.{MayFill}
-use Rattle.walcore.specs.Standing.{Stands, IsPresent}
-use Rattle.walcore.specs.Bringing.{answer_of, IsOldest, LeavesJust}
-use Rattle.walcore.specs.internal.Bringing.{IsLeast, BroughtTo, Brings, BroughtOver, ClosedBy}
-use Rattle.walcore.specs.Fits.{Past, IsLeft, FitsDisk, IsBound, AreTogether, IsNewestDurable, IsCore, FitsCore, StepsTo, times}
-use Rattle.walcore.specs.declared.state.Core.{Core}
-use Rattle.walcore.specs.declared.reader.Reader.{Reader}
-use Rattle.walcore.specs.declared.wal.Checkpointed.{Checkpointed}
+use Rattle.std.proofs.Common.{◌≡◌, ◌≢◌, inl, inr, ⊎_elim, ℕ, ◌+◌, ◌-◌, ◌<◌, ◌≤◌, Bool, true, false, ◌==◌, List, ◌∷◌, length, get_or, take, drop, refl, sym, ◌∙◌, ap, subst, arith, length-drop, [], Result, Ok, Err, OnOk, IsTrue, Option, Some, None, not, if◌then◌else◌, length-take-le}
+use Rattle.walcore.proofs.Words.{cases_eq, nat_tests, Database, DiskState, HasCalls, Files, Done, Refused, Refuses, HasCause, first_true, IsJust, IsSameDisk, TellsRefusal, KeepsLog, present_image, still, same_files, AreFiles, answered, ShowsWhole, at, last, newest, quiet_same, State, reader_at, call_refusal, all_newest, closed, synced, checkpointed, Checkpoints, CheckpointStep, Made, Makes, MadeBySync, MadeByCopy, number_of, NoChance, frame_end, shown, MayFill, Stands, IsPresent, answer_of, IsOldest, LeavesJust, IsLeast, BroughtTo, Brings, BroughtOver, ClosedBy, Past, IsLeft, FitsDisk, IsBound, AreTogether, IsNewestDurable, IsCore, FitsCore, StepsTo, times, Core, Reader, Checkpointed, WalError, Device, wal_log}
+use Rattle.walcore.specs.Machine.{Syncs}
 use Rattle.walcore.specs.declared.wal.Checkpointed.TheVariants.{Complete as AllOfIt, Partial as PartOfIt}
-use Rattle.walcore.specs.declared.error.WalError.{WalError}
-use Rattle.walcore.specs.declared.error.WalError.TheVariants.{Device}
 use Rattle.walcore.proofs.log.PresentFrames.{present_by}
 use Rattle.walcore.proofs.crash.HistoryInCrashImages.{stands_shows, present_last}
 use Rattle.walcore.proofs.disk.PermittedChanges.{synced_same, filled_same}
@@ -29,7 +10,6 @@ use Rattle.walcore.proofs.machine.FitUnderUnchangedFiles.{SameCore, core_same}
 use Rattle.walcore.proofs.read.StepsOfReaders.{open_refusal}
 use Rattle.walcore.proofs.sync.LogWithRepeatedFrame.{behind_same}
 use Rattle.walcore.proofs.read.OldestReaderMark.{reader_above, least_ends, least_begun, oldest_place, all_are_newest, some_is_older}
-use Rattle.walcore.specs.Alone.{wal_log}
 
 -- ---- a disk on which the log stands
 

@@ -1,9 +1,6 @@
 -- A commit that isn't refused.
 use Rattle.std.proofs.Common.{◌≡◌, ℕ, ◌+◌, ◌<◌, ◌≤◌, Bool, true, false, cond, ◌++◌, nat_lt, List, ◌∷◌, length, Option, Some, None, arith, lit<, []}
-use Rattle.std.proofs.lemmas.Bool.Decides.{nat_tests}
-use Rattle.recovery.proofs.Words.{Pages, first_true, page_faults, IsFaultless, faultless, none_both, one_none, newest}
-use Rattle.walcore.specs.CommitRefusals.{refusal_of, most_pages}
-use Rattle.walcore.specs.Machine.{State, commit_refusal}
+use Rattle.walcore.proofs.Words.{nat_tests, Pages, first_true, page_faults, IsFaultless, faultless, none_both, one_none, newest, refusal_of, most_pages, State, commit_refusal}
 
 module _ (old_size page_size used : ℕ) (pages : Pages) (size : ℕ) (none : refusal_of old_size page_size used pages size ≡ None) where
   pub granted : IsFaultless old_size page_size pages size

@@ -1,18 +1,6 @@
 -- A commit: the history has one database more, and what a crash may leave shows it or one before it.
-use Rattle.std.proofs.Common.{◌≡◌, ◌≢◌, inr, ⊎_elim, ℕ, suc, ◌+◌, ◌*◌, ◌<◌, ◌≤◌, min, cond, List, ◌∷◌, ◌++◌, length, drop, get_or, refl, sym, ◌∙◌, ap, subst, arith, length-drop, []}
-use Rattle.std.specs.Prelude.{nat_lt, Option, Some, None, unwrap_or}
-use Rattle.std.proofs.lemmas.List.{get_or_append_left, get_or_at, length_push, length-take-le}
-use Rattle.std.proofs.lemmas.Bool.{cases_lt}
-use Rattle.std.proofs.lemmas.Bool.Decides.{nat_tests}
-use Rattle.recovery.proofs.Words.{Database, Pages, page, supplied, apply, IsHeld}
-use Rattle.sqwal.specs.Frames.{frame_at, size_of, content_of}
-use Rattle.sqwal.specs.Log.{IsLog}
-use Rattle.sqwal.proofs.log.DependenceOnPrefix.{frame_at-end}
-use Rattle.walcore.specs.Made.{IsExtended}
-use Rattle.walcore.specs.Era.{shown, IsEra}
-use Rattle.walcore.specs.internal.Era.{IsApplied}
-use Rattle.walcore.specs.internal.Standing.{AreCommitted}
-use Rattle.sqval.proofs.database.CommittedDatabase.{supplied_found, length-apply, page-apply}
+use Rattle.std.proofs.Common.{◌≡◌, ◌≢◌, inr, ⊎_elim, ℕ, suc, ◌+◌, ◌*◌, ◌<◌, ◌≤◌, min, cond, List, ◌∷◌, ◌++◌, length, drop, get_or, refl, sym, ◌∙◌, ap, subst, arith, length-drop, [], nat_lt, Option, Some, None, unwrap_or, length-take-le}
+use Rattle.walcore.proofs.Words.{get_or_append_left, get_or_at, length_push, cases_lt, nat_tests, Database, Pages, page, supplied, apply, IsHeld, frame_at, size_of, content_of, IsLog, frame_at-end, IsExtended, shown, IsEra, IsApplied, AreCommitted, supplied_found, length-apply, page-apply}
 use Rattle.walcore.proofs.log.CommitOfExtendedLog.{extended_front, extended_inner, extended_count, extended_applied}
 use Rattle.walcore.proofs.log.EraOfExtendedLog.{GoesOn, era_more}
 

@@ -1,29 +1,6 @@
 -- A commit that is granted steps to the history with its database.
-use Rattle.std.proofs.Common.{◌≡◌, inl, ⊎_elim, ℕ, ◌+◌, ◌-◌, ◌^◌, ◌<◌, ◌≤◌, Bool, true, false, cond, List, ◌∷◌, ◌++◌, length, take, get_or, refl, sym, ◌∙◌, ap, subst, arith, Bor, Option, length-append, lit<, []}
-use Rattle.std.specs.Prelude.{IsTrue, nat_lt, Some, None}
-use Rattle.std.proofs.lemmas.Bool.{cases_lt}
-use Rattle.std.proofs.lemmas.List.{get_or_append_left, get_or_past}
-use Rattle.std.proofs.Math.Seq.{get_or-append_right}
-use Rattle.recovery.proofs.Words.{byte, DiskState, IsSoundDisk, AreBytes, Database, apply, Files, IsHeld, Suits, lent, lent_length, IsFaultless, lent_length, length-apply, present_image, sector_some, AreFiles, ShowsWhole, newest}
-use Rattle.sqwal.specs.Header.{IsHeaderOf}
-use Rattle.sqwal.specs.Frames.{frame_end, page_of, summed}
-use Rattle.sqwal.specs.Sums.{IsSumOf}
-use Rattle.sqwal.specs.Log.{IsLog}
-use Rattle.sqwal.specs.Refusal.{most_frames}
-use Rattle.sqwal.specs.declared.header.WalHeader.{WalHeader}
-use Rattle.sqwal.specs.declared.sum.Sum.{Sum}
-use Rattle.sqwal.proofs.log.DependenceOnPrefix.{frame_end-le, frame_end-head, page_same, summed_same, take_less}
-use Rattle.sqwal.proofs.log.LogWithAppendedFrame.{header_of_same}
-use Rattle.walcore.specs.Machine.{State, reader_at}
-use Rattle.walcore.specs.Made.{AreMade, NoChance, IsExtended}
-use Rattle.walcore.specs.Era.{shown}
-use Rattle.walcore.specs.Standing.{IsBehind, Stands, IsPresent}
-use Rattle.walcore.specs.Fits.{Past, IsLeft, FitsDisk, IsIndexed, IsBound, AreTogether, IsCore, FitsCore, times}
-use Rattle.walcore.specs.internal.Going.{KnowsLog}
-use Rattle.walcore.specs.Commits.{SameLog}
-use Rattle.walcore.specs.internal.Commits.{IsReady}
-use Rattle.walcore.specs.declared.state.Core.{Core}
-use Rattle.walcore.specs.declared.reader.Reader.{Reader}
+use Rattle.std.proofs.Common.{◌≡◌, inl, ⊎_elim, ℕ, ◌+◌, ◌-◌, ◌^◌, ◌<◌, ◌≤◌, Bool, true, false, cond, List, ◌∷◌, ◌++◌, length, take, get_or, refl, sym, ◌∙◌, ap, subst, arith, Bor, Option, length-append, lit<, [], IsTrue, nat_lt, Some, None}
+use Rattle.walcore.proofs.Words.{cases_lt, get_or_append_left, get_or_past, get_or-append_right, byte, DiskState, IsSoundDisk, AreBytes, Database, apply, Files, IsHeld, Suits, lent, lent_length, IsFaultless, length-apply, present_image, sector_some, AreFiles, ShowsWhole, newest, IsHeaderOf, frame_end, page_of, summed, IsSumOf, IsLog, most_frames, WalHeader, Sum, frame_end-le, frame_end-head, page_same, summed_same, take_less, header_of_same, State, reader_at, AreMade, NoChance, IsExtended, shown, IsBehind, Stands, IsPresent, Past, IsLeft, FitsDisk, IsIndexed, IsBound, AreTogether, IsCore, FitsCore, times, KnowsLog, SameLog, IsReady, Core, Reader, wal_log}
 use Rattle.walcore.proofs.log.ExistenceOfExtendedLog.{extended_exists}
 use Rattle.walcore.proofs.commit.FramesOfAcceptedCommit.{are_committed, are_frames}
 use Rattle.walcore.proofs.commit.FitOfPreparedCore.{ready_granted, ready_most}
@@ -34,7 +11,6 @@ use Rattle.walcore.proofs.crash.HistoryInCrashImages.{stands_shows, present_last
 use Rattle.walcore.proofs.disk.DiskInvariantUnderCalls.{commit_stands}
 use Rattle.walcore.proofs.log.PresentFrames.{present_more}
 use Rattle.walcore.proofs.sync.LogWithRepeatedFrame.{behind_later, behind_same}
-use Rattle.walcore.specs.Alone.{wal_log}
 
 -- ---- what fits a disk, by its parts
 

@@ -1,21 +1,6 @@
 -- A core in which memory was taken fits what it fitted.
-use Rattle.std.proofs.Common.{◌≡◌, ℕ, ◌+◌, ◌<◌, ◌≤◌, Bool, ◌-◌, List, length, get_or, sym, ◌∙◌, ap, subst, arith, Bor, []}
-use Rattle.std.specs.Prelude.{IsTrue, None}
-use Rattle.std.specs.List.{All}
-use Rattle.std.proofs.lemmas.List.{get_or-map}
-use Rattle.recovery.proofs.Words.{DiskState, IsJust, lent, lent_length, IsFaultless, newest}
-use Rattle.sqwal.specs.Header.{IsHeaderOf}
-use Rattle.sqwal.specs.Frames.{frame_end, page_of, summed}
-use Rattle.sqwal.specs.Sums.{IsSumOf}
-use Rattle.sqwal.specs.Index.{FrameTable}
-use Rattle.sqwal.specs.declared.header.WalHeader.{WalHeader}
-use Rattle.sqwal.specs.declared.sum.Sum.{Sum}
-use Rattle.walcore.specs.Machine.{reader_at}
-use Rattle.walcore.specs.Standing.{IsBehind, Stands, IsPresent}
-use Rattle.walcore.specs.Fits.{Past, IsIndexed, IsBound, AreTogether, IsCore, FitsCore, times}
-use Rattle.walcore.specs.Commits.{Prepares}
-use Rattle.walcore.specs.internal.Commits.{IsReady}
-use Rattle.walcore.specs.declared.state.Core.{Core}
+use Rattle.std.proofs.Common.{◌≡◌, ℕ, ◌+◌, ◌<◌, ◌≤◌, Bool, ◌-◌, List, length, get_or, sym, ◌∙◌, ap, subst, arith, Bor, [], IsTrue, None}
+use Rattle.walcore.proofs.Words.{All, get_or-map, DiskState, IsJust, lent, lent_length, IsFaultless, newest, IsHeaderOf, frame_end, page_of, summed, IsSumOf, FrameTable, WalHeader, Sum, reader_at, IsBehind, Stands, IsPresent, Past, IsIndexed, IsBound, AreTogether, IsCore, FitsCore, times, Prepares, IsReady, Core}
 use Rattle.walcore.proofs.commit.AcceptedCommit.{granted, room_enough}
 
 module _ (past : Past) (e : List ℕ) (index : ℕ → ℕ) (d c : ℕ) (a b : Core) (s : DiskState) (same : Prepares a b) where

@@ -1,12 +1,6 @@
 -- The pages of a commit that isn't refused make a log longer and a database.
-use Rattle.std.proofs.Common.{◌≡◌, ℕ, suc, ◌^◌, ◌<◌, ◌≤◌, List, length, get_or, sym, ◌∙◌, ap, subst, arith, Bor, []}
-use Rattle.std.specs.Prelude.{◌==◌, is_some}
-use Rattle.std.specs.List.{All}
-use Rattle.std.proofs.lemmas.Bool.{true≢false}
-use Rattle.std.proofs.lemmas.List.{get_or-map}
-use Rattle.recovery.proofs.Words.{AreBytes, Database, Pages, lent, lent_length}
-use Rattle.walcore.specs.internal.Standing.{AreCommitted}
-use Rattle.sqval.proofs.database.FaultlessCommit.{IsFaultless, number_once, above_some}
+use Rattle.std.proofs.Common.{◌≡◌, ℕ, suc, ◌^◌, ◌<◌, ◌≤◌, List, length, get_or, sym, ◌∙◌, ap, subst, arith, Bor, [], ◌==◌, is_some, true≢false}
+use Rattle.walcore.proofs.Words.{All, get_or-map, AreBytes, Database, Pages, lent, lent_length, AreCommitted, IsFaultless, number_once, above_some}
 use Rattle.walcore.proofs.log.ExistenceOfExtendedLog.{AreFrames, size_fits}
 
 pub are_committed : (old : Database) (size : ℕ) (pages : Pages) (count : ℕ) → IsFaultless (length old) size pages count → AreCommitted size old pages count

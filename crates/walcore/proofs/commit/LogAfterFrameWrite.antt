@@ -1,31 +1,9 @@
 -- The frames of a commit are written one after another, and the log goes on by them.
-use Rattle.std.proofs.Common.{◌≡◌, ◌≢◌, ⊎_elim, ℕ, suc, ◌+◌, ◌-◌, ◌*◌, ◌<◌, ◌≤◌, List, ◌∷◌, ◌++◌, length, drop, get_or, refl, sym, ◌∙◌, ap, subst, arith, length-append, length-drop, []}
-use Rattle.std.specs.Prelude.{Result, Ok, Err, IsOk}
-use Rattle.std.proofs.Math.Nat.{mul-le-mul_left}
-use Rattle.std.proofs.lemmas.Bool.{cases_eq}
-use Rattle.std.proofs.lemmas.List.{get_or_append_left, length-take-le}
-use Rattle.std.proofs.Math.Seq.{get_or-append_right}
-use Rattle.recovery.proofs.Words.{longest, DiskState, IsSoundDisk, Writes, write, counted, Log, DiskError, part, AreBytes, Database, HadRefusal, Told, had_refusal}
-use Rattle.sqwal.specs.Sums.{IsSumOf}
-use Rattle.sqwal.specs.Header.{IsHeaderOf}
-use Rattle.sqwal.specs.Frames.{frame_at, frame_end, page_of, size_of, content_of, summed, IsFrameHead}
-use Rattle.sqwal.specs.Log.{IsLog}
-use Rattle.sqwal.specs.Refusal.{most_frames}
-use Rattle.sqwal.specs.declared.sum.Sum.{Sum}
-use Rattle.sqwal.specs.declared.header.WalHeader.{WalHeader}
-use Rattle.sqwal.specs.Index.{FrameTable}
-use Rattle.sqwal.proofs.log.DependenceOnPrefix.{frame_end-le, frame_at-suc, frame_end-suc}
-use Rattle.walcore.specs.Changes.{MayExtend}
-use Rattle.walcore.specs.Standing.{IsBehind, Stands, IsPresent}
-use Rattle.walcore.specs.Fits.{IsIndexed}
-use Rattle.walcore.specs.internal.Going.{HasFrame, FrameStep, KnowsLog}
-use Rattle.walcore.specs.declared.state.Core.{Core}
-use Rattle.walcore.specs.declared.error.WalError.{WalError}
-use Rattle.walcore.specs.declared.error.WalError.TheVariants.{Device}
+use Rattle.std.proofs.Common.{◌≡◌, ◌≢◌, ⊎_elim, ℕ, suc, ◌+◌, ◌-◌, ◌*◌, ◌<◌, ◌≤◌, List, ◌∷◌, ◌++◌, length, drop, get_or, refl, sym, ◌∙◌, ap, subst, arith, length-append, length-drop, [], Result, Ok, Err, IsOk, length-take-le}
+use Rattle.walcore.proofs.Words.{mul-le-mul_left, cases_eq, get_or_append_left, get_or-append_right, longest, DiskState, IsSoundDisk, Writes, write, counted, Log, DiskError, part, AreBytes, Database, HadRefusal, Told, had_refusal, IsSumOf, IsHeaderOf, frame_at, frame_end, page_of, size_of, content_of, summed, IsFrameHead, IsLog, most_frames, Sum, WalHeader, FrameTable, frame_end-le, frame_at-suc, frame_end-suc, MayExtend, IsBehind, Stands, IsPresent, IsIndexed, HasFrame, FrameStep, KnowsLog, Core, WalError, Device, told_err, told_ok, told_refused}
 use Rattle.walcore.proofs.log.BytesOfNextFrame.{next_frame}
 use Rattle.walcore.proofs.log.PresentFrames.{present_writes}
 use Rattle.walcore.proofs.disk.DiskInvariantUnderCalls.{stands_writes}
-use Rattle.crashdisk.proofs.call.DisksAfterCalls.{told_err, told_ok, told_refused}
 
 -- ---- what a call answers
 

@@ -1,19 +1,6 @@
 -- The frames of a commit, one after another.
-use Rattle.std.proofs.Common.{◌≡◌, ℕ, suc, ◌+◌, ◌^◌, ◌<◌, ◌≤◌, cond, List, ◌∷◌, ◌++◌, length, get_or, refl, sym, ◌∙◌, ap, subst, arith, Bor, []}
-use Rattle.std.specs.Prelude.{◌==◌, Result, Ok, Err}
-use Rattle.std.proofs.Math.Pow.{pow_mono}
-use Rattle.std.proofs.lemmas.List.{get_or-map}
-use Rattle.recovery.proofs.Words.{DiskState, IsSoundDisk, write, sound_writes, Log, counted_grows, IsPageSize, lent, lent_length, sector_some, no_calls, one_write, calls_then, refusal_after}
-use Rattle.sqwal.specs.Frames.{frame_end, page_of, size_of, content_of}
-use Rattle.sqwal.specs.Log.{IsLog}
-use Rattle.sqwal.specs.Refusal.{most_frames}
-use Rattle.sqwal.proofs.log.DependenceOnPrefix.{frame_end-le}
-use Rattle.walcore.specs.Made.{IsExtended}
-use Rattle.walcore.specs.Changes.{MayExtend}
-use Rattle.walcore.specs.Standing.{IsBehind, Stands}
-use Rattle.walcore.specs.internal.Going.{KeepsCore, FrameStep, KnowsLog, Going, FramesAnswer}
-use Rattle.walcore.specs.declared.state.Core.{Core}
-use Rattle.walcore.specs.declared.error.WalError.{WalError}
+use Rattle.std.proofs.Common.{◌≡◌, ℕ, suc, ◌+◌, ◌^◌, ◌<◌, ◌≤◌, cond, List, ◌∷◌, ◌++◌, length, get_or, refl, sym, ◌∙◌, ap, subst, arith, Bor, [], ◌==◌, Result, Ok, Err}
+use Rattle.walcore.proofs.Words.{pow_mono, get_or-map, DiskState, IsSoundDisk, write, sound_writes, Log, counted_grows, IsPageSize, lent, lent_length, sector_some, no_calls, one_write, calls_then, refusal_after, frame_end, page_of, size_of, content_of, IsLog, most_frames, frame_end-le, IsExtended, MayExtend, IsBehind, Stands, KeepsCore, FrameStep, KnowsLog, Going, FramesAnswer, Core, WalError}
 use Rattle.walcore.proofs.sync.LogWithRepeatedFrame.{behind_same, behind_later}
 use Rattle.walcore.proofs.commit.LogAfterFrameWrite.{IsFrameAt, Reaches, frame_may, frame_known, frame_quiet, frame_refused, frame_stands}
 

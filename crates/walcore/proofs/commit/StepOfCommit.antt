@@ -1,25 +1,9 @@
 -- The rows of the machine that a commit takes.
-use Rattle.std.proofs.Common.{◌≡◌, inl, inr, ⊎_elim, ℕ, ◌+◌, ◌^◌, ◌<◌, ◌≤◌, Bool, true, false, cond, List, ◌∷◌, ◌++◌, length, refl, sym, ◌∙◌, ap, subst, arith, Bor, Option, []}
-use Rattle.std.specs.Prelude.{IsTrue, ◌==◌, Some, None, Result, Ok, Err}
-use Rattle.recovery.proofs.Words.{DiskState, IsSoundDisk, Pages, apply, Done, Refused, Refuses, HadRefusal, no_calls, lent, answered, newest}
-use Rattle.sqwal.specs.Frames.{frame_end}
-use Rattle.sqwal.specs.Log.{IsLog}
-use Rattle.sqwal.specs.Refusal.{most_frames}
-use Rattle.walcore.specs.Refusal.{number_of}
-use Rattle.walcore.specs.CommitRefusals.{refusal_of}
-use Rattle.walcore.specs.Machine.{committed, closed, commit_refusal, Commits, CommitStep}
-use Rattle.walcore.specs.Made.{IsExtended}
-use Rattle.walcore.specs.Making.{Made, IfBegun, MadeByCommit, Makes}
-use Rattle.walcore.specs.Standing.{IsBehind, Stands}
-use Rattle.walcore.specs.Fits.{Past, IsCore, FitsCore, StepsTo}
-use Rattle.walcore.specs.internal.Going.{KeepsCore, KnowsLog, Going, FramesAnswer}
-use Rattle.walcore.specs.Commits.{Prepares}
-use Rattle.walcore.specs.internal.Commits.{IsReady, PrepareAnswer, Counts, Ends, Closes, EndAnswer}
-use Rattle.walcore.specs.declared.state.Core.{Core}
-use Rattle.walcore.specs.declared.error.WalError.{WalError}
+use Rattle.std.proofs.Common.{◌≡◌, inl, inr, ⊎_elim, ℕ, ◌+◌, ◌^◌, ◌<◌, ◌≤◌, Bool, true, false, cond, List, ◌∷◌, ◌++◌, length, refl, sym, ◌∙◌, ap, subst, arith, Bor, Option, [], IsTrue, ◌==◌, Some, None, Result, Ok, Err, ne_eqb}
+use Rattle.walcore.proofs.Words.{DiskState, IsSoundDisk, Pages, apply, Done, Refused, Refuses, HadRefusal, no_calls, lent, answered, newest, frame_end, IsLog, most_frames, number_of, refusal_of, committed, closed, commit_refusal, Commits, CommitStep, IsExtended, Made, IfBegun, MadeByCommit, Makes, IsBehind, Stands, Past, IsCore, FitsCore, StepsTo, KeepsCore, KnowsLog, Going, FramesAnswer, Prepares, IsReady, PrepareAnswer, Counts, Closes, Core, WalError}
+use Rattle.walcore.specs.internal.Commits.{Ends, EndAnswer}
 use Rattle.walcore.proofs.disk.PermittedChanges.{newest_calls}
 use Rattle.walcore.proofs.commit.EraAfterCommit.{index_with}
-use Rattle.std.proofs.lemmas.Bool.{ne_eqb}
 use Rattle.walcore.proofs.commit.AcceptedCommit.{few_refusals}
 use Rattle.walcore.proofs.commit.FitOfPreparedCore.{fits_prepared}
 use Rattle.walcore.proofs.commit.FitAfterCommit.{Planned, planned, state_new, fits_new, fits_closed, knows_same}

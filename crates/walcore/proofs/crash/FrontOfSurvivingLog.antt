@@ -1,17 +1,6 @@
 -- What the front of a log shows that a crash leaves.
-use Rattle.std.proofs.Common.{◌≡◌, ◌⊎◌, inl, inr, ⊎_elim, ℕ, ◌≤◌, ◌<◌, List, length, take, get_or, refl, sym, ◌∙◌, ap, subst, arith}
-use Rattle.std.specs.List.{Contains}
-use Rattle.std.proofs.lemmas.Bool.{cases_eq}
-use Rattle.std.proofs.lemmas.List.{ext_get_or, get_or-take, length-take-le}
-use Rattle.recovery.proofs.Words.{IsPageSize, Database, page, file_page, IsFile, IsJust, size_some, file_count}
-use Rattle.sqwal.specs.Frames.{frame_end, IsFront}
-use Rattle.sqwal.specs.Log.{IsLog}
-use Rattle.sqwal.specs.View.{Unnamed, IsOver, IsView}
-use Rattle.sqwal.proofs.log.DependenceOnPrefix.{frame_end-zero, frame_end-le, all_same, commit_same}
-use Rattle.sqwal.proofs.log.UniquenessOfView.{view_same}
-use Rattle.walcore.specs.Made.{AreMade, NoChance}
-use Rattle.walcore.specs.Era.{IsBoundary, shown, IsEra, IsUnder}
-use Rattle.walcore.specs.internal.Era.{IsDurable}
+use Rattle.std.proofs.Common.{◌≡◌, ◌⊎◌, inl, inr, ⊎_elim, ℕ, ◌≤◌, ◌<◌, List, length, take, get_or, refl, sym, ◌∙◌, ap, subst, arith, ext_get_or, get_or-take, length-take-le}
+use Rattle.walcore.proofs.Words.{Contains, cases_eq, IsPageSize, Database, page, file_page, IsFile, IsJust, size_some, file_count, frame_end, IsFront, IsLog, Unnamed, IsOver, IsView, frame_end-zero, frame_end-le, all_same, commit_same, view_same, AreMade, NoChance, IsBoundary, shown, IsEra, IsUnder, IsDurable}
 use Rattle.walcore.proofs.crash.OriginOfValidFrames.{known}
 
 -- two lists with the same first numbers

@@ -1,21 +1,6 @@
 -- What the engine keeps on its disk shows one database of the history, whatever a crash leaves.
-use Rattle.std.proofs.Common.{◌≡◌, ◌⊎◌, inl, ⊎_elim, ℕ, ◌+◌, ◌-◌, ◌*◌, ◌≤◌, Bool, true, false, List, length, take, get_or, sym, ◌∙◌, ap, subst, arith}
-use Rattle.std.specs.List.{Contains}
-use Rattle.std.proofs.lemmas.Bool.{cases_eq}
-use Rattle.std.proofs.lemmas.List.{get_or-take, length-take-le}
-use Rattle.recovery.proofs.Words.{FileState, IsImage, DiskState, ArePresent, HasFixed, Database, MayBeRead, ShowsWhole, read_cases}
-use Rattle.sqwal.specs.Header.{IsHeader, named_size}
-use Rattle.sqwal.specs.Frames.{frame_end, IsFront}
-use Rattle.sqwal.specs.Log.{IsLog}
-use Rattle.sqwal.specs.View.{IsView}
-use Rattle.sqwal.proofs.log.DependenceOnPrefix.{frame_end-le, frame_end-head, take_less}
-use Rattle.sqwal.proofs.log.ExistenceOfFront.{front_exists}
-use Rattle.sqwal.proofs.log.UniquenessOfView.{front_unique, view_file}
-use Rattle.walcore.specs.Alone.{wal_log}
-use Rattle.walcore.specs.Made.{AreMade, NoChance}
-use Rattle.walcore.specs.Era.{IsBoundary, shown, IsEra, IsUnder}
-use Rattle.walcore.specs.internal.Era.{IsDurable}
-use Rattle.walcore.specs.Standing.{ShowsHistory, HasMadeHeader, AreMarks, Stands, IsPresent}
+use Rattle.std.proofs.Common.{◌≡◌, inl, ⊎_elim, ℕ, ◌+◌, ◌-◌, ◌*◌, ◌≤◌, Bool, true, false, List, length, take, get_or, sym, ◌∙◌, ap, subst, arith, get_or-take, length-take-le}
+use Rattle.walcore.proofs.Words.{Contains, cases_eq, FileState, IsImage, DiskState, ArePresent, HasFixed, Database, MayBeRead, ShowsWhole, read_cases, IsHeader, named_size, frame_end, IsFront, IsLog, IsView, frame_end-le, frame_end-head, take_less, front_exists, front_unique, view_file, wal_log, AreMade, NoChance, IsBoundary, shown, IsEra, IsUnder, IsDurable, ShowsHistory, HasMadeHeader, AreMarks, Stands, IsPresent}
 use Rattle.walcore.proofs.crash.OriginOfValidFrames.{named_same}
 use Rattle.walcore.proofs.crash.FrontOfSurvivingLog.{same_front, just_file, Fronts, fronts, down_front, view_of_image}
 

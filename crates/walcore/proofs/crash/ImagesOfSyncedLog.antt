@@ -1,9 +1,6 @@
 -- A log of which nothing is unsynced, and what it takes that all shows one database.
 use Rattle.std.proofs.Common.{inl, ℕ, List, refl, sym, subst, arith}
-use Rattle.sqwal.specs.Header.{named_size}
-use Rattle.sqwal.proofs.log.DependenceOnPrefix.{frame_at-end}
-use Rattle.recovery.proofs.Words.{DiskState, settled_image, IsLogDurable, MayBeLeft}
-use Rattle.walcore.specs.Alone.{AreWhole, wal_log}
+use Rattle.walcore.proofs.Words.{named_size, frame_at-end, DiskState, settled_image, IsLogDurable, MayBeLeft, AreWhole, wal_log}
 
 -- the log itself may be left
 pub down_left : (w : List ℕ) (s : DiskState) → IsLogDurable s w → MayBeLeft wal_log s w

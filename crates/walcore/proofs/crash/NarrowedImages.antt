@@ -1,13 +1,6 @@
 -- A call that adds no log to those that may be read adds none that shows less.
-use Rattle.std.proofs.Common.{◌≡◌, ◌⊎◌, inl, inr, ⊎_elim, ℕ, ◌≤◌, List, ◌∷◌, length, subst, arith}
-use Rattle.recovery.proofs.Words.{DiskState, Database, MayBeRead, Narrows}
-use Rattle.sqwal.specs.Header.{named_size}
-use Rattle.sqwal.specs.Frames.{frame_end}
-use Rattle.sqwal.proofs.log.DependenceOnPrefix.{frame_end-le, frame_end-suc, frame_end-zero}
-use Rattle.walcore.specs.Alone.{wal_log}
-use Rattle.walcore.specs.Fits.{IsLeft}
-use Rattle.walcore.specs.Made.{NoChance}
-use Rattle.walcore.specs.Standing.{ShowsHistory, HasMadeHeader}
+use Rattle.std.proofs.Common.{◌≡◌, inl, inr, ⊎_elim, ℕ, ◌≤◌, List, ◌∷◌, length, subst, arith}
+use Rattle.walcore.proofs.Words.{DiskState, Database, MayBeRead, Narrows, named_size, frame_end, frame_end-le, frame_end-suc, frame_end-zero, wal_log, IsLeft, NoChance, ShowsHistory, HasMadeHeader}
 use Rattle.walcore.proofs.log.GrowthOfMadeLogs.{made_before, made_cases}
 
 module _ (s t : DiskState) (narrows : Narrows wal_log s t) where

@@ -1,13 +1,6 @@
 -- The valid frames of a log are those that were made under its header.
 use Rattle.std.proofs.Common.{◌≡◌, ℕ, zero, suc, ◌+◌, ◌≤◌, List, length, take, sym, ◌∙◌, ap, subst, arith}
-use Rattle.std.specs.List.{Contains}
-use Rattle.recovery.proofs.Words.{part, word}
-use Rattle.sqwal.specs.Header.{IsHeader, named_size}
-use Rattle.sqwal.specs.Frames.{frame_at, frame_end, Passes, AllPass, IsValidFrame}
-use Rattle.sqwal.specs.Log.{IsLog}
-use Rattle.sqwal.proofs.log.DependenceOnPrefix.{frame_at-suc, frame_end-suc, frame_end-zero, below_end, word_same}
-use Rattle.sqwal.proofs.log.PartsOfBytes.{take_add, word_in}
-use Rattle.walcore.specs.Made.{AreMade, NoChance}
+use Rattle.walcore.proofs.Words.{Contains, part, word, IsHeader, named_size, frame_at, frame_end, Passes, AllPass, IsValidFrame, IsLog, frame_at-suc, frame_end-suc, frame_end-zero, below_end, word_same, take_add, word_in, AreMade, NoChance}
 use Rattle.walcore.proofs.log.GrowthOfMadeLogs.{same_log}
 
 -- a log whose header is that of one that was made names its page size

@@ -1,17 +1,6 @@
 -- The steps of an engine on its log keep what stands on its disk.
-use Rattle.std.proofs.Common.{◌≡◌, ℕ, ◌+◌, ◌<◌, ◌≤◌, true, false, List, ◌∷◌, ◌++◌, length, take, get_or, sym, ◌∙◌, ap, subst, arith, []}
-use Rattle.std.specs.Prelude.{Result, Ok}
-use Rattle.std.proofs.lemmas.List.{get_or_append_left}
-use Rattle.recovery.proofs.Words.{IsImage, DiskState, Writes, Syncs, IsFixed, File, Db, Log, DiskError, Database, Pages, page, apply, IsJust, Suits, sector_some, suits_writes, suits_syncs, since_db}
-use Rattle.crashdisk.proofs.call.EffectsOfCalls.{image_sync, image_elsewhere}
-use Rattle.sqwal.specs.Frames.{frame_end}
-use Rattle.sqwal.specs.Refusal.{most_frames}
-use Rattle.sqwal.proofs.log.DependenceOnPrefix.{frame_end-le, frame_end-head, take_less}
-use Rattle.sqwal.proofs.log.UniquenessOfView.{unnamed_same}
-use Rattle.walcore.specs.Made.{AreMade, IsExtended}
-use Rattle.walcore.specs.Era.{IsBoundary, shown, IsEra}
-use Rattle.walcore.specs.Standing.{HoldsFrames, IsBehind, AreMarks, Stands, IsPresent}
-use Rattle.walcore.specs.internal.Standing.{AreCommitted}
+use Rattle.std.proofs.Common.{◌≡◌, ℕ, ◌+◌, ◌<◌, ◌≤◌, true, false, List, ◌∷◌, ◌++◌, length, take, get_or, sym, ◌∙◌, ap, subst, arith, [], Result, Ok}
+use Rattle.walcore.proofs.Words.{get_or_append_left, IsImage, DiskState, Writes, Syncs, IsFixed, File, Db, Log, DiskError, Database, Pages, page, apply, IsJust, Suits, sector_some, suits_writes, suits_syncs, since_db, image_sync, image_elsewhere, frame_end, most_frames, frame_end-le, frame_end-head, take_less, unnamed_same, AreMade, IsExtended, IsBoundary, shown, IsEra, HoldsFrames, IsBehind, AreMarks, Stands, IsPresent, AreCommitted}
 use Rattle.walcore.proofs.log.GrowthOfMadeLogs.{made_here, made_more}
 use Rattle.walcore.proofs.crash.FrontOfSurvivingLog.{boundary_same}
 use Rattle.walcore.proofs.log.CommitOfExtendedLog.{extended_front}

@@ -1,12 +1,8 @@
 -- What calls may ask for: where fewer may, more may; and the pieces of a log.
-use Rattle.std.proofs.Common.{◌≡◌, inl, inr, ⊎_elim, ℕ, List, [], ◌∷◌, length, refl, ◌∙◌, subst}
-use Rattle.std.specs.Prelude.{Result}
-use Rattle.crashdisk.specs.Call.{DiskState, IsSoundDisk, Syncs as CallSyncs, Change, write, set_len, sync, HasCalls, Nothing}
-use Rattle.recovery.proofs.Words.{IsSameDisk, Later, SyncStep, File, Db, Log, DiskError, calls_wider, calls_then, later_sync, sync_later}
-use Rattle.walcore.specs.Machine.{Syncs, Checkpoints}
-use Rattle.walcore.specs.Changes.{MayFill, MayFoldWithin, MayExtend, MayBegin, MayChange}
-use Rattle.walcore.specs.declared.error.WalError.{WalError}
-use Rattle.walcore.specs.declared.error.WalError.TheVariants.{Device}
+use Rattle.std.proofs.Common.{◌≡◌, inl, inr, ⊎_elim, ℕ, List, [], ◌∷◌, length, refl, ◌∙◌, subst, Result}
+use Rattle.walcore.proofs.Words.{DiskState, IsSoundDisk, Change, write, set_len, sync, HasCalls, Nothing, IsSameDisk, Later, File, Db, Log, DiskError, calls_wider, calls_then, later_sync, Checkpoints, MayFill, MayFoldWithin, MayExtend, MayBegin, MayChange}
+use Rattle.crashdisk.specs.Call.{Syncs as CallSyncs}
+use Rattle.walcore.specs.Machine.{Syncs}
 
 -- ---- more logs
 
@@ -52,12 +48,9 @@ module _ (size : ℕ) (logs : List (List ℕ)) (a b : DiskState) (synced : IsSam
 
 -- ---- syncs of a fold
 
-may_sync : (most size : ℕ) (f : File) → MayFoldWithin most size (sync f)
+pub may_sync : (most size : ℕ) (f : File) → MayFoldWithin most size (sync f)
 may_sync most size Db = inl tt
 may_sync most size Log = inr tt
 
 pub fold_sync : {T : Type 0} (most size : ℕ) (f : File) (r : Result T DiskError) (a b : DiskState) → IsSoundDisk a → CallSyncs f r a b → Later (MayFoldWithin most size) a b
 fold_sync most size f r a b sound synced = later_sync f r a b (may_sync most size f) sound synced
-
-pub fold_step : {T : Type 0} (most size : ℕ) (f : File) (r : Result T WalError) (a b : DiskState) → IsSoundDisk a → SyncStep Device f r a b → Later (MayFoldWithin most size) a b
-fold_step most size f r a b sound step = sync_later Device f r a b (may_sync most size f) sound step

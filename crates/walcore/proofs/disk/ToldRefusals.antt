@@ -1,11 +1,6 @@
 -- A refused call of the disk is told: by one call, by calls after others that weren't refused, and by the steps of the log.
-use Rattle.std.proofs.Common.{⊎_elim, ℕ, List, arith}
-use Rattle.std.specs.Prelude.{Result}
-use Rattle.recovery.proofs.Words.{DiskState, TellsRefusal, tells_then, tells_called, tells_sync}
-use Rattle.walcore.specs.internal.Opening.{HeaderSteps}
-use Rattle.walcore.specs.internal.Steps.{CutSteps}
-use Rattle.walcore.specs.declared.error.WalError.{WalError}
-use Rattle.walcore.specs.declared.error.WalError.TheVariants.{Device}
+use Rattle.std.proofs.Common.{⊎_elim, ℕ, List, arith, Result}
+use Rattle.walcore.proofs.Words.{DiskState, TellsRefusal, tells_then, tells_called, tells_sync, HeaderSteps, CutSteps, WalError, Device}
 
 pub tells_header : {T : Type 0} (f : List ℕ) (r : Result T WalError) (a b : DiskState) → HeaderSteps f r a b → TellsRefusal Device r a b
 tells_header f r a b steps = ⊎_elim

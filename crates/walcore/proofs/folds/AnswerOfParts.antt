@@ -1,29 +1,8 @@
 -- What a fold answers, of its parts.
-use Rattle.std.proofs.Common.{◌≡◌, inl, inr, ⊎_elim, ℕ, ◌+◌, ◌-◌, ◌*◌, ◌<◌, ◌≤◌, List, ◌∷◌, map, length, refl, sym, ◌∙◌, ap, subst, arith, []}
-use Rattle.std.specs.Prelude.{Result, Ok, Err}
-use Rattle.std.specs.List.{range_with_len}
-use Rattle.std.proofs.lemmas.Bool.{cases_lt, cases_eq}
-use Rattle.std.proofs.lemmas.List.FromFn.{get_or-map-range_with_len, length-map-range_with_len}
-use Rattle.sqval.specs.Database.{Database, page, file_page}
-use Rattle.sqwal.specs.Header.{IsHeader, named_size}
-use Rattle.sqwal.specs.Frames.{size_of, content_of, IsFront}
-use Rattle.sqwal.specs.View.{Unnamed, IsLast, IsView}
-use Rattle.sqwal.specs.Index.{FrameTable}
-use Rattle.walcore.specs.internal.Phases.{Writing}
-use Rattle.recovery.proofs.Words.{Filling, byte, IsSettled, DiskState, IsSoundDisk, ArePresent, Syncs, Looks, Log, DiskError, table, present_list, settled_sync, IsJust, Bounds, TearsPages, KeepsBytes, IsLogDurable, Still, KeepsLog, page_by_bytes, page_within, refusal_after, present_in, had_refusal, ArePages, still_bytes}
-use Rattle.sqwal.proofs.log.UniquenessOfView.{named_or_not}
-use Rattle.walcore.specs.Folding.{FoldAnswerWithin}
-use Rattle.walcore.specs.internal.Steps.{EndAnswer, FoldedAnswer}
-use Rattle.walcore.specs.Plans.{IsFitWithin}
-use Rattle.walcore.specs.internal.Plans.{IsCopy, IsPlan, LogRefused, PlanAnswer, ReadAnswer}
-use Rattle.walcore.specs.declared.plan.Plan.{Plan}
-use Rattle.walcore.specs.declared.folding.Folded.{Folded}
-use Rattle.walcore.specs.declared.error.WalError.{WalError}
-use Rattle.walcore.specs.declared.error.WalError.TheVariants.{TooLarge, PageSize, NoMemory, Device, SectorAbovePage}
+use Rattle.std.proofs.Common.{◌≡◌, inl, inr, ⊎_elim, ℕ, ◌+◌, ◌-◌, ◌*◌, ◌<◌, ◌≤◌, List, ◌∷◌, map, length, refl, sym, ◌∙◌, ap, subst, arith, [], Result, Ok, Err}
+use Rattle.walcore.proofs.Words.{range_with_len, cases_lt, cases_eq, get_or-map-range_with_len, length-map-range_with_len, Database, page, file_page, IsHeader, named_size, size_of, content_of, IsFront, Unnamed, IsLast, IsView, FrameTable, Writing, Filling, byte, IsSettled, DiskState, IsSoundDisk, ArePresent, Syncs, Looks, Log, DiskError, table, present_list, settled_sync, IsJust, Bounds, TearsPages, KeepsBytes, IsLogDurable, Still, KeepsLog, page_by_bytes, page_within, refusal_after, present_in, had_refusal, ArePages, still_bytes, named_or_not, FoldAnswerWithin, EndAnswer, FoldedAnswer, IsFitWithin, IsCopy, IsPlan, LogRefused, PlanAnswer, ReadAnswer, Plan, Folded, WalError, TooLarge, PageSize, NoMemory, Device, SectorAbovePage, down_by, synced_down, settled_present, CopyAnswer}
 use Rattle.walcore.proofs.folds.PlanOfScannedLog.{fit_none, front_zero}
-use Rattle.crashdisk.proofs.sync.BytesOfSyncedLog.{down_by, synced_down, settled_present}
 use Rattle.walcore.proofs.folds.PhasesOfFold.{view_long, writing_keeps}
-use Rattle.recovery.specs.internal.Steps.{CopyAnswer}
 
 -- ---- A file with its log has a view at each frame.
 

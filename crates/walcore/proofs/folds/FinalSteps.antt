@@ -1,22 +1,13 @@
 -- The end of a fold: the database is synced, the log's header zeroed and synced, and the log cut and synced.
-use Rattle.std.proofs.Common.{◌≡◌, inr, ⊎_elim, ℕ, ◌≤◌, replicate, refl, sym, ◌∙◌, subst, arith, []}
-use Rattle.std.specs.Prelude.{Result, Ok, Err}
-use Rattle.recovery.proofs.Words.{FileState, IsSettled, DiskState, IsSoundDisk, Syncs, Db, Log, DiskError, HadRefusal, IsLogDurable, Later, SyncStep, refusal_after, had_refusal, synced_down, later_then, later_write, later_cut, told_err, told_ok, none_ok, sync_later, sync_refused, sync_done, ZeroSteps, zero_db}
-use Rattle.walcore.specs.Changes.{MayFoldWithin}
-use Rattle.walcore.specs.internal.Steps.{CutSteps, EndAnswer}
-use Rattle.walcore.specs.declared.error.WalError.{WalError}
-use Rattle.walcore.specs.declared.error.WalError.TheVariants.{Device}
-use Rattle.walcore.proofs.disk.PermittedChanges.{fold_step}
+use Rattle.std.proofs.Common.{◌≡◌, inr, ⊎_elim, ℕ, refl, sym, ◌∙◌, subst, arith, [], Result, Ok, Err}
+use Rattle.walcore.proofs.Words.{FileState, IsSettled, DiskState, IsSoundDisk, Syncs, Log, DiskError, HadRefusal, IsLogDurable, Later, refusal_after, had_refusal, synced_down, later_then, later_cut, told_err, told_ok, none_ok, sync_later, sync_refused, EndSteps, end_later, end_settled, MayFoldWithin, CutSteps, EndAnswer, WalError, Device}
+use Rattle.walcore.proofs.disk.PermittedChanges.{may_sync}
 
 module _ {T : Type 0} where
-  -- ---- The header is zeroed.
+  -- ---- The database is synced, and the header zeroed.
 
-  pub zero_later : (most size : ℕ) (r : Result T WalError) (a b : DiskState) → IsSoundDisk a → ZeroSteps Device 32 r a b → Later (MayFoldWithin most size) a b
-  zero_later most size r a b sound steps = ⊎_elim
-      (λ failed. later_write Log 0 (replicate 32 0) failed.0 a b (inr (refl, refl)) sound failed.3)
-      (λ done. let mid : Later (MayFoldWithin most size) a done.0 = later_write Log 0 (replicate 32 0) (Ok done.1.0) a done.0 (inr (refl, refl)) sound done.1.1 in
-      later_then a done.0 b mid (sync_later Device Log r done.0 b (inr tt) mid.sound done.2))
-      steps
+  pub fold_end : (most size : ℕ) (r : Result T WalError) (a b : DiskState) → IsSoundDisk a → EndSteps Device 32 r a b → Later (MayFoldWithin most size) a b
+  fold_end most size r a b sound steps = end_later Device 32 r a b steps (may_sync most size) (inr (refl, refl)) sound
 
   -- ---- The log is cut.
 
@@ -48,13 +39,16 @@ module _ {T : Type 0} where
 
   -- ---- All of it.
 
-  pub end_refused : {U : Type 0} (r : Result T WalError) (q : Result U WalError) (e : WalError) (a b c : DiskState) → a.refused ≤ b.refused → q ≡ Err e → (e ≡ Device) × HadRefusal b c → EndAnswer q a c
+  pub end_err : (q : Result T WalError) (e : WalError) (a b : DiskState) → q ≡ Err e → (e ≡ Device) × HadRefusal a b → EndAnswer q a b
   unfolding EndAnswer
-  end_refused {U = U} r q e a b c le is had = subst (λ (x : Result U WalError). EndAnswer x a c) (sym is) (had.0, refusal_after a b c le had.1)
+  end_err q e a b is had = subst (λ (x : Result T WalError). EndAnswer x a b) (sym is) had
 
-  pub end_done : (r4 r5 r6 : Result T WalError) (v4 v5 v6 : T) (a b c d : DiskState) → IsSoundDisk a → r4 ≡ Ok v4 → r5 ≡ Ok v5 → r6 ≡ Ok v6 → SyncStep Device Db r4 a b → ZeroSteps Device 32 r5 b c → CutSteps r6 c d → EndAnswer {T = T} (Ok v6) a d
+  pub end_cut : (u : T) (r : Result T WalError) (a b c : DiskState) → IsSoundDisk a → EndSteps {T = T} Device 32 (Ok u) a b → CutSteps r b c → EndAnswer r a c
   unfolding EndAnswer
-  end_done r4 r5 r6 v4 v5 v6 a b c d sound is4 is5 is6 first second third =
-      let at_b = fold_step 0 0 Db r4 a b sound first in
-      let at_c = zero_later 0 0 r5 b c at_b.sound second in
-      (λ db are. subst (λ (s : FileState). IsSettled s db) (sym (cut_db r6 c d third ∙ zero_db Device 32 r5 b c second)) (sync_done Device Db r4 v4 db a b sound is4 first are), cut_done r6 v6 c d at_c.sound is6 third)
+  end_cut u (Ok v) a b c sound steps cut = (
+    λ db are. subst (λ (s : FileState). IsSettled s db) (sym (cut_db (Ok v) b c cut)) (end_settled Device 32 (Ok u) a b steps u db sound refl are),
+    cut_done (Ok v) v b c (fold_end 0 0 (Ok u) a b sound steps).sound refl cut,
+  )
+  end_cut u (Err e) a b c sound steps cut =
+      let mid = fold_end 0 0 (Ok u) a b sound steps in
+      let had = cut_off (Err e) e b c mid.sound refl cut in (had.0, refusal_after a b c mid.refused had.1)

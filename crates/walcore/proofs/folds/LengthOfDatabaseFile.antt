@@ -1,18 +1,6 @@
 -- How long the file is that a crash leaves, while a log is folded into it.
-use Rattle.std.proofs.Common.{◌≡◌, ⊎_elim, ℕ, ◌*◌, ◌≤◌, List, length, sym, ◌∙◌, ap, subst, arith, replicate}
-use Rattle.std.specs.Prelude.{Result, Ok, Err}
-use Rattle.recovery.proofs.Words.{Database, File, Db, Log, DiskError, sound_writes, sound_cuts, image_elsewhere, IsLogDurable, Still, IsLong, KeepsLog, Told, SyncStep, image_still, down_by, down_syncs, file_syncs, down_read, ArePages, ZeroSteps}
-use Rattle.sqwal.specs.Header.{named_size}
-use Rattle.sqwal.specs.Frames.{size_of, IsFront}
-use Rattle.sqwal.specs.View.{IsView}
-use Rattle.sqwal.proofs.log.UniquenessOfView.{front_unique}
-use Rattle.crashdisk.specs.Call.{DiskState, IsSoundDisk, Syncs, Elsewhere}
-use Rattle.walcore.specs.internal.Steps.{CutSteps}
-use Rattle.walcore.specs.Lengths.{EndsBy, IsLengthOf}
-use Rattle.walcore.specs.internal.Lengths.{IsFronted}
-use Rattle.walcore.specs.declared.error.WalError.{WalError}
-use Rattle.walcore.specs.Alone.{wal_log}
-use Rattle.walcore.specs.declared.error.WalError.TheVariants.{Device}
+use Rattle.std.proofs.Common.{◌≡◌, ⊎_elim, ℕ, ◌*◌, ◌≤◌, List, length, sym, ◌∙◌, ap, subst, arith, Result, Ok}
+use Rattle.walcore.proofs.Words.{Database, File, Db, Log, DiskError, sound_syncs, sound_cuts, IsLogDurable, Still, IsLong, KeepsLog, SyncStep, image_still, down_by, down_syncs, down_read, ArePages, named_size, size_of, IsFront, IsView, front_unique, DiskState, IsSoundDisk, Syncs, EndSteps, long_syncs, long_else, long_zero, long_done, CutSteps, EndsBy, IsLengthOf, IsFronted, WalError, wal_log, Device}
 
 module _ (n : ℕ) where
   pub ends_long : (s : DiskState) → IsLong n s → EndsBy n s
@@ -32,48 +20,41 @@ module _ (n : ℕ) where
       let e : v ≡ w = down_read wal_log w s durable v read in
       long (subst (λ (x : List ℕ). IsFront (named_size x) x 0) e front) db image
 
-  pub long_syncs : {T : Type 0} (f : File) (result : Result T DiskError) (old new : DiskState) → IsSoundDisk old → Syncs f result old new → IsLong n old → IsLong n new
-  long_syncs f result old new sound synced long db image = long db (file_syncs f result old new sound synced db image)
-
-  pub long_step : {T : Type 0} (f : File) (result : Result T WalError) (old new : DiskState) → IsSoundDisk old → SyncStep Device f result old new → IsLong n old → IsLong n new
-  long_step f result old new sound step long = long_syncs f step.0 old new sound step.2 long
-
-  -- what is done to the log alone
-  long_else : {T : Type 0} (result : Result T DiskError) (old new : DiskState) → Elsewhere Log result old new → IsLong n old → IsLong n new
-  long_else result old new elsewhere long db image = long db (image_elsewhere Log result old new elsewhere db image)
-
-  pub long_zero : {T : Type 0} (result : Result T WalError) (old new : DiskState) → IsSoundDisk old → ZeroSteps Device 32 result old new → IsLong n old → IsLong n new
-  long_zero result old new sound steps long = ⊎_elim
-      (λ failed. long_else failed.0 old new failed.3.elsewhere long)
-      (λ done. long_step Log result done.0 new (sound_writes Log 0 (replicate 32 0) (Ok done.1.0) old done.0 sound done.1.1) done.2 (long_else (Ok done.1.0) old done.0 done.1.1.elsewhere long))
-      steps
-
   pub long_cut : {T : Type 0} (result : Result T WalError) (old new : DiskState) → IsSoundDisk old → CutSteps result old new → IsLong n old → IsLong n new
   long_cut result old new sound steps long = ⊎_elim
-      (λ failed. long_else failed.0 old new failed.3.elsewhere long)
-      (λ done. long_step Log result done.0 new (sound_cuts Log 0 (Ok done.1.0) old done.0 sound done.1.1) done.2 (long_else (Ok done.1.0) old done.0 done.1.1.elsewhere long))
+      (λ failed. long_else n failed.0 old new failed.3.elsewhere long)
+      (λ done. long_syncs n Log done.2.0 done.0 new (sound_cuts Log 0 (Ok done.1.0) old done.0 sound done.1.1) done.2.2 (long_else n (Ok done.1.0) old done.0 done.1.1.elsewhere long))
       steps
 
   pub long_still : (old new : DiskState) → Still old new → IsLong n old → IsLong n new
   long_still old new still long db image = long db (image_still old new still db image)
 
-  -- the file is so long as it is when it is synced
-  long_synced : {T : Type 0} (v : T) (called : Result T DiskError) (old new : DiskState) → old.db.len ≡ n → Told Device called (Ok v) → Syncs Db called old new → IsLong n new
-  long_synced v (Ok x) old new len told synced db image =
-      let least : old.db.len ≤ length db = subst (λ (k : ℕ). k ≤ length db) synced.file.least image.least in
-      let greatest : length db ≤ old.db.len = subst (λ (k : ℕ). length db ≤ k) synced.file.greatest image.greatest in
-      omega (arith, len)
-  long_synced v (Err e) old new len told synced db image = absurd told
-
-  pub long_done : {T : Type 0} (v : T) (old new : DiskState) → old.db.len ≡ n → SyncStep {T = T} Device Db (Ok v) old new → IsLong n new
-  long_done v old new len step = long_synced v step.0 old new len step.1 step.2
-
 -- the log keeps its front
 pub fronted_keeps : (w : List ℕ) (m : ℕ) (old new : DiskState) → KeepsLog old new → IsFronted w m old → IsFronted w m new
 fronted_keeps w m old new keeps is = record { durable = down_by w old new is.durable keeps.log keeps.tears keeps.kept keeps.handed; some = is.some; front = is.front }
 
-pub fronted_step : {T : Type 0} (w : List ℕ) (m : ℕ) (result : Result T WalError) (old new : DiskState) → IsSoundDisk old → SyncStep Device Db result old new → IsFronted w m old → IsFronted w m new
+fronted_step : {T : Type 0} (w : List ℕ) (m : ℕ) (result : Result T WalError) (old new : DiskState) → IsSoundDisk old → SyncStep Device Db result old new → IsFronted w m old → IsFronted w m new
 fronted_step w m result old new sound step is = record { durable = down_syncs w Db step.0 old new is.durable step.2; some = is.some; front = is.front }
+
+-- the file is synced, and the header zeroed
+module _ {T : Type 0} (n : ℕ) (result : Result T WalError) (old new : DiskState) (sound : IsSoundDisk old) (steps : EndSteps Device 32 result old new) where
+  pub long_end : IsLong n old → IsLong n new
+  long_end long = ⊎_elim
+      (λ failed. long_syncs n Db failed.1.0 old new sound failed.1.2 long)
+      (λ done. long_zero n Device 32 result done.0 new (sound_syncs Db done.1.1.0 old done.0 sound done.1.1.2) done.2 (long_syncs n Db done.1.1.0 old done.0 sound done.1.1.2 long))
+      steps
+
+  pub long_ended : (u : T) → old.db.len ≡ n → result ≡ Ok u → IsLong n new
+  long_ended u len is = ⊎_elim
+      (λ failed. absurd (let bad = failed.0 in cc))
+      (λ done. long_zero n Device 32 result done.0 new (sound_syncs Db done.1.1.0 old done.0 sound done.1.1.2) done.2 (long_done n Device done.1.0 old done.0 len done.1.1))
+      steps
+
+  pub ends_end : (w : List ℕ) (m : ℕ) → old.db.len ≡ n → IsFronted w m old → EndsBy n new
+  ends_end w m len is = ⊎_elim
+      (λ failed. ends_fronted n w m new (fronted_step w m result old new sound failed.1 is))
+      (λ done. ends_long n new (long_zero n Device 32 result done.0 new (sound_syncs Db done.1.1.0 old done.0 sound done.1.1.2) done.2 (long_done n Device done.1.0 old done.0 len done.1.1)))
+      steps
 
 -- a call that changes nothing
 pub length_still : (size : ℕ) (w : List ℕ) (n : ℕ) (old new : DiskState) → Still old new → IsLengthOf size w n old → IsLengthOf size w n new

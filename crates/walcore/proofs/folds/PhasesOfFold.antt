@@ -1,19 +1,6 @@
 -- The parts of a fold keep what shows one database.
-use Rattle.std.proofs.Common.{◌≡◌, inl, inr, ⊎_elim, ℕ, ◌+◌, ◌≤◌, List, length, get_or, refl, sym, ◌∙◌, ap, subst, arith}
-use Rattle.std.specs.Prelude.{Result, Ok, Err}
-use Rattle.std.proofs.lemmas.Bool.{cases_eq}
-use Rattle.recovery.proofs.Words.{Database, page, IsFile, length-file_page, get_or-file_page, byte, IsImage, DiskState, ArePresent, Syncs, IsLogDurable, Still, Suits, KeepsLog, SyncStep, Db, Log, DiskError, table, image_present, present_list, suits_still, suits_syncs, down_syncs, ShowsAlone, Agrees, ArePages, Filling, filling_still, filling_writes}
-use Rattle.sqwal.specs.Header.{named_size}
-use Rattle.sqwal.specs.Frames.{size_of, IsValidFrame, IsFront}
-use Rattle.sqwal.specs.View.{Unnamed, IsLast, IsView}
-use Rattle.sqwal.proofs.log.UniquenessOfView.{named_or_not, front_unique, view_file}
-use Rattle.recovery.proofs.PhasesOfRestore.{unwritten_begins, unwritten_shows, unwritten_still, unwritten_syncs, restoring_shows, restoring_keeps, restoring_syncs, restored_shows, restored_syncs, restored_down, restored_step}
-use Rattle.walcore.specs.Alone.{Show, wal_log}
-use Rattle.walcore.specs.Folding.{IsOfOtherSize}
-use Rattle.walcore.specs.internal.Phases.{IsOfSize, Scanning, Writing, Filed}
-use Rattle.walcore.specs.internal.Steps.{Copied, PutsRun, RunAnswer}
-use Rattle.walcore.specs.declared.error.WalError.{WalError}
-use Rattle.walcore.specs.declared.error.WalError.TheVariants.{Device}
+use Rattle.std.proofs.Common.{◌≡◌, inl, inr, ⊎_elim, ℕ, ◌≤◌, List, length, get_or, refl, sym, ◌∙◌, ap, subst, arith, Result, Ok}
+use Rattle.walcore.proofs.Words.{cases_eq, Database, page, IsFile, length-file_page, get_or-file_page, byte, IsImage, DiskState, ArePresent, Syncs, IsLogDurable, Still, Suits, KeepsLog, SyncStep, Db, Log, DiskError, table, image_present, present_list, suits_still, suits_syncs, down_syncs, ShowsAlone, Agrees, ArePages, Filling, named_size, size_of, IsValidFrame, IsFront, Unnamed, IsLast, IsView, named_or_not, front_unique, view_file, unwritten_begins, unwritten_shows, unwritten_still, unwritten_syncs, restoring_shows, restoring_keeps, restoring_syncs, restored_shows, restored_syncs, restored_down, restored_step, Show, wal_log, IsOfOtherSize, IsOfSize, Scanning, Writing, Filed, Copied, WalError, Device}
 use Rattle.walcore.proofs.folds.CopiedPages.{content_long}
 
 -- ---- Nothing was written yet.
@@ -37,18 +24,6 @@ agrees_by size old new suits shows w d durable alone = shows w d (scanning_begin
 -- ---- Pages are written.
 
 module _ (size : ℕ) (w : List ℕ) (m : ℕ) (d : Database) where
-  puts_run : (p k : ℕ) (called : Result (Unit {0}) DiskError) (old new : DiskState) → 1 ≤ p → Filling size d (Unnamed size w m) old → PutsRun size w m p k called old new → Filling size d (Unnamed size w m) new
-  puts_run p k called old new one is puts = filling_writes size d (Unnamed size w m) p k puts.bytes called puts.mid new (filling_still size d (Unnamed size w m) old puts.mid is puts.read) one
-      (λ j lt un. let last = puts.last j lt in un (puts.frame + j) last.first last.within last.names)
-      puts.long puts.write
-
-  pub filling_run : (p : ℕ) (result : Result ℕ WalError) (old new : DiskState) → 1 ≤ p → Filling size d (Unnamed size w m) old → RunAnswer size w m p result old new → Filling size d (Unnamed size w m) new
-  unfolding RunAnswer
-  filling_run p (Ok k) old new one is answer = ⊎_elim
-      (λ none. subst (λ (s : DiskState). Filling size d (Unnamed size w m) s) (sym none.2) is)
-      (λ puts. puts_run p k (Ok tt) old new one is puts) answer
-  filling_run p (Err e) old new one is answer = ⊎_elim (λ still. filling_still size d (Unnamed size w m) old new is still) (λ puts. puts_run p puts.0 puts.1 old new one is puts.2) answer.2
-
   -- each page of a view is a whole one
   pub view_long : (db : List ℕ) → IsValidFrame size w m → IsView size db w m d → (p : ℕ) → 1 ≤ p → p ≤ length d → length (page d p) ≡ size
   view_long db valid view p one le = ⊎_elim

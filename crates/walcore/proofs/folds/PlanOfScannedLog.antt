@@ -1,28 +1,6 @@
 -- What a scanned log is judged by, and the table of its frames.
-use Rattle.std.proofs.Common.{◌≡◌, ◌≢◌, inl, inr, ⊎_elim, ℕ, suc, ◌+◌, ◌-◌, ◌*◌, ◌<◌, ◌≤◌, List, ◌∷◌, ◌++◌, length, get_or, refl, sym, ◌∙◌, ap, subst, arith, length-append, []}
-use Rattle.std.specs.Prelude.{Option, Some, None, Result, Ok, Err}
-use Rattle.std.proofs.lemmas.Bool.{cases_lt, cases_eq}
-use Rattle.std.proofs.lemmas.Bool.Decides.{nat_tests}
-use Rattle.std.proofs.lemmas.List.{get_or-append-add, get_or_append_left}
-use Rattle.recovery.proofs.Words.{IsPageSize, Bounds, greatest, DiskState}
-use Rattle.sqval.proofs.page.PageSizes.{IsOneOf, one_of}
-use Rattle.sqwal.specs.Header.{IsHeader, named_size}
-use Rattle.sqwal.specs.Frames.{page_of, size_of, IsValidFrame, IsFront}
-use Rattle.sqwal.specs.Index.{FrameTable}
-use Rattle.sqwal.specs.Answers.{IsCommittedWithin}
-use Rattle.sqwal.specs.declared.scan.Front.{Front}
-use Rattle.sqwal.proofs.log.UniquenessOfView.{front_unique, front_none}
-use Rattle.walcore.specs.Folding.{IsTooLargeWithin}
-use Rattle.walcore.specs.Plans.{IsTable, IsFitWithin}
-use Rattle.walcore.specs.internal.Plans.{wanted_page, LogRefused, JudgeAnswer, PlanAnswer}
-use Rattle.walcore.specs.internal.Plans.{ReadAnswer}
-use Rattle.walcore.specs.internal.Steps.{ScanRefused, wal_scan}
-use Rattle.sqwal.specs.Took.{TookWithin}
-use Rattle.sqwal.specs.declared.scan.Scan.{Scan}
-use Rattle.walcore.specs.declared.plan.Plan.{Plan}
-use Rattle.walcore.specs.declared.error.WalError.{WalError}
-use Rattle.walcore.specs.declared.error.WalError.TheVariants.{TooLarge, PageSize, NoMemory, Device}
-use Rattle.recovery.specs.Scanning.{ScanAnswer}
+use Rattle.std.proofs.Common.{◌≡◌, ◌≢◌, inl, inr, ⊎_elim, ℕ, suc, ◌+◌, ◌-◌, ◌*◌, ◌<◌, ◌≤◌, List, ◌∷◌, ◌++◌, length, get_or, refl, sym, ◌∙◌, ap, subst, arith, length-append, [], Option, Some, None, Result, Ok, Err, get_or-append-add}
+use Rattle.walcore.proofs.Words.{cases_lt, cases_eq, nat_tests, get_or_append_left, IsPageSize, Bounds, greatest, DiskState, IsOneOf, one_of, IsHeader, named_size, page_of, size_of, IsValidFrame, IsFront, FrameTable, IsCommittedWithin, Front, front_unique, front_none, IsTooLargeWithin, IsTable, IsFitWithin, wanted_page, LogRefused, JudgeAnswer, PlanAnswer, ReadAnswer, ScanRefused, wal_scan, TookWithin, Scan, Plan, WalError, TooLarge, PageSize, NoMemory, Device, ScanAnswer}
 
 -- ---- A log without a valid header.
 

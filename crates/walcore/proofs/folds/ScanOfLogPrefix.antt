@@ -1,20 +1,8 @@
 -- What a scan of the first bytes of a log says of the log.
-use Rattle.std.proofs.Common.{◌≡◌, ℕ, suc, ◌+◌, ◌≤◌, List, ◌++◌, length, take, drop, refl, sym, subst, arith}
-use Rattle.std.specs.Prelude.{Bool, true, false, Result, Ok, Err}
-use Rattle.std.proofs.lemmas.List.{length-take-le, take-take, take-append-drop, get_or-drop}
-use Rattle.recovery.proofs.Words.{IsPageSize, AreBytes, DiskState}
-use Rattle.sqwal.specs.Header.{IsHeader, HeaderRefused, named_size}
-use Rattle.sqwal.specs.Frames.{AllPass, IsValidFrame}
-use Rattle.sqwal.specs.Answers.{LogRefusedWithin}
-use Rattle.sqwal.specs.declared.error.WalFormatError.{WalFormatError}
-use Rattle.sqwal.specs.declared.error.WalFormatError.TheVariants.{NotAWal, PageSize, HeaderSum, UnknownVersion, TooLong, NoMemory}
-use Rattle.sqwal.proofs.log.DependenceOnPrefix.{header_same, word_same, all_same}
-use Rattle.walcore.specs.internal.Steps.{IsWithoutHeader, ScanRefused, wal_scan}
-use Rattle.walcore.specs.declared.error.WalError.{WalError}
-use Rattle.walcore.specs.declared.error.WalError.TheVariants.{TooLarge, NoMemory as WalNoMemory}
-use Rattle.sqwal.specs.Took.{TookWithin, IsSettledWithin}
-use Rattle.sqwal.specs.declared.scan.Scan.{Scan}
-use Rattle.recovery.specs.Scanning.{PieceAnswer}
+use Rattle.std.proofs.Common.{◌≡◌, ℕ, suc, ◌+◌, ◌≤◌, List, ◌++◌, length, take, drop, refl, sym, subst, arith, Bool, true, false, Result, Ok, Err, length-take-le, take-take, take-append-drop, get_or-drop}
+use Rattle.walcore.proofs.Words.{IsPageSize, AreBytes, DiskState, IsHeader, HeaderRefused, named_size, AllPass, IsValidFrame, LogRefusedWithin, WalFormatError, NotAWal, HeaderSum, UnknownVersion, header_same, word_same, all_same, IsWithoutHeader, ScanRefused, wal_scan, WalError, TooLarge, TookWithin, IsSettledWithin, Scan, PieceAnswer}
+use Rattle.sqwal.specs.declared.error.WalFormatError.TheVariants.{PageSize, TooLong, NoMemory}
+use Rattle.walcore.specs.declared.error.WalError.TheVariants.{NoMemory as WalNoMemory}
 
 header_refused : (w x : List ℕ) (e : WalFormatError) → take 32 w ≡ take 32 x → 32 ≤ length x → HeaderRefused x e → IsHeader (named_size w) w → ⊥
 header_refused w x NotAWal same long bad is = bad (header_same (named_size w) w x 32 same (omega arith) long is).magic

@@ -1,24 +1,10 @@
 -- While zeros are written over the log's header, it is the log that it was, or has no valid frame; and so is the header of a log that is cut then.
-use Rattle.std.proofs.Common.{◌≡◌, ⊎_elim, ℕ, ◌+◌, ◌-◌, ◌<◌, ◌≤◌, max, Bool, true, false, List, [], ◌∷◌, length, take, drop, get_or, replicate, refl, sym, ◌∙◌, ap, subst, arith}
-use Rattle.std.specs.Prelude.{Result, Ok, Err}
-use Rattle.std.proofs.lemmas.List.{get_or-take, get_or-drop, ext_get_or, length-replicate}
-use Rattle.std.proofs.lemmas.Bool.{cases_lt}
-use Rattle.recovery.proofs.Words.{part, word, Database, size_some, DiskState, IsSoundDisk, ChangedBy, Cuts, Syncs, IsLogDurable, IsSteady, Log, DiskError, Stopped, Failed, TooLong, NoMemory, written_inside, sound_writes, sound_cuts, present_list, present_written, told_ok, none_ok, sector_some, sector_within, MayBeRead, ShowsAlone, Repeats, ZeroSteps, read_cases, zero_at, front_stands, front_bytes, front_listed, front_torn, zeroed_restored}
-use Rattle.sqwal.specs.Header.{IsHeader, named_size}
-use Rattle.sqwal.specs.Frames.{frame_at, frame_end, IsValidFrame}
-use Rattle.sqwal.proofs.log.DependenceOnPrefix.{frame_at-suc, frame_end-suc, frame_end-zero, header_same}
-use Rattle.crashdisk.specs.State.{FileState, byte, IsImage, IsSound, WriteTouches, written, Changed, IsSettled, CutTouches, cut_to}
-use Rattle.crashdisk.proofs.image.OriginOfImages.{table, not_torn}
-use Rattle.crashdisk.proofs.byte.SteadyBytes.{steady_cut}
-use Rattle.crashdisk.proofs.sync.BytesOfSyncedLog.{one_write, down_one, present_byte, synced_down}
-use Rattle.recovery.specs.internal.Phases.{Restored}
-use Rattle.recovery.proofs.PhasesOfRestore.{may_down, restored_shows, restored_syncs, restored_by}
-use Rattle.walcore.specs.Alone.{AreWhole, Show, wal_log}
-use Rattle.walcore.specs.internal.Phases.{IsOfSize, Filed}
-use Rattle.walcore.specs.internal.Steps.{CutSteps}
-use Rattle.walcore.specs.declared.error.WalError.{WalError}
-use Rattle.walcore.specs.declared.error.WalError.TheVariants.{Device}
-use Rattle.walcore.proofs.folds.PhasesOfFold.{show_left}
+use Rattle.std.proofs.Common.{◌≡◌, ⊎_elim, ℕ, ◌+◌, ◌-◌, ◌<◌, ◌≤◌, max, Bool, true, false, List, [], ◌∷◌, length, take, drop, get_or, replicate, refl, sym, ◌∙◌, ap, subst, arith, Result, Ok, Err, get_or-take, get_or-drop, ext_get_or}
+use Rattle.walcore.proofs.Words.{length-replicate, cases_lt, part, word, Database, size_some, DiskState, IsSoundDisk, ChangedBy, Cuts, Syncs, IsLogDurable, IsSteady, Log, DiskError, Stopped, Failed, TooLong, written_inside, sound_writes, sound_cuts, present_list, present_written, told_ok, none_ok, sector_some, sector_within, MayBeRead, ShowsAlone, Repeats, ZeroSteps, read_cases, zero_at, front_stands, front_bytes, front_listed, front_torn, zeroed_restored, IsHeader, named_size, frame_at, frame_end, IsValidFrame, frame_at-suc, frame_end-suc, frame_end-zero, header_same, FileState, byte, IsImage, IsSound, WriteTouches, written, Changed, IsSettled, CutTouches, cut_to, table, not_torn, steady_cut, down_one, present_byte, synced_down, Restored, may_down, restored_shows, restored_syncs, restored_by, AreWhole, Show, wal_log, IsOfSize, Filed, EndSteps, CutSteps, Copied, WalError, Device}
+use Rattle.recovery.proofs.Words.{NoMemory}
+use Rattle.crashdisk.proofs.sync.BytesOfSyncedLog.{one_write}
+use Rattle.recovery.proofs.EndOfRestore.{ended}
+use Rattle.walcore.proofs.folds.PhasesOfFold.{show_left, copied_shows, copied_down}
 
 -- Zeros at the front are no header.
 pub zeros_bad : (size : ℕ) (w : List ℕ) → ((i : ℕ) → i < 4 → get_or w i 0 ≡ 0) → IsHeader size w → ⊥
@@ -164,7 +150,21 @@ module _ (size : ℕ) (d : Database) (w : List ℕ) (old : DiskState) (is : Rest
       steps
 
 -- the log is cut, or not
-pub cut_shows : {T U : Type 0} (u : U) (result : Result T WalError) (size : ℕ) (d : Database) (w : List ℕ) (old mid new : DiskState) → Filed size d w old → ZeroSteps {T = U} Device 32 (Ok u) old mid → CutSteps result mid new → ShowsAlone wal_log size d new
+cut_shows : {T U : Type 0} (u : U) (result : Result T WalError) (size : ℕ) (d : Database) (w : List ℕ) (old mid new : DiskState) → Filed size d w old → ZeroSteps {T = U} Device 32 (Ok u) old mid → CutSteps result mid new → ShowsAlone wal_log size d new
 cut_shows u result size d w old mid new is zero cut =
     let zeros = zeros_down u old mid is.suits.sound zero in
     restored_shows wal_log size d new (log_cut size d zeros.0 mid (header_zeroed size d w old is (Ok u) mid zero) zeros.1 zeros.2 result new cut)
+
+-- ---- The end of a fold.
+
+-- the database is synced, and the header zeroed, or not
+pub end_shows : {T : Type 0} (size : ℕ) (w : List ℕ) (m : ℕ) (d : Database) (result : Result T WalError) (old new : DiskState) → Copied size w m d old → EndSteps Device 32 result old new → ShowsAlone wal_log size d new
+end_shows size w m d result old new is steps = ⊎_elim
+    (λ failed. copied_shows size w m d result old new is failed.1)
+    (λ done. zeroed_shows size d w done.0 (copied_down size w m d done.1.0 old done.0 is done.1.1) result new done.2)
+    steps
+
+pub end_cut_shows : {T U : Type 0} (size : ℕ) (w : List ℕ) (m : ℕ) (d : Database) (u : U) (result : Result T WalError) (old mid new : DiskState) → Copied size w m d old → EndSteps {T = U} Device 32 (Ok u) old mid → CutSteps result mid new → ShowsAlone wal_log size d new
+end_cut_shows size w m d u result old mid new is steps cut =
+    let done = ended Device 32 u old mid steps in
+    cut_shows u result size d w done.0 mid new (copied_down size w m d done.1.0 old done.0 is done.1.1) done.2 cut

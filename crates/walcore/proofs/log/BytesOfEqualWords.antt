@@ -1,10 +1,6 @@
 -- Words that spell the same number are the same bytes.
-use Rattle.std.proofs.Common.{◌≡◌, ℕ, zero, suc, ◌+◌, ◌*◌, ◌<◌, ◌≤◌, List, ◌++◌, length, take, drop, get_or, sym, ◌∙◌, ap, arith, length-drop}
-use Rattle.std.proofs.lemmas.List.{get_or-take, get_or-drop, length-take-le, ext_get_or}
-use Rattle.byteorder.specs.Endian.{big_number}
-use Rattle.byteorder.specs.Numbers.{big_from-take}
-use Rattle.recovery.proofs.Words.{part, word, AreBytes}
-use Rattle.sqwal.proofs.log.PartsOfBytes.{take_add}
+use Rattle.std.proofs.Common.{◌≡◌, ℕ, zero, suc, ◌+◌, ◌*◌, ◌<◌, ◌≤◌, List, ◌++◌, length, take, drop, get_or, sym, ◌∙◌, ap, arith, length-drop, get_or-take, get_or-drop, length-take-le, ext_get_or}
+use Rattle.walcore.proofs.Words.{big_number, big_from-take, part, word, AreBytes, take_add}
 
 record SameDigits (a b c d e f g h : ℕ) : Type 0 where
   pub first : a ≡ e

@@ -1,17 +1,6 @@
 -- The bytes of a log's next frame, and the sum behind it, are those that are made of its page.
-use Rattle.std.proofs.Common.{◌≡◌, ⊎_elim, ℕ, suc, ◌+◌, ◌-◌, ◌^◌, ◌<◌, ◌≤◌, cond, ◌==◌, List, [], ◌∷◌, ◌++◌, length, take, drop, get_or, sym, ◌∙◌, ap, subst, arith}
-use Rattle.std.proofs.lemmas.Bool.{cases_lt}
-use Rattle.std.proofs.lemmas.List.{get_or-take, get_or-drop, length-take, length-take-le, take-take, drop-take, drop_at, get_or_past}
-use Rattle.recovery.proofs.Words.{part, AreBytes}
-use Rattle.sqwal.specs.Sums.{IsSumOf}
-use Rattle.sqwal.specs.Header.{IsHeaderOf}
-use Rattle.sqwal.specs.Frames.{frame_end, page_of, size_of, content_of, summed, IsFrameHead}
-use Rattle.sqwal.specs.Log.{IsLog}
-use Rattle.sqwal.specs.declared.sum.Sum.{Sum}
-use Rattle.sqwal.specs.declared.header.WalHeader.{WalHeader}
-use Rattle.sqwal.proofs.log.DependenceOnPrefix.{frame_end-le, frame_end-head, header_same, all_same, page_same, size_same, content_same, summed_same}
-use Rattle.sqwal.proofs.log.LogWithAppendedFrame.{IsAppended, appended, header_of_same, word_fits}
-use Rattle.walcore.specs.Made.{IsExtended}
+use Rattle.std.proofs.Common.{◌≡◌, ⊎_elim, ℕ, suc, ◌+◌, ◌-◌, ◌^◌, ◌<◌, ◌≤◌, cond, ◌==◌, List, [], ◌∷◌, ◌++◌, length, take, drop, get_or, sym, ◌∙◌, ap, subst, arith, get_or-take, get_or-drop, length-take, length-take-le, take-take, drop_at}
+use Rattle.walcore.proofs.Words.{cases_lt, drop-take, get_or_past, part, AreBytes, IsSumOf, IsHeaderOf, frame_end, page_of, size_of, content_of, summed, IsFrameHead, IsLog, Sum, WalHeader, frame_end-le, frame_end-head, header_same, all_same, page_same, size_same, content_same, summed_same, IsAppended, appended, header_of_same, word_fits, IsExtended}
 use Rattle.walcore.proofs.log.LogOfHeaderAlone.{append_bytes, numbers_bytes}
 use Rattle.walcore.proofs.commit.EraAfterCommit.{content_whole}
 use Rattle.walcore.proofs.log.ExtensionByFrames.{grown_none, grown_next, grown_all}

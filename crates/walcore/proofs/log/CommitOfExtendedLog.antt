@@ -1,16 +1,6 @@
 -- The frames of a commit behind a log.
-use Rattle.std.proofs.Common.{◌≡◌, ⊎_elim, ℕ, suc, ◌+◌, ◌-◌, ◌<◌, ◌≤◌, cond, List, length, take, sym, ◌∙◌, ap, arith}
-use Rattle.std.specs.Prelude.{◌==◌, Option, None, unwrap_or}
-use Rattle.std.proofs.lemmas.Bool.{cases_lt}
-use Rattle.std.proofs.lemmas.Bool.Decides.{nat_tests}
-use Rattle.std.proofs.lemmas.List.{take_all}
-use Rattle.recovery.proofs.Words.{Database, Pages, page, supplied, apply}
-use Rattle.sqwal.specs.Frames.{frame_end, page_of, size_of, content_of, IsCommit}
-use Rattle.sqwal.specs.Log.{IsLog}
-use Rattle.walcore.specs.Made.{IsExtended}
-use Rattle.walcore.specs.internal.Era.{IsApplied}
-use Rattle.walcore.specs.internal.Standing.{AreCommitted}
-use Rattle.sqval.proofs.database.CommittedDatabase.{number_at, supplied_none, supplied_at, length-apply, page-apply}
+use Rattle.std.proofs.Common.{◌≡◌, ⊎_elim, ℕ, suc, ◌+◌, ◌-◌, ◌<◌, ◌≤◌, cond, List, length, take, sym, ◌∙◌, ap, arith, ◌==◌, Option, None, unwrap_or, take_all}
+use Rattle.walcore.proofs.Words.{cases_lt, nat_tests, Database, Pages, page, supplied, apply, frame_end, page_of, size_of, content_of, IsCommit, IsLog, IsExtended, IsApplied, AreCommitted, number_at, supplied_none, supplied_at, length-apply, page-apply}
 
 module _ (size : ℕ) (e : List ℕ) (n : ℕ) (pages : Pages) (count : ℕ) (f : List ℕ) (log : IsLog size e n) (more : IsExtended size e n pages count f) where
   -- the log before is in front

@@ -1,17 +1,7 @@
 -- What writes and syncs of the log keep of the frames that are durable.
-use Rattle.std.proofs.Common.{◌≡◌, inl, inr, ⊎_elim, ℕ, ◌+◌, ◌*◌, ◌/◌, ◌<◌, ◌≤◌, Bool, true, false, List, ◌∷◌, ◌++◌, length, take, get_or, refl, sym, ◌∙◌, ap, subst, arith, []}
-use Rattle.std.specs.Prelude.{Result, Ok, Err}
-use Rattle.std.specs.List.{Contains}
-use Rattle.std.proofs.lemmas.List.{length-take-le, get_or-take}
-use Rattle.std.proofs.lemmas.List.Elements.{Contains-push_cases}
-use Rattle.std.proofs.lemmas.Nat.{le-div}
-use Rattle.std.proofs.Math.Nat.{div-mul-le_self, mul-le-mul_right}
-use Rattle.recovery.proofs.Words.{FileState, byte, DiskState, IsSoundDisk, ArePresent, Writes, Syncs, with_write, SinceSync, IsFixed, HasFixed, Spreads, Log, DiskError, Stopped, Failed, TooLong, NoMemory, present_image}
-use Rattle.crashdisk.proofs.call.EffectsOfCalls.{fixed_writes, fixed_syncs, fixed_synced}
-use Rattle.sqwal.specs.Frames.{frame_end}
-use Rattle.sqwal.specs.Log.{IsLog}
-use Rattle.sqwal.proofs.log.DependenceOnPrefix.{frame_end-le, frame_end-head}
-use Rattle.walcore.specs.Standing.{HoldsFrames, IsBehind, IsPresent}
+use Rattle.std.proofs.Common.{◌≡◌, inl, inr, ⊎_elim, ℕ, ◌+◌, ◌*◌, ◌/◌, ◌<◌, ◌≤◌, Bool, true, false, List, ◌∷◌, ◌++◌, length, take, get_or, refl, sym, ◌∙◌, ap, subst, arith, [], Result, Ok, Err, length-take-le, get_or-take}
+use Rattle.walcore.proofs.Words.{Contains, Contains-push_cases, le-div, div-mul-le_self, mul-le-mul_right, FileState, byte, DiskState, IsSoundDisk, ArePresent, Writes, Syncs, with_write, SinceSync, IsFixed, HasFixed, Spreads, Log, DiskError, Stopped, Failed, TooLong, present_image, fixed_writes, fixed_syncs, fixed_synced, frame_end, IsLog, frame_end-le, frame_end-head, HoldsFrames, IsBehind, IsPresent}
+use Rattle.recovery.proofs.Words.{NoMemory}
 use Rattle.walcore.proofs.crash.HistoryInCrashImages.{down_image, down_head}
 use Rattle.walcore.proofs.disk.UntornDisk.{untorn, writes_untorn, syncs_untorn}
 

@@ -1,14 +1,6 @@
 -- An era begins, and frames behind it carry it on.
 use Rattle.std.proofs.Common.{◌≡◌, ◌⊎◌, inl, inr, ⊎_elim, ℕ, ◌+◌, ◌-◌, ◌<◌, ◌≤◌, List, [], length, take, get_or, refl, sym, ◌∙◌, ap, subst, arith}
-use Rattle.std.proofs.lemmas.Bool.{cases_lt, cases_eq}
-use Rattle.recovery.proofs.Words.{Database, page, IsHeld}
-use Rattle.sqwal.specs.Frames.{frame_end, page_of, size_of, IsCommit}
-use Rattle.sqwal.specs.Log.{IsLog}
-use Rattle.sqwal.specs.View.{IsLast, IsOver}
-use Rattle.sqwal.proofs.log.DependenceOnPrefix.{frame_end-le, page_same, size_same, content_same, commit_same}
-use Rattle.sqwal.proofs.log.UniquenessOfView.{over_same, last_same, unnamed_same}
-use Rattle.walcore.specs.Era.{IsBoundary, shown, IsEra}
-use Rattle.walcore.specs.internal.Era.{IsApplied}
+use Rattle.walcore.proofs.Words.{cases_lt, cases_eq, Database, page, IsHeld, frame_end, page_of, size_of, IsCommit, IsLog, IsLast, IsOver, frame_end-le, page_same, size_same, content_same, commit_same, over_same, last_same, unnamed_same, IsBoundary, shown, IsEra, IsApplied}
 
 -- a new log, over the last database of the history
 pub era_begin : (size : ℕ) (f : List ℕ) (h : List Database) → IsLog size f 0 → 1 ≤ length h → ((i : ℕ) → i < length h → IsHeld size (get_or h i [])) → IsEra size f 0 0 h (λ i. length h - 1)

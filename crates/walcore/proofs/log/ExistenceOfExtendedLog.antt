@@ -1,19 +1,6 @@
 -- There is a frame behind each log, and so a commit.
-use Rattle.std.proofs.Common.{◌≡◌, ◌≢◌, ℕ, zero, suc, ◌+◌, ◌*◌, ◌/◌, ◌%◌, ◌^◌, ◌<◌, ◌≤◌, Bool, true, false, cond, ◌==◌, List, ◌∷◌, ◌++◌, length, take, drop, get_or, refl, sym, subst, arith, lit<, length-append, []}
-use Rattle.std.proofs.lemmas.List.{take_all}
-use Rattle.byteorder.specs.Endian.{big_bytes}
-use Rattle.recovery.proofs.Words.{word, AreBytes, Pages}
-use Rattle.sqwal.specs.Sums.{number, words, sum_0, sum_1, GoesOn}
-use Rattle.sqwal.specs.Header.{order_of, IsHeaderOf}
-use Rattle.sqwal.specs.Frames.{summed, IsFrameHead}
-use Rattle.sqwal.specs.Log.{IsLog}
-use Rattle.sqwal.specs.declared.sum.Order.{Order}
-use Rattle.sqwal.specs.declared.sum.Sum.{Sum}
-use Rattle.sqwal.specs.declared.header.WalHeader.{WalHeader}
-use Rattle.sqwal.proofs.checksum.Sums.{goes_on_none, goes_on_pair}
-use Rattle.sqwal.proofs.log.LogWithAppendedFrame.{IsAppended, appended, word_fits}
-use Rattle.sqwal.proofs.log.WrittenHeadersAndFrames.{page_pairs}
-use Rattle.walcore.specs.Made.{IsExtended}
+use Rattle.std.proofs.Common.{◌≡◌, ◌≢◌, ℕ, zero, suc, ◌+◌, ◌*◌, ◌/◌, ◌%◌, ◌^◌, ◌<◌, ◌≤◌, Bool, true, false, cond, ◌==◌, List, ◌∷◌, ◌++◌, length, take, drop, get_or, refl, sym, subst, arith, lit<, length-append, [], take_all}
+use Rattle.walcore.proofs.Words.{big_bytes, word, AreBytes, Pages, number, words, sum_0, sum_1, GoesOn, order_of, IsHeaderOf, summed, IsFrameHead, IsLog, Order, Sum, WalHeader, goes_on_none, goes_on_pair, IsAppended, appended, word_fits, page_pairs, IsExtended}
 use Rattle.walcore.proofs.log.LogOfHeaderAlone.{append_bytes, numbers_bytes}
 use Rattle.walcore.proofs.log.ExtensionByFrames.{IsGrown, grown_none, grown_next, grown_all}
 

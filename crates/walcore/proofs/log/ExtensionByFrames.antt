@@ -1,15 +1,6 @@
 -- The frames of a commit, one after another, behind a log.
-use Rattle.std.proofs.Common.{◌≡◌, ⊎_elim, ℕ, suc, ◌+◌, ◌<◌, ◌≤◌, cond, ◌==◌, List, [], length, take, get_or, sym, ◌∙◌, ap, subst, arith}
-use Rattle.std.proofs.lemmas.List.{take_all}
-use Rattle.std.proofs.lemmas.Bool.{cases_eq}
-use Rattle.recovery.proofs.Words.{AreBytes, Pages}
-use Rattle.sqwal.specs.Frames.{frame_end, page_of, size_of, content_of}
-use Rattle.sqwal.specs.Log.{IsLog}
-use Rattle.sqwal.specs.declared.sum.Sum.{Sum}
-use Rattle.sqwal.specs.declared.header.WalHeader.{WalHeader}
-use Rattle.sqwal.proofs.log.LogWithAppendedFrame.{IsAppended}
-use Rattle.sqwal.proofs.log.DependenceOnPrefix.{frame_end-le, page_same, size_same, content_same, take_less}
-use Rattle.walcore.specs.Made.{IsExtended}
+use Rattle.std.proofs.Common.{◌≡◌, ⊎_elim, ℕ, suc, ◌+◌, ◌<◌, ◌≤◌, cond, ◌==◌, List, [], length, take, get_or, sym, ◌∙◌, ap, subst, arith, take_all}
+use Rattle.walcore.proofs.Words.{cases_eq, AreBytes, Pages, frame_end, page_of, size_of, content_of, IsLog, Sum, WalHeader, IsAppended, frame_end-le, page_same, size_same, content_same, take_less, IsExtended}
 
 -- frame n + k + 1 is that of page k of a commit to size s
 pub record IsFrameOf (size n : ℕ) (pages : Pages) (s : ℕ) (f : List ℕ) (k : ℕ) : Type 0 where

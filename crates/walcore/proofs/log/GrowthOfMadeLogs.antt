@@ -1,13 +1,6 @@
 -- The logs that were made grow, by one that is begun and by frames behind the newest.
 use Rattle.std.proofs.Common.{◌≡◌, ◌⊎◌, inl, inr, ⊎_elim, ℕ, zero, suc, ◌<◌, ◌≤◌, List, [], ◌∷◌, length, take, get_or, refl, sym, ◌∙◌, ap, subst, arith}
-use Rattle.std.specs.List.{Contains}
-use Rattle.std.proofs.lemmas.List.{get_or_default}
-use Rattle.std.proofs.lemmas.List.Elements.{Contains-get_or}
-use Rattle.recovery.proofs.Words.{word}
-use Rattle.sqwal.specs.Log.{IsLog}
-use Rattle.sqwal.specs.Refusal.{most_frames}
-use Rattle.sqwal.proofs.log.DependenceOnPrefix.{word_same, frame_end-zero}
-use Rattle.walcore.specs.Made.{AreMade, HasNewSalts, IsBegun}
+use Rattle.walcore.proofs.Words.{Contains, get_or_default, Contains-get_or, word, IsLog, most_frames, word_same, frame_end-zero, AreMade, HasNewSalts, IsBegun}
 
 pub made_here : {X : Type 0} (x : X) (xs : List X) → Contains (x ∷ xs) x
 made_here x xs = (0, omega arith, refl)

@@ -1,19 +1,8 @@
 -- Before the first commit: a log of no more than a header, and the calls that keep what it shows.
-use Rattle.std.proofs.Common.{◌≡◌, ℕ, ◌-◌, ◌<◌, ◌≤◌, ◌&&◌, Bool, true, false, not, List, length, get_or, refl, sym, ◌∙◌, ap, subst, arith}
-use Rattle.std.specs.Prelude.{Result, Ok, Err, IsOk}
-use Rattle.recovery.proofs.Words.{DiskState, IsSoundDisk, ArePresent, IsLogDurable, SyncStep, Log, down_syncs, synced_down, sound_writes, sound_syncs, written_inside, present_written, alone_syncs}
-use Rattle.walcore.specs.internal.Opening.{HeaderSteps}
-use Rattle.walcore.specs.internal.Commits.{RestAnswer}
-use Rattle.walcore.specs.internal.Syncing.{SyncsFrames, SyncsBy}
-use Rattle.walcore.specs.internal.Restarts.{MayRestart, TakesOver}
-use Rattle.walcore.specs.Uncommitted.{IsUncommitted, KeepsUncommitted}
-use Rattle.walcore.specs.declared.opening.NewLog.{NewLog}
-use Rattle.walcore.specs.declared.state.Core.{Core}
-use Rattle.walcore.specs.declared.error.WalError.{WalError}
-use Rattle.walcore.specs.declared.error.WalError.TheVariants.{Device}
+use Rattle.std.proofs.Common.{◌≡◌, ℕ, ◌-◌, ◌<◌, ◌≤◌, ◌&&◌, Bool, true, false, not, List, length, get_or, refl, sym, ◌∙◌, ap, subst, arith, Result, Ok, Err, IsOk}
+use Rattle.walcore.proofs.Words.{DiskState, IsSoundDisk, ArePresent, IsLogDurable, SyncStep, Log, down_syncs, synced_down, sound_writes, sound_syncs, written_inside, present_written, alone_syncs, HeaderSteps, RestAnswer, SyncsFrames, SyncsBy, MayRestart, TakesOver, IsUncommitted, KeepsUncommitted, NewLog, Core, WalError, Device, wal_log}
 use Rattle.walcore.proofs.openings.ShownDatabaseAfterOpening.{header_alone}
 use Rattle.walcore.proofs.openings.StepOfOpening.{HeaderDone, header_done}
-use Rattle.walcore.specs.Alone.{wal_log}
 
 module _ {T : Type 0} (f v : List ℕ) (long : length f ≡ 32) (short : length v ≤ 32) (r : Result T WalError) (u : T) (s t : DiskState) (sound : IsSoundDisk s) (durable : IsLogDurable s v) (was : r ≡ Ok u) (steps : HeaderSteps f r s t) where
   done : HeaderDone f long r s t sound steps T

@@ -1,18 +1,6 @@
 -- A header that is written is a log of no frames, made.
-use Rattle.std.proofs.Common.{◌≡◌, ⊎_elim, ℕ, zero, suc, ◌/◌, ◌^◌, ◌<◌, List, [], ◌∷◌, ◌++◌, length, refl, sym, ◌∙◌, ap, subst, lit<}
-use Rattle.std.proofs.lemmas.Nat.{mod_below}
-use Rattle.std.specs.Prelude.{slice_index, nat_eq, cond}
-use Rattle.std.specs.Int.{byte_at, bytes_high_first}
-use Rattle.std.specs.List.{flat_map}
-use Rattle.byteorder.specs.Endian.{big_bytes}
-use Rattle.recovery.proofs.Words.{word, AreBytes, IsPageSize, one_of}
-use Rattle.sqwal.specs.Sums.{words, sum_0, sum_1}
-use Rattle.sqwal.specs.Header.{order_of, IsHeaderOf}
-use Rattle.sqwal.specs.declared.sum.Order.TheVariants.{Big, Little}
-use Rattle.sqwal.specs.declared.sum.Sum.{Sum}
-use Rattle.sqwal.specs.declared.header.WalHeader.{WalHeader}
-use Rattle.sqwal.proofs.log.WrittenHeadersAndFrames.{front_words, header_made}
-use Rattle.walcore.specs.Made.{IsBegun}
+use Rattle.std.proofs.Common.{◌≡◌, ⊎_elim, ℕ, zero, suc, ◌/◌, ◌^◌, ◌<◌, List, [], ◌∷◌, ◌++◌, length, refl, sym, ◌∙◌, ap, subst, lit<, slice_index, nat_eq, cond}
+use Rattle.walcore.proofs.Words.{mod_below, byte_at, bytes_high_first, flat_map, big_bytes, word, AreBytes, IsPageSize, one_of, words, sum_0, sum_1, order_of, IsHeaderOf, Big, Little, Sum, WalHeader, front_words, header_made, IsBegun}
 
 pub append_bytes : (xs ys : List ℕ) → AreBytes xs → AreBytes ys → AreBytes (xs ++ ys)
 append_bytes [] ys a b i = b i

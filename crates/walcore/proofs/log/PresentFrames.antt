@@ -1,12 +1,6 @@
 -- The frames that are there to be read.
-use Rattle.std.proofs.Common.{◌≡◌, inl, ⊎_elim, ℕ, ◌+◌, ◌-◌, ◌≤◌, List, length, take, drop, get_or, sym, ◌∙◌, ap, subst, arith, length-drop}
-use Rattle.std.specs.Prelude.{Ok}
-use Rattle.std.proofs.lemmas.Bool.{cases_lt}
-use Rattle.std.proofs.lemmas.List.{get_or-take, get_or-drop, length-take-le}
-use Rattle.recovery.proofs.Words.{FileState, byte, DiskState, Writes, Syncs, Log, written_inside, written_outside, present_written, present_synced, part}
-use Rattle.sqwal.specs.Frames.{frame_end}
-use Rattle.sqwal.proofs.log.DependenceOnPrefix.{frame_end-le}
-use Rattle.walcore.specs.Standing.{IsPresent}
+use Rattle.std.proofs.Common.{◌≡◌, inl, ⊎_elim, ℕ, ◌+◌, ◌-◌, ◌≤◌, List, length, take, drop, get_or, sym, ◌∙◌, ap, subst, arith, length-drop, Ok, get_or-take, get_or-drop, length-take-le}
+use Rattle.walcore.proofs.Words.{cases_lt, FileState, byte, DiskState, Writes, Syncs, Log, written_inside, written_outside, present_written, present_synced, part, frame_end, frame_end-le, IsPresent}
 
 module _ (size : ℕ) (e : List ℕ) (s t : DiskState) where
   -- calls that left the log alone

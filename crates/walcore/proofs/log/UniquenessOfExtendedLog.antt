@@ -1,13 +1,6 @@
 -- A log that is begun or extended is determined by what is said of it.
-use Rattle.std.proofs.Common.{◌≡◌, ℕ, zero, suc, ◌+◌, ◌≤◌, List, ◌++◌, length, take, refl, sym, ◌∙◌, ap, subst, arith}
-use Rattle.std.proofs.lemmas.List.{take_all}
-use Rattle.recovery.proofs.Words.{part, word, AreBytes, Pages}
-use Rattle.sqwal.specs.Sums.{words, sum_0, sum_1}
-use Rattle.sqwal.specs.Header.{order_of}
-use Rattle.sqwal.specs.Frames.{frame_at, frame_end, page_of, size_of, content_of, summed, Passes}
-use Rattle.sqwal.specs.Log.{IsLog}
-use Rattle.sqwal.proofs.log.DependenceOnPrefix.{frame_at-suc, frame_at-end, frame_at-head, frame_end-le, below_end, word_same, order_same, part_same, summed_same}
-use Rattle.walcore.specs.Made.{IsBegun, IsExtended}
+use Rattle.std.proofs.Common.{◌≡◌, ℕ, zero, suc, ◌+◌, ◌≤◌, List, ◌++◌, length, take, refl, sym, ◌∙◌, ap, subst, arith, take_all}
+use Rattle.walcore.proofs.Words.{part, word, AreBytes, Pages, words, sum_0, sum_1, order_of, frame_at, frame_end, page_of, size_of, content_of, summed, Passes, IsLog, frame_at-suc, frame_at-end, frame_at-head, frame_end-le, below_end, word_same, order_same, part_same, summed_same, IsBegun, IsExtended}
 use Rattle.walcore.proofs.log.BytesOfEqualWords.{take_on, word_next}
 
 -- two lists of bytes that are the same up to a place, and go on to a later one

@@ -1,18 +1,7 @@
 -- Each moment of a run makes something of the logs.
-use Rattle.std.proofs.Common.{◌≡◌, ℕ, zero, suc, ◌+◌, ◌%◌, ◌^◌, ◌<◌, ◌≤◌, Bool, true, false, cond, not, ◌&&◌, ◌==◌, List, ◌∷◌, length, take, drop, get_or, Option, Some, None, refl, sym, ◌∙◌, subst, arith, lit<, length-drop, []}
-use Rattle.std.proofs.lemmas.List.{get_or-drop, length-take-le}
-use Rattle.std.proofs.lemmas.Nat.{mod_below}
-use Rattle.std.proofs.lemmas.Bool.Decides.{nat_tests}
-use Rattle.recovery.proofs.Words.{part, word, AreBytes, Pages, IsPageSize, IsFaultless, Answer, Done, Refused, Refuses, newest}
-use Rattle.sqwal.specs.Frames.{frame_at, frame_end, page_of, size_of, content_of, Passes}
-use Rattle.sqwal.specs.Log.{IsLog}
-use Rattle.sqwal.proofs.log.LogWithAppendedFrame.{word_fits}
-use Rattle.sqwal.proofs.log.DependenceOnPrefix.{frame_end-zero, frame_end-suc, frame_end-le, frame_at-end}
-use Rattle.walcore.specs.CommitRefusals.{refusal_of}
-use Rattle.walcore.specs.Machine.{State, Act, Opens, Commits, Syncs, Checkpoints, Restarts, closed, committed, commit_refusal, CommitStep, Step}
-use Rattle.walcore.specs.Made.{IsBegun, IsExtended}
-use Rattle.walcore.specs.Making.{Made, BeginsLog, Extends, Copies, MadeByRestart, MadeByCommit, MadeByCopy, MadeBySync, IfBegun, Makes, has_begun}
-use Rattle.walcore.specs.LogLaws.{IsInForce, HasNewest, AreWords}
+use Rattle.std.proofs.Common.{◌≡◌, ℕ, zero, suc, ◌+◌, ◌%◌, ◌^◌, ◌<◌, ◌≤◌, Bool, true, false, cond, not, ◌&&◌, ◌==◌, List, ◌∷◌, length, take, drop, get_or, Option, Some, None, refl, sym, ◌∙◌, subst, arith, lit<, length-drop, [], get_or-drop, length-take-le}
+use Rattle.walcore.proofs.Words.{mod_below, nat_tests, part, word, AreBytes, Pages, IsPageSize, IsFaultless, Answer, Done, Refused, Refuses, newest, frame_at, frame_end, page_of, size_of, content_of, Passes, IsLog, word_fits, frame_end-zero, frame_end-suc, frame_end-le, frame_at-end, refusal_of, State, Act, Opens, Commits, Checkpoints, Restarts, closed, committed, commit_refusal, CommitStep, Step, IsBegun, IsExtended, Made, BeginsLog, Extends, Copies, MadeByRestart, MadeByCommit, MadeByCopy, MadeBySync, IfBegun, Makes, has_begun, IsInForce, HasNewest, AreWords}
+use Rattle.walcore.specs.Machine.{Syncs}
 use Rattle.walcore.proofs.commit.AcceptedCommit.{granted, cond_none, few_refusals}
 use Rattle.walcore.proofs.log.LogOfHeaderAlone.{begun_exists}
 use Rattle.walcore.proofs.log.ExistenceOfExtendedLog.{IsFrame, AreFrames, size_fits, extended_exists}

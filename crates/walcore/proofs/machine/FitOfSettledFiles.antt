@@ -1,29 +1,11 @@
 -- Files that are durable fit where a world begins with the database that they show.
-use Rattle.std.proofs.Common.{◌≡◌, inl, inr, ⊎_elim, ℕ, zero, suc, ◌+◌, ◌-◌, ◌*◌, ◌<◌, ◌≤◌, false, true, List, [], ◌∷◌, map, length, take, refl, sym, ◌∙◌, ap, subst, arith}
-use Rattle.std.specs.List.{Contains, range_with_len}
-use Rattle.std.proofs.lemmas.Bool.{cases_eq, cases_lt}
-use Rattle.std.proofs.lemmas.List.{length-take-le, take-take}
-use Rattle.std.proofs.lemmas.List.FromFn.{get_or-map-range_with_len, length-map-range_with_len}
-use Rattle.recovery.proofs.Words.{part, most_bytes, IsPageSize, IsJust, IsHeld, Files, length-file_page, IsImage, IsSettled, DiskState, IsLogDurable, Suits, down_one, settled_one, MayBeRead, ShowsWhole, read_cases}
-use Rattle.sqval.specs.Database.{Database, page, file_page}
-use Rattle.sqwal.specs.Header.{IsHeader, named_size}
-use Rattle.sqwal.specs.Frames.{frame_at, frame_end, size_of, AllPass, IsValidFrame, IsCommit, IsFront}
-use Rattle.sqwal.specs.Log.{IsLog}
-use Rattle.sqwal.specs.View.{IsView}
-use Rattle.sqwal.specs.Refusal.{most_frames}
-use Rattle.sqwal.proofs.log.ExistenceOfFront.{all_decided, header_decided, front_exists}
-use Rattle.sqwal.proofs.log.DependenceOnPrefix.{frame_end-zero, frame_end-head, frame_end-le, frame_at-end, take_less, part_same, header_same, all_same}
-use Rattle.sqwal.proofs.log.UniquenessOfView.{front_unique, named_or_not}
-use Rattle.walcore.specs.Made.{AreMade, NoChance}
-use Rattle.walcore.specs.Opening.{MayOpen}
-use Rattle.walcore.specs.Plans.{IsFit}
-use Rattle.walcore.specs.Fits.{FitsAlone, beginning_beside}
+use Rattle.std.proofs.Common.{◌≡◌, inl, inr, ⊎_elim, ℕ, zero, suc, ◌+◌, ◌-◌, ◌*◌, ◌<◌, ◌≤◌, false, true, List, [], ◌∷◌, map, length, take, refl, sym, ◌∙◌, ap, subst, arith, length-take-le, take-take}
+use Rattle.walcore.proofs.Words.{Contains, range_with_len, cases_eq, cases_lt, get_or-map-range_with_len, length-map-range_with_len, part, most_bytes, IsPageSize, IsJust, IsHeld, Files, length-file_page, IsImage, IsSettled, DiskState, IsLogDurable, Suits, down_one, settled_one, MayBeRead, ShowsWhole, read_cases, Database, page, file_page, IsHeader, named_size, frame_at, frame_end, size_of, AllPass, IsValidFrame, IsCommit, IsFront, IsLog, IsView, most_frames, all_decided, header_decided, front_exists, frame_end-zero, frame_end-head, frame_end-le, frame_at-end, take_less, part_same, header_same, all_same, front_unique, named_or_not, AreMade, NoChance, MayOpen, IsFit, FitsAlone, beginning_beside, wal_log}
 use Rattle.walcore.proofs.machine.FitOfNewDisk.{held_at, made_nothing}
 use Rattle.walcore.proofs.folds.CopiedPages.{content_long}
 use Rattle.walcore.proofs.crash.FrontOfSurvivingLog.{just_file}
 use Rattle.walcore.proofs.folds.AnswerOfParts.{view_exists}
 use Rattle.walcore.proofs.restart.ShownDatabaseDuringRestart.{just_shows}
-use Rattle.walcore.specs.Alone.{wal_log}
 
 -- ---- they fit
 

@@ -1,18 +1,6 @@
 -- A core over a log without frames fits.
-use Rattle.std.proofs.Common.{◌≡◌, inl, ℕ, ◌+◌, ◌-◌, ◌<◌, Bool, true, false, cond, List, ◌∷◌, length, get_or, refl, sym, ◌∙◌, ap, subst, arith, Option, Some, None}
-use Rattle.std.specs.Prelude.{sum_by}
-use Rattle.recovery.proofs.Words.{Database, IsImage, DiskState, IsJust, present_image, newest}
-use Rattle.sqwal.specs.Frames.{frame_end, summed}
-use Rattle.sqwal.specs.Sums.{IsSumOf}
-use Rattle.sqwal.specs.Header.{IsHeaderOf}
-use Rattle.walcore.specs.Machine.{reader_at}
-use Rattle.walcore.specs.Standing.{Stands, IsPresent}
-use Rattle.walcore.specs.Fits.{Past, FitsDisk, FitsCore, IsBound, AreTogether, IsCore, times, has_mark}
-use Rattle.walcore.specs.internal.Opening.{IsNewCore}
-use Rattle.walcore.specs.declared.opening.NewLog.{NewLog}
-use Rattle.walcore.specs.declared.reader.Reader.{Reader}
-use Rattle.walcore.specs.declared.state.Core.{Core}
-use Rattle.sqwal.proofs.log.DependenceOnPrefix.{frame_end-le}
+use Rattle.std.proofs.Common.{◌≡◌, inl, ℕ, ◌+◌, ◌-◌, ◌<◌, Bool, true, false, cond, List, ◌∷◌, length, get_or, refl, sym, ◌∙◌, ap, subst, arith, Option, Some, None, sum_by}
+use Rattle.walcore.proofs.Words.{Database, IsImage, DiskState, IsJust, present_image, newest, frame_end, summed, IsSumOf, IsHeaderOf, reader_at, Stands, IsPresent, Past, FitsDisk, FitsCore, IsBound, AreTogether, IsCore, times, has_mark, IsNewCore, NewLog, Reader, Core, frame_end-le}
 use Rattle.walcore.proofs.crash.HistoryInCrashImages.{stands_shows, present_last}
 use Rattle.walcore.proofs.sync.LogWithRepeatedFrame.{behind_none}
 

@@ -1,21 +1,6 @@
 -- What fits an engine still fits after calls that change nothing of its files.
-use Rattle.std.proofs.Common.{◌≡◌, inl, inr, ℕ, ◌+◌, ◌*◌, ◌≤◌, Bool, false, cond, List, get_or, refl, sym, ◌∙◌, ap, subst, ◌<◌}
-use Rattle.std.specs.Prelude.{IsTrue, None}
-use Rattle.recovery.proofs.Words.{FileState, IsImage, DiskState, Database, IsJust, Answer, Refused, SameFiles, Still, same_files, image_same, present_in, MayBeRead, newest}
-use Rattle.sqwal.specs.Header.{IsHeaderOf}
-use Rattle.sqwal.specs.Frames.{frame_end, page_of, summed}
-use Rattle.sqwal.specs.Sums.{IsSumOf}
-use Rattle.sqwal.specs.Index.{FrameTable}
-use Rattle.sqwal.specs.declared.header.WalHeader.{WalHeader}
-use Rattle.sqwal.specs.declared.sum.Sum.{Sum}
-use Rattle.walcore.specs.Alone.{AreWhole, wal_log}
-use Rattle.walcore.specs.Machine.{reader_at, Act, Step}
-use Rattle.walcore.specs.Making.{Makes}
-use Rattle.walcore.specs.CommitRefusals.{most_pages}
-use Rattle.walcore.specs.Standing.{IsBehind, Stands, IsPresent}
-use Rattle.walcore.specs.Fits.{Past, IsLeft, FitsDisk, IsIndexed, IsBound, AreTogether, IsCore, FitsCore, StepsTo, times}
-use Rattle.walcore.specs.declared.state.Core.{Core}
-use Rattle.crashdisk.proofs.page.RecoverablePages.{suits_same}
+use Rattle.std.proofs.Common.{◌≡◌, inl, inr, ℕ, ◌+◌, ◌*◌, ◌≤◌, Bool, false, cond, List, get_or, refl, sym, ◌∙◌, ap, subst, ◌<◌, IsTrue, None}
+use Rattle.walcore.proofs.Words.{FileState, IsImage, DiskState, Database, IsJust, Answer, Refused, SameFiles, Still, same_files, image_same, present_in, MayBeRead, newest, IsHeaderOf, frame_end, page_of, summed, IsSumOf, FrameTable, WalHeader, Sum, AreWhole, wal_log, reader_at, Act, Step, Makes, most_pages, IsBehind, Stands, IsPresent, Past, IsLeft, FitsDisk, IsIndexed, IsBound, AreTogether, IsCore, FitsCore, StepsTo, times, Core, suits_same}
 use Rattle.walcore.proofs.disk.PermittedChanges.{nothing_may}
 use Rattle.walcore.proofs.log.DurableFrames.{holds_elsewhere}
 use Rattle.walcore.proofs.log.PresentFrames.{present_by}

@@ -1,16 +1,6 @@
 -- What is no run of the machine.
-use Rattle.std.proofs.Common.{◌≡◌, ◌≢◌, ⊎_elim, ℕ, zero, suc, ◌+◌, ◌<◌, ◌≤◌, List, [], ◌∷◌, ◌++◌, length, take, get_or, sym, ◌∙◌, ap, arith, length-append}
-use Rattle.std.proofs.Math.ListN.{get_or-append}
-use Rattle.std.proofs.Math.Seq.{get_or-append_seam}
-use Rattle.std.proofs.lemmas.List.{length-take-le, get_or-take}
-use Rattle.std.proofs.lemmas.Bool.{cases_eq}
-use Rattle.sqval.specs.Database.{Database, page}
-use Rattle.sqwal.specs.Header.{named_size}
-use Rattle.sqwal.proofs.log.ExistenceOfFront.{front_exists}
-use Rattle.sqwal.proofs.log.UniquenessOfView.{view_unique}
-use Rattle.walcore.specs.Alone.{Show}
-use Rattle.walcore.specs.Machine.{start, opened, committed, synced, gone, begun}
-use Rattle.walcore.specs.Rows.{NoLostSync, NoSkipped, NoReturn, NoOtherPage, NoEarlyComplete}
+use Rattle.std.proofs.Common.{◌≡◌, ◌≢◌, ⊎_elim, ℕ, zero, suc, ◌+◌, ◌<◌, ◌≤◌, List, [], ◌∷◌, ◌++◌, length, take, get_or, sym, ◌∙◌, ap, arith, length-append, length-take-le, get_or-take}
+use Rattle.walcore.proofs.Words.{get_or-append, get_or-append_seam, cases_eq, Database, page, named_size, front_exists, view_unique, Show, start, opened, committed, synced, gone, begun, NoLostSync, NoSkipped, NoReturn, NoOtherPage, NoEarlyComplete}
 use Rattle.walcore.proofs.machine.StepsOfRun.{after, opening, first_opening}
 
 -- a file and a log show one database

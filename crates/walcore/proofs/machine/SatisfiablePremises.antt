@@ -1,10 +1,6 @@
 -- The premises on a run can be met.
 use Rattle.std.proofs.Common.{ℕ, List, [], refl, arith}
-use Rattle.std.specs.List.{Contains}
-use Rattle.recovery.proofs.Words.{Answer}
-use Rattle.walcore.specs.Machine.{Opens}
-use Rattle.walcore.specs.Made.{NoChance}
-use Rattle.walcore.specs.Making.{Permits, nothing}
+use Rattle.walcore.proofs.Words.{Contains, Answer, Opens, NoChance, Permits, nothing}
 
 pub made_passes : (logs : List (List ℕ)) (e : List ℕ) → Contains logs e → NoChance logs e
 made_passes logs e has = record {

@@ -1,9 +1,9 @@
 -- What a step may answer.
 use Rattle.std.proofs.Common.{◌≡◌, inl, inr, ℕ, Bool, true, false, cond, IsTrue, IsFalse, length, Option, Some, None, refl, ◌∙◌, ap}
-use Rattle.recovery.proofs.Words.{Pages, page, IsOf, refused_of, accepted, IsExpected, at}
-use Rattle.sqval.specs.Answers.{Files, Answer, Done, Reader, Page, Complete, Partial, NoReader, Refused, PlainStep, told, is_accepted}
-use Rattle.walcore.specs.Machine.{Act, Opens, Commits, Syncs, Begins, Reads, Ends, Checkpoints, Restarts, Crashes, Sets, State, reader_at, all_newest, gone, closed, committed, call_refusal, commit_refusal, read_refusal, restart_refusal, OpenStep, CommitStep, SyncStep, BeginStep, ReadStep, EndStep, CheckpointStep, RestartStep, Step}
-use Rattle.walcore.specs.Laws.{shown, at_end, expected, takes_memory, needs_disk}
+use Rattle.walcore.proofs.Words.{Pages, page, IsOf, refused_of, accepted, IsExpected, at, Files, Answer, Done, Page, Complete, Partial, NoReader, Refused, PlainStep, told, is_accepted, Act, Opens, Commits, Begins, Reads, Ends, Checkpoints, Restarts, Crashes, Sets, State, reader_at, all_newest, gone, closed, committed, call_refusal, commit_refusal, read_refusal, restart_refusal, OpenStep, CommitStep, BeginStep, ReadStep, EndStep, CheckpointStep, RestartStep, Step, at_end, expected, takes_memory, needs_disk}
+use Rattle.sqval.specs.Answers.{Reader}
+use Rattle.walcore.specs.Machine.{Syncs, SyncStep}
+use Rattle.walcore.specs.Laws.{shown}
 
 open_of : (s : State) (found : Files) (answer : Answer) (b a : ℕ) (t : State) → OpenStep s found answer b a t → IsOf Done true true answer b a
 open_of s found Done b a t h = inl refl

@@ -1,12 +1,6 @@
 -- What each step of the machine keeps.
-use Rattle.std.proofs.Common.{◌≡◌, ℕ, zero, suc, ◌+◌, ◌<◌, ◌≤◌, Bool, true, false, ◌&&◌, List, ◌∷◌, ◌++◌, length, take, set, Option, Some, None, refl, sym, ◌∙◌, ap, subst, arith, length-append, length-take, lit<, ◌==◌, []}
-use Rattle.std.specs.List.{list_all}
-use Rattle.std.proofs.lemmas.List.{take-append-le, take-take}
-use Rattle.std.proofs.lemmas.Bool.Decides.{nat_tests}
-use Rattle.recovery.proofs.Words.{Database, Pages, apply, Answer, Moment, Runs, last, newest}
-use Rattle.walcore.specs.CommitRefusals.{most_pages}
-use Rattle.walcore.specs.Machine.{Act, State, start, is_bound, forgotten, opened, gone, closed, committed, synced, checkpointed, restarted, begun, ended, commit_refusal, Step}
-use Rattle.walcore.specs.Laws.{IsSane, Keeps}
+use Rattle.std.proofs.Common.{◌≡◌, ℕ, zero, suc, ◌+◌, ◌<◌, ◌≤◌, Bool, true, false, ◌&&◌, List, ◌∷◌, ◌++◌, length, take, set, Option, Some, None, refl, sym, ◌∙◌, ap, subst, arith, length-append, length-take, lit<, ◌==◌, [], take-take}
+use Rattle.walcore.proofs.Words.{list_all, take-append-le, nat_tests, Database, Pages, apply, Answer, Moment, Runs, last, newest, most_pages, Act, State, start, is_bound, forgotten, opened, gone, closed, committed, synced, checkpointed, restarted, begun, ended, commit_refusal, Step, IsSane, Keeps}
 use Rattle.walcore.proofs.commit.AcceptedCommit.{cond_none, room_enough}
 use Rattle.walcore.proofs.machine.StepTargets.{Targets, step_in}
 

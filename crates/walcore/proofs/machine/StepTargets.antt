@@ -1,7 +1,8 @@
 -- Where one step may lead.
 use Rattle.std.proofs.Common.{◌≡◌, inl, inr, ℕ, ◌<◌, ◌≤◌, Bool, true, false, length, Option, Some, None, refl, sym, subst}
-use Rattle.recovery.proofs.Words.{Pages, Files, Answer, Done, Reader, Page, Complete, Partial, NoReader, Refused, Refuses, PlainStep}
-use Rattle.walcore.specs.Machine.{Act, Opens, Commits, Syncs, Begins, Reads, Ends, Checkpoints, Restarts, Crashes, Sets, State, reader_at, opened, gone, closed, committed, synced, checkpointed, restarted, begun, ended, call_refusal, commit_refusal, read_refusal, restart_refusal, OpenStep, CommitStep, SyncStep, BeginStep, ReadStep, EndStep, CheckpointStep, RestartStep, Step}
+use Rattle.walcore.proofs.Words.{Pages, Files, Answer, Done, Page, Complete, Partial, NoReader, Refused, Refuses, PlainStep, Act, Opens, Commits, Begins, Reads, Ends, Checkpoints, Restarts, Crashes, Sets, State, reader_at, opened, gone, closed, committed, synced, checkpointed, restarted, begun, ended, call_refusal, commit_refusal, read_refusal, restart_refusal, OpenStep, CommitStep, BeginStep, ReadStep, EndStep, CheckpointStep, RestartStep, Step}
+use Rattle.recovery.proofs.Words.{Reader}
+use Rattle.walcore.specs.Machine.{Syncs, SyncStep}
 
 -- P holds of each state that a step may lead to
 pub record Targets (P : State → Type 0) (s : State) : Type 0 where

@@ -1,9 +1,6 @@
 -- The steps of a run, one after another.
 use Rattle.std.proofs.Common.{◌≡◌, ℕ, ◌<◌, ◌≤◌, List, [], ◌∷◌, length, refl, subst, arith}
-use Rattle.recovery.proofs.Words.{Files, Answer, Done, Moment, Runs, at}
-use Rattle.walcore.specs.Alone.{Show}
-use Rattle.walcore.specs.Machine.{Act, Opens, State, opened, start, Step}
-use Rattle.walcore.specs.Rows.{IsRunOn}
+use Rattle.walcore.proofs.Words.{Files, Answer, Done, Moment, Runs, at, Show, Act, Opens, State, opened, start, Step, IsRunOn}
 
 -- these moments are a run on from here
 pub record Goes (s : State) (before : ℕ) (ms : List (Moment Act)) : Type 0 where

@@ -1,10 +1,7 @@
 -- What a moment makes is determined.
 use Rattle.std.proofs.Common.{◌≡◌, ℕ, Bool, true, false, not, ◌&&◌, ◌==◌, ◌%◌, List, [], ◌∷◌, length, sym, ◌∙◌, ap, subst}
-use Rattle.recovery.proofs.Words.{Pages, Answer}
-use Rattle.sqwal.specs.Frames.{page_of, size_of, content_of}
-use Rattle.walcore.specs.Machine.{Act, Opens, Commits, Syncs, Checkpoints, Restarts}
-use Rattle.walcore.specs.Made.{IsExtended}
-use Rattle.walcore.specs.Making.{Made, BeginsLog, Extends, Copies, MadeByRestart, MadeByCommit, MadeByCopy, MadeBySync, IfBegun, Makes, has_begun}
+use Rattle.walcore.proofs.Words.{Pages, Answer, page_of, size_of, content_of, Act, Opens, Commits, Checkpoints, Restarts, IsExtended, Made, BeginsLog, Extends, Copies, MadeByRestart, MadeByCommit, MadeByCopy, MadeBySync, IfBegun, Makes, has_begun}
+use Rattle.walcore.specs.Machine.{Syncs}
 use Rattle.walcore.proofs.log.UniquenessOfExtendedLog.{begun_unique, extended_unique, count_unique}
 
 begins_once : (size sequence salt1 salt2 : ℕ) (old new other : Made) → BeginsLog size sequence salt1 salt2 old new → BeginsLog size sequence salt1 salt2 old other → new ≡ other

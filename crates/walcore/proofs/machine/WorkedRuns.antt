@@ -1,10 +1,8 @@
 -- Worked runs, step by step.
 use Rattle.std.proofs.Common.{◌≡◌, ℕ, ◌+◌, false, List, ◌∷◌, length, Some, None, refl, inl, inr, lit<, lit≤, nat_lt, []}
-use Rattle.sqval.specs.Database.{page}
-use Rattle.walcore.specs.CommitRefusals.{refusal_of}
+use Rattle.walcore.proofs.Words.{page, refusal_of, Synced, Lost, LostForGood, Waits, CommitsRefused, SyncFailed, Forgotten, TwoReaders, refuses_first}
 use Rattle.walcore.proofs.machine.StepsOfRun.{end, next, go, on_base}
-use Rattle.walcore.specs.Rows.{Synced, Lost, LostForGood, Waits, Stopped, CommitsRefused, SyncFailed, Forgotten, TwoReaders}
-use Rattle.recovery.proofs.Words.{refuses_first}
+use Rattle.walcore.specs.Rows.{Stopped}
 
 -- a commit of a page of the right length
 fits : (used : ℕ) (content : List ℕ) → length content ≡ 512 → nat_lt 1048576 (used + 1) ≡ false → refusal_of 1 512 used ((1, content) ∷ []) 1 ≡ None

@@ -1,12 +1,6 @@
 -- What an opening finds, and how its fold keeps it.
-use Rattle.std.proofs.Common.{◌≡◌, inl, inr, ⊎_elim, ℕ, ◌*◌, ◌<◌, ◌≤◌, Bool, true, false, IsTrue, List, length, get_or, refl, sym, ◌∙◌, ap, subst, arith, []}
-use Rattle.std.specs.Prelude.{Result}
-use Rattle.recovery.proofs.Words.{Database, IsImage, DiskState, IsSoundDisk, ArePresent, Syncs, Log, DiskError, IsLogDurable, Files, present_image, down_one, file_syncs, AreFiles, ShowsAlone, MayBeRead, ShowsWhole, shows_by, at, last, newest}
-use Rattle.sqwal.specs.Frames.{size_of}
-use Rattle.walcore.specs.Alone.{Show, wal_log}
-use Rattle.walcore.specs.Lengths.{EndsBy, IsLengthOf}
-use Rattle.walcore.specs.Made.{NoChance}
-use Rattle.walcore.specs.Fits.{Past, ShowsOne, IsLeft, FitsDisk}
+use Rattle.std.proofs.Common.{◌≡◌, inl, inr, ⊎_elim, ℕ, ◌*◌, ◌<◌, ◌≤◌, Bool, true, false, IsTrue, List, length, get_or, refl, sym, ◌∙◌, ap, subst, arith, [], Result}
+use Rattle.walcore.proofs.Words.{Database, IsImage, DiskState, IsSoundDisk, ArePresent, Syncs, Log, DiskError, IsLogDurable, Files, present_image, down_one, file_syncs, AreFiles, ShowsAlone, MayBeRead, ShowsWhole, shows_by, at, last, newest, size_of, Show, wal_log, EndsBy, IsLengthOf, NoChance, Past, ShowsOne, IsLeft, FitsDisk}
 use Rattle.walcore.proofs.machine.ImpossibleRuns.{show_unique}
 
 -- the files that an opening finds show one database with each file that may be left

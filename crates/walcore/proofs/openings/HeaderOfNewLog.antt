@@ -1,14 +1,6 @@
 -- The steps of an opening.
 use Rattle.std.proofs.Common.{◌≡◌, ℕ, List, length, take, refl, []}
-use Rattle.recovery.proofs.Words.{AreBytes}
-use Rattle.sqwal.specs.Frames.{summed}
-use Rattle.sqwal.specs.Header.{IsHeaderOf}
-use Rattle.sqwal.specs.Sums.{IsSumOf, GoesOn}
-use Rattle.sqwal.specs.declared.sum.Order.{Order}
-use Rattle.sqwal.specs.declared.sum.Order.TheVariants.{Big}
-use Rattle.sqwal.specs.declared.sum.Sum.{Sum}
-use Rattle.sqwal.specs.declared.header.WalHeader.{WalHeader}
-use Rattle.walcore.specs.internal.Opening.{IsNewLog}
+use Rattle.walcore.proofs.Words.{AreBytes, summed, IsHeaderOf, IsSumOf, GoesOn, Order, Big, Sum, WalHeader, IsNewLog}
 use Rattle.walcore.proofs.log.LogOfHeaderAlone.{begun_by}
 
 -- ---- how many pages a file has

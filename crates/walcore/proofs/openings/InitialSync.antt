@@ -1,11 +1,6 @@
 -- An opening that syncs the log first.
-use Rattle.std.proofs.Common.{◌≡◌, ℕ, refl, sym, subst}
-use Rattle.std.specs.Prelude.{Result, Ok, Err}
-use Rattle.recovery.proofs.Words.{Database, DiskState, Syncs, Log, DiskError, ShowsAlone, Agrees}
-use Rattle.walcore.specs.Opening.{OpensOn, OpensSynced}
-use Rattle.walcore.specs.declared.error.WalError.{WalError}
-use Rattle.walcore.specs.declared.error.WalError.TheVariants.{Device}
-use Rattle.walcore.specs.Alone.{wal_log}
+use Rattle.std.proofs.Common.{◌≡◌, ℕ, refl, sym, subst, Result, Ok, Err}
+use Rattle.walcore.proofs.Words.{Database, DiskState, Syncs, Log, DiskError, ShowsAlone, Agrees, OpensOn, OpensSynced, WalError, Device, wal_log}
 
 module _ (size : ℕ) (old mid : DiskState) where
   -- the sync is refused

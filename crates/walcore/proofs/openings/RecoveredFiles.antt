@@ -1,23 +1,6 @@
 -- What an opening has when it has folded what it found.
-use Rattle.std.proofs.Common.{◌≡◌, inl, inr, ⊎_elim, ℕ, suc, ◌*◌, ◌<◌, ◌≤◌, List, ◌∷◌, length, refl, sym, ◌∙◌, ap, subst, arith, []}
-use Rattle.std.specs.Prelude.{Result, Ok, Err}
-use Rattle.recovery.proofs.Words.{Database, IsImage, DiskState, ArePresent, Syncs, Log, present_list, DiskError, most_bytes, IsLogDurable, TearsPages, Still, Later, IsJust, IsHeld, Files, present_image, down_by, synced_down, down_present, later_sync, later_then, later_still, size_some, file_count, had_refusal, image_still, present_in, refusal_after, suits_by, AreFiles, MayRefuse, may_after, ShowsAlone, Agrees, narrows_syncs, narrows_still, at}
-use Rattle.sqwal.specs.Header.{IsHeader, named_size}
-use Rattle.sqwal.specs.Frames.{frame_end, size_of, IsValidFrame, IsFront}
-use Rattle.sqwal.specs.Refusal.{most_frames}
-use Rattle.sqwal.proofs.log.DependenceOnPrefix.{word_same, frame_end-le, frame_end-suc}
-use Rattle.walcore.specs.Alone.{Show, wal_log}
-use Rattle.walcore.specs.Folding.{IsEmptyDurable, FoldAnswer}
-use Rattle.walcore.specs.internal.Folding.{IsTooLarge}
-use Rattle.walcore.specs.Lengths.{EndsBy, KeepsLength}
-use Rattle.walcore.specs.Made.{AreMade, NoChance}
-use Rattle.walcore.specs.Fits.{Past, IsLeft, FitsDisk}
-use Rattle.walcore.specs.Changes.{MayFold}
-use Rattle.walcore.specs.Opening.{FileFault}
-use Rattle.walcore.specs.internal.Opening.{CountAnswer, FileJudged, RecoverAnswer}
-use Rattle.walcore.specs.declared.folding.Folded.{Folded}
-use Rattle.walcore.specs.declared.error.WalError.{WalError}
-use Rattle.walcore.specs.declared.error.WalError.TheVariants.{TooLarge, PageSize, NoMemory, Device, SectorAbovePage}
+use Rattle.std.proofs.Common.{◌≡◌, inl, inr, ⊎_elim, ℕ, suc, ◌*◌, ◌<◌, ◌≤◌, List, ◌∷◌, length, refl, sym, ◌∙◌, ap, subst, arith, [], Result, Ok, Err}
+use Rattle.walcore.proofs.Words.{Database, IsImage, DiskState, ArePresent, Syncs, Log, present_list, DiskError, most_bytes, IsLogDurable, TearsPages, Still, Later, IsJust, IsHeld, Files, present_image, down_by, synced_down, down_present, later_sync, later_then, later_still, size_some, file_count, had_refusal, image_still, present_in, refusal_after, suits_by, AreFiles, MayRefuse, may_after, ShowsAlone, Agrees, narrows_syncs, narrows_still, at, IsHeader, named_size, frame_end, size_of, IsValidFrame, IsFront, most_frames, word_same, frame_end-le, frame_end-suc, Show, wal_log, IsEmptyDurable, FoldAnswer, IsTooLarge, EndsBy, KeepsLength, AreMade, NoChance, Past, IsLeft, FitsDisk, MayFold, FileFault, CountAnswer, FileJudged, RecoverAnswer, Folded, WalError, TooLarge, PageSize, NoMemory, Device, SectorAbovePage}
 use Rattle.walcore.proofs.crash.ImagesOfSyncedLog.{down_left}
 use Rattle.walcore.proofs.folds.PlanOfScannedLog.{front_zero}
 use Rattle.walcore.proofs.crash.NarrowedImages.{left_narrows}

@@ -1,18 +1,6 @@
 -- Why an opening is refused before it writes.
-use Rattle.std.proofs.Common.{◌≡◌, ◌⊎◌, inl, inr, ⊎_elim, ℕ, ◌*◌, ◌/◌, ◌%◌, ◌≤◌, List, refl, sym, ◌∙◌, ap, subst, arith}
-use Rattle.std.proofs.Math.Nat.{div-mul-le_self, mod-eq-sub-div-mul}
-use Rattle.std.specs.Prelude.{Result, Ok, Err}
-use Rattle.sqwal.specs.Header.{named_size}
-use Rattle.sqwal.specs.Frames.{IsFront}
-use Rattle.recovery.proofs.Words.{DiskState, IsSoundDisk, ArePresent, Looks, DiskError, usual, HadRefusal, TearsPages, Still, still_then}
-use Rattle.walcore.specs.Folding.{FoldAnswer}
-use Rattle.walcore.specs.Opening.{FileFault}
-use Rattle.walcore.specs.internal.Opening.{CountAnswer, FileJudged, FrontJudged}
-use Rattle.walcore.specs.Plans.{IsFit}
-use Rattle.walcore.specs.internal.Plans.{ReadAnswer}
-use Rattle.walcore.specs.declared.plan.Plan.{Plan}
-use Rattle.walcore.specs.declared.error.WalError.{WalError}
-use Rattle.walcore.specs.declared.error.WalError.TheVariants.{TooLarge, PageSize, Device}
+use Rattle.std.proofs.Common.{◌≡◌, ◌⊎◌, inl, inr, ⊎_elim, ℕ, ◌*◌, ◌/◌, ◌%◌, ◌≤◌, List, refl, sym, ◌∙◌, ap, subst, arith, Result, Ok, Err}
+use Rattle.walcore.proofs.Words.{div-mul-le_self, mod-eq-sub-div-mul, named_size, IsFront, DiskState, IsSoundDisk, ArePresent, Looks, DiskError, usual, HadRefusal, TearsPages, Still, still_then, FoldAnswer, FileFault, CountAnswer, FileJudged, FrontJudged, IsFit, ReadAnswer, Plan, WalError, TooLarge, PageSize, Device}
 use Rattle.walcore.proofs.folds.AnswerOfParts.{look_refused, looked_bytes, read_folds, fold_looked}
 
 module _ {T : Type 0} (size : ℕ) (w : List ℕ) (fault : WalError) where

@@ -1,16 +1,6 @@
 -- Why an opening is refused, whatever bytes are there.
-use Rattle.std.proofs.Common.{◌≡◌, inl, inr, ⊎_elim, ℕ, ◌*◌, ◌≤◌, List, length, refl, sym, ◌∙◌, ap, subst, arith}
-use Rattle.std.specs.Prelude.{Result, Ok, Err, IfErr}
-use Rattle.std.proofs.lemmas.Bool.{cases_lt, cases_eq}
-use Rattle.sqwal.specs.Header.{named_size}
-use Rattle.sqwal.specs.Frames.{size_of, IsFront}
-use Rattle.recovery.proofs.Words.{DiskState, IsSoundDisk, Syncs, Log, most_bytes, usual, HadRefusal, TearsPages, KeepsBytes, Still, Files, refusal_after, present_in, if_err, AreFiles}
-use Rattle.walcore.specs.Folding.{FoldAnswer}
-use Rattle.walcore.specs.Opening.{IsCounted, OpenRefused, MayOpen}
-use Rattle.walcore.specs.internal.Opening.{CountAnswer, FileJudged}
-use Rattle.walcore.specs.declared.folding.Folded.{Folded}
-use Rattle.walcore.specs.declared.error.WalError.{WalError}
-use Rattle.walcore.specs.declared.error.WalError.TheVariants.{TooLarge, PageSize, Device}
+use Rattle.std.proofs.Common.{◌≡◌, inl, inr, ⊎_elim, ℕ, ◌*◌, ◌≤◌, List, length, refl, sym, ◌∙◌, ap, subst, arith, Result, Ok, Err, IfErr}
+use Rattle.walcore.proofs.Words.{cases_lt, cases_eq, named_size, size_of, IsFront, DiskState, IsSoundDisk, Syncs, Log, most_bytes, usual, HadRefusal, TearsPages, KeepsBytes, Still, Files, refusal_after, present_in, if_err, AreFiles, FoldAnswer, IsCounted, OpenRefused, MayOpen, CountAnswer, FileJudged, Folded, WalError, TooLarge, PageSize, Device}
 use Rattle.walcore.proofs.folds.LengthOfDatabaseFile.{front_none}
 use Rattle.walcore.proofs.folds.AnswerOfParts.{bytes_then, fold_then, synced_bytes, synced_later, synced_fits, looked_bytes, fits_still}
 

@@ -1,20 +1,8 @@
 -- Where nothing of the log was unsynced and all that a crash may leave showed one database, it does so after an opening.
-use Rattle.std.proofs.Common.{◌≡◌, inl, ⊎_elim, ℕ, ◌+◌, ◌≤◌, max, List, length, refl, sym, ◌∙◌, subst, arith, ap, []}
-use Rattle.std.specs.Prelude.{Result, Ok, Err, OnOk}
-use Rattle.recovery.proofs.Words.{Database, Bounds, FileState, IsImage, WriteTouches, written, byte, DiskState, IsSoundDisk, Writes, Syncs, Log, DiskError, table, image_elsewhere, present_list, IsLogDurable, Still, down_syncs, synced_down, sound_writes, down_still, ShowsAlone, MayBeRead, Agrees, read_cases}
-use Rattle.sqwal.specs.Header.{named_size}
-use Rattle.sqwal.specs.Frames.{IsFront}
-use Rattle.sqwal.specs.View.{IsView}
-use Rattle.sqwal.proofs.log.DependenceOnPrefix.{frame_end-suc, frame_end-zero}
-use Rattle.sqwal.proofs.log.UniquenessOfView.{front_unique}
-use Rattle.walcore.specs.Alone.{Show, wal_log}
-use Rattle.walcore.specs.Folding.{IsEmptyDurable, FoldAnswerWithin, FoldsWithin}
-use Rattle.walcore.specs.internal.Opening.{HeaderSteps}
-use Rattle.walcore.specs.declared.folding.Folded.{Folded}
-use Rattle.walcore.specs.declared.error.WalError.{WalError}
+use Rattle.std.proofs.Common.{◌≡◌, inl, ⊎_elim, ℕ, ◌+◌, ◌≤◌, max, List, length, refl, sym, ◌∙◌, subst, arith, ap, [], Result, Ok, Err, OnOk}
+use Rattle.walcore.proofs.Words.{Database, Bounds, FileState, IsImage, WriteTouches, written, byte, DiskState, IsSoundDisk, Writes, Syncs, Log, DiskError, table, image_elsewhere, present_list, IsLogDurable, Still, down_syncs, synced_down, sound_writes, down_still, ShowsAlone, MayBeRead, Agrees, read_cases, named_size, IsFront, IsView, frame_end-suc, frame_end-zero, front_unique, Show, wal_log, IsEmptyDurable, FoldAnswerWithin, FoldsWithin, HeaderSteps, Folded, WalError, alone_read, alone_still, alone_syncs}
 use Rattle.walcore.proofs.crash.ImagesOfSyncedLog.{down_left}
 use Rattle.walcore.proofs.restart.NewHeaderOverLog.{greatest_changed}
-use Rattle.recovery.proofs.NarrowedImages.{alone_read, alone_still, alone_syncs}
 
 module _ (size : ℕ) (d : Database) where
   -- a log of no more than a header shows nothing of its own

@@ -1,27 +1,7 @@
 -- What an opening leaves to hold: a core over a log without frames, or a disk that shows what it showed.
-use Rattle.std.proofs.Common.{◌≡◌, ◌⊎◌, inl, inr, ⊎_elim, ℕ, suc, ◌+◌, ◌-◌, ◌<◌, ◌≤◌, false, List, ◌∷◌, length, map, take, get_or, refl, sym, ◌∙◌, ap, subst, arith, Option, None, []}
-use Rattle.std.specs.Prelude.{Result, Ok, Err, sum_by}
+use Rattle.std.proofs.Common.{◌≡◌, ◌⊎◌, inl, inr, ⊎_elim, ℕ, suc, ◌+◌, ◌-◌, ◌<◌, ◌≤◌, false, List, ◌∷◌, length, map, take, get_or, refl, sym, ◌∙◌, ap, subst, arith, Option, None, [], Result, Ok, Err, sum_by, get_or-take, length-take-le}
+use Rattle.walcore.proofs.Words.{Database, IsImage, DiskState, IsSoundDisk, Writes, Syncs, Log, DiskError, written_inside, present_written, HasCause, Files, IsJust, IsHeld, HadRefusal, Later, Suits, TellsRefusal, told_err, told_ok, none_ok, later_sync, later_write, later_then, later_same, later_wider, sound_writes, had_refusal, refusal_after, suits_by, MayRefuse, may_after, ShowsWhole, narrows_syncs, quiet_ok, tells_then, summed, IsSumOf, IsHeaderOf, Sum, WalHeader, frame_end-zero, number_of, Opens, opened, gone, forgotten, AreMade, HasNewSalts, IsBegun, MayFold, MayBegin, MayChange, ShowsHistory, HasMadeHeader, Stands, IsPresent, Past, IsLeft, FitsDisk, FitsAlone, has_mark, none_open, OpenedTo, GivenUpTo, IsNewLog, IsNewCore, HeaderSteps, IsRecovered, RecoverAnswer, NewLog, Reader, Core, WalError, NoMemory, Device, wal_log}
 use Rattle.std.proofs.Math.ListN.{get_or-map}
-use Rattle.std.proofs.lemmas.List.{get_or-take, length-take-le}
-use Rattle.recovery.proofs.Words.{Database, IsImage, DiskState, IsSoundDisk, Writes, Syncs, Log, DiskError, written_inside, present_written, HasCause, Files, IsJust, IsHeld, HadRefusal, Later, Suits, TellsRefusal, told_err, told_ok, none_ok, later_sync, later_write, later_then, later_same, later_wider, sound_writes, had_refusal, refusal_after, suits_by, MayRefuse, may_after, ShowsWhole, narrows_syncs, quiet_ok, tells_then}
-use Rattle.sqwal.specs.Frames.{summed}
-use Rattle.sqwal.specs.Sums.{IsSumOf}
-use Rattle.sqwal.specs.Header.{IsHeaderOf}
-use Rattle.sqwal.specs.declared.sum.Sum.{Sum}
-use Rattle.sqwal.specs.declared.header.WalHeader.{WalHeader}
-use Rattle.sqwal.proofs.log.DependenceOnPrefix.{frame_end-zero}
-use Rattle.walcore.specs.Refusal.{number_of}
-use Rattle.walcore.specs.Machine.{Opens, opened, gone, forgotten}
-use Rattle.walcore.specs.Made.{AreMade, HasNewSalts, IsBegun}
-use Rattle.walcore.specs.Changes.{MayFold, MayBegin, MayChange}
-use Rattle.walcore.specs.Standing.{ShowsHistory, HasMadeHeader, Stands, IsPresent}
-use Rattle.walcore.specs.Fits.{Past, IsLeft, FitsDisk, FitsAlone, has_mark, none_open, OpenedTo, GivenUpTo}
-use Rattle.walcore.specs.internal.Opening.{IsNewLog, IsNewCore, HeaderSteps, IsRecovered, RecoverAnswer}
-use Rattle.walcore.specs.declared.opening.NewLog.{NewLog}
-use Rattle.walcore.specs.declared.reader.Reader.{Reader}
-use Rattle.walcore.specs.declared.state.Core.{Core}
-use Rattle.walcore.specs.declared.error.WalError.{WalError}
-use Rattle.walcore.specs.declared.error.WalError.TheVariants.{NoMemory, Device}
 use Rattle.walcore.proofs.disk.PermittedChanges.{header_may}
 use Rattle.walcore.proofs.disk.ToldRefusals.{tells_header}
 use Rattle.walcore.proofs.machine.FitOverEmptyLog.{at_last, HasNoReader, fresh_core}
@@ -29,7 +9,6 @@ use Rattle.walcore.proofs.log.GrowthOfMadeLogs.{made_begun}
 use Rattle.walcore.proofs.crash.NarrowedImages.{history_narrows, headers_narrow, left_grown}
 use Rattle.walcore.proofs.log.PresentFrames.{present_syncs}
 use Rattle.walcore.proofs.restart.NewHeaderOverLog.{begin_stands, begin_shows}
-use Rattle.walcore.specs.Alone.{wal_log}
 
 pub same_error : {T : Type 0} (x y : WalError) (r : Result T WalError) → r ≡ Err x → r ≡ Err y → x ≡ y
 same_error x y r a b = cc (a, b)

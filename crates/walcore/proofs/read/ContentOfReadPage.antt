@@ -1,26 +1,7 @@
 -- What a reader is given is what its database has.
-use Rattle.std.proofs.Common.{◌≡◌, inl, ℕ, ◌+◌, ◌-◌, ◌*◌, ◌<◌, ◌≤◌, Bool, false, List, length, get_or, take, drop, refl, sym, ◌∙◌, ap, subst, arith, length-drop}
-use Rattle.std.specs.Prelude.{Result, Ok, Err, OnErr, IsTrue, Option, Some, None, slice_get}
-use Rattle.std.proofs.lemmas.List.{get_or-take, get_or-drop, length-take-le}
-use Rattle.std.proofs.lemmas.Grind.{same_number_lists}
-use Rattle.recovery.proofs.Words.{Database, page, file_page, byte, IsImage, longest, File, Db, Log, table, image_present, present_list, Answer, Page, Refused, Still, TellsRefusal, page_by_bytes, present_byte, refuses_first, none_above, is_zero, is_above, is_closed, refuses_cause, answered, at, quiet_ok}
-use Rattle.sqwal.specs.Frames.{frame_at, frame_end, content_of}
-use Rattle.sqwal.specs.View.{Unnamed, IsLast}
-use Rattle.sqwal.specs.Index.{FrameTable, IsNewest}
-use Rattle.sqwal.proofs.log.DependenceOnPrefix.{frame_at-end, frame_end-le}
-use Rattle.crashdisk.specs.Call.{DiskState, IsSoundDisk, of}
-use Rattle.walcore.specs.Machine.{reader_at, Reads, ReadStep, read_refusal}
-use Rattle.walcore.specs.Refusal.{number_of}
-use Rattle.walcore.specs.Era.{IsBoundary, shown}
-use Rattle.walcore.specs.Standing.{Stands, IsPresent}
-use Rattle.crashdisk.specs.internal.Keeps.{PlaceAnswer}
-use Rattle.walcore.specs.Plans.{IsTable}
-use Rattle.walcore.specs.Paging.{ReadAnswer, Finds}
-use Rattle.walcore.specs.Fits.{Past, IsIndexed, IsBound, IsCore, FitsCore, StepsTo}
-use Rattle.walcore.specs.declared.error.WalError.{WalError}
-use Rattle.walcore.specs.declared.error.WalError.TheVariants.{Closed, PageZero, PageAboveSize, BadLength, Device}
-use Rattle.walcore.specs.declared.reader.Reader.{Reader}
-use Rattle.walcore.specs.declared.state.Core.{Core}
+use Rattle.std.proofs.Common.{◌≡◌, inl, ℕ, ◌+◌, ◌-◌, ◌*◌, ◌<◌, ◌≤◌, Bool, false, List, length, get_or, take, drop, refl, sym, ◌∙◌, ap, subst, arith, length-drop, Result, Ok, Err, OnErr, IsTrue, Option, Some, None, slice_get, get_or-take, get_or-drop, length-take-le}
+use Rattle.walcore.proofs.Words.{same_number_lists, Database, page, file_page, byte, IsImage, longest, File, Db, Log, table, image_present, present_list, Answer, Page, Refused, Still, TellsRefusal, page_by_bytes, present_byte, refuses_first, none_above, is_zero, is_above, is_closed, refuses_cause, answered, at, quiet_ok, frame_at, frame_end, content_of, Unnamed, IsLast, FrameTable, IsNewest, frame_at-end, frame_end-le, DiskState, IsSoundDisk, of, reader_at, Reads, ReadStep, read_refusal, number_of, IsBoundary, shown, Stands, IsPresent, PlaceAnswer, IsTable, Finds, Past, IsIndexed, IsBound, IsCore, FitsCore, StepsTo, WalError, Closed, PageZero, PageAboveSize, BadLength, Device, Reader, Core}
+use Rattle.walcore.specs.Paging.{ReadAnswer}
 use Rattle.walcore.proofs.folds.CopiedPages.{hit_none, hit_last, page_fits}
 use Rattle.walcore.proofs.machine.FitUnderUnchangedFiles.{SameCore, same_core, stays}
 use Rattle.walcore.proofs.read.MarksOfReaders.{at_slot, bound_at}

@@ -1,13 +1,6 @@
 -- Open readers, their tokens, and their marks in a core.
-use Rattle.std.proofs.Common.{◌≡◌, ◌≢◌, ⊎_elim, ℕ, zero, suc, ◌+◌, ◌<◌, cond, ◌==◌, List, [], ◌∷◌, ◌++◌, length, get_or, set, refl, sym, ◌∙◌, ap, subst, arith, length-append}
-use Rattle.std.specs.Prelude.{Option, Some, None, slice_get}
-use Rattle.std.specs.List.{remove, sum_by}
-use Rattle.std.proofs.lemmas.Bool.{cases_lt, cases_eq}
-use Rattle.std.proofs.lemmas.Bool.Decides.{nat_tests}
-use Rattle.std.proofs.lemmas.List.{get_or-set_same, get_or-set_other, get_or_append_left, get_or-append-add, get_or_past}
-use Rattle.std.proofs.lemmas.List.Sums.{sum_by-remove, sum_by-set, sum_by-cons, sum_by_push}
-use Rattle.walcore.specs.Fits.{AreTogether, times, has_mark}
-use Rattle.walcore.specs.declared.reader.Reader.{Reader}
+use Rattle.std.proofs.Common.{◌≡◌, ◌≢◌, ⊎_elim, ℕ, zero, suc, ◌+◌, ◌<◌, cond, ◌==◌, List, [], ◌∷◌, ◌++◌, length, get_or, set, refl, sym, ◌∙◌, ap, subst, arith, length-append, Option, Some, None, slice_get, get_or-set_same, get_or-set_other, get_or-append-add}
+use Rattle.walcore.proofs.Words.{remove, sum_by, cases_lt, cases_eq, nat_tests, get_or_append_left, get_or_past, sum_by-remove, sum_by-set, sum_by-cons, sum_by_push, AreTogether, times, has_mark, Reader}
 
 -- ---- marks
 

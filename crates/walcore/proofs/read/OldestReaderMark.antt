@@ -1,18 +1,6 @@
 -- The mark of the oldest open reader, and the place of its database.
-use Rattle.std.proofs.Common.{◌≡◌, ◌≢◌, ◌⊎◌, inl, inr, ⊎_elim, ℕ, zero, suc, ◌<◌, ◌≤◌, Bool, true, false, cond, ◌==◌, List, [], ◌∷◌, length, get_or, refl, sym, ◌∙◌, ap, subst, arith}
-use Rattle.std.specs.Prelude.{Option, Some, None, ◌&&◌}
-use Rattle.std.specs.List.{sum_by, list_all}
-use Rattle.std.proofs.lemmas.Bool.{cases_eq}
-use Rattle.std.proofs.lemmas.Bool.Decides.{nat_tests}
-use Rattle.std.proofs.lemmas.List.Sums.{sum_by-cons}
-use Rattle.recovery.proofs.Words.{DiskState, last}
-use Rattle.walcore.specs.Machine.{reader_at, is_bound, all_newest}
-use Rattle.walcore.specs.Era.{IsBoundary}
-use Rattle.walcore.specs.Bringing.{IsOldest}
-use Rattle.walcore.specs.internal.Bringing.{IsLeast}
-use Rattle.walcore.specs.Fits.{Past, IsBound, AreTogether, IsCore, times, has_mark}
-use Rattle.walcore.specs.declared.state.Core.{Core}
-use Rattle.walcore.specs.declared.reader.Reader.{Reader}
+use Rattle.std.proofs.Common.{◌≡◌, ◌≢◌, ◌⊎◌, inl, inr, ⊎_elim, ℕ, zero, suc, ◌<◌, ◌≤◌, Bool, true, false, cond, ◌==◌, List, [], ◌∷◌, length, get_or, refl, sym, ◌∙◌, ap, subst, arith, Option, Some, None, ◌&&◌}
+use Rattle.walcore.proofs.Words.{sum_by, list_all, cases_eq, nat_tests, sum_by-cons, DiskState, last, reader_at, is_bound, all_newest, IsBoundary, IsOldest, IsLeast, Past, IsBound, AreTogether, IsCore, times, has_mark, Core, Reader}
 use Rattle.walcore.proofs.read.MarksOfReaders.{same_one, apart_one, bound_at}
 
 -- ---- marks and tokens

@@ -1,14 +1,7 @@
 -- A reader more, and a reader less.
-use Rattle.std.proofs.Common.{◌≡◌, inl, ℕ, ◌+◌, ◌<◌, Bool, true, cond, ◌==◌, List, ◌∷◌, ◌++◌, length, get_or, set, refl, sym, ◌∙◌, ap, subst, arith, length-append, []}
-use Rattle.std.specs.Prelude.{IsTrue, Option, Some, None, not, slice_get}
-use Rattle.std.proofs.lemmas.List.{length-set}
-use Rattle.recovery.proofs.Words.{DiskState, first_true, Still, same_files, last}
-use Rattle.sqval.specs.Answers.{Done, Reader as ReaderAnswer, Refused, Refuses}
-use Rattle.walcore.specs.Machine.{State, reader_at, Begins, Ends, EndStep, call_refusal, begun, ended}
-use Rattle.walcore.specs.Era.{IsBoundary}
-use Rattle.walcore.specs.Fits.{Past, FitsDisk, IsBound, AreTogether, IsCore, FitsCore, StepsTo, times}
-use Rattle.walcore.specs.declared.state.Core.{Core}
-use Rattle.walcore.specs.declared.reader.Reader.{Reader}
+use Rattle.std.proofs.Common.{◌≡◌, inl, ℕ, ◌+◌, ◌<◌, Bool, true, cond, ◌==◌, List, ◌∷◌, ◌++◌, length, get_or, set, refl, sym, ◌∙◌, ap, subst, arith, length-append, [], IsTrue, Option, Some, None, not, slice_get, length-set}
+use Rattle.walcore.proofs.Words.{DiskState, first_true, Still, same_files, last, Done, Refused, Refuses, State, reader_at, Begins, Ends, EndStep, call_refusal, begun, ended, IsBoundary, Past, FitsDisk, IsBound, AreTogether, IsCore, FitsCore, StepsTo, times, Core, Reader}
+use Rattle.sqval.specs.Answers.{Reader as ReaderAnswer}
 use Rattle.walcore.proofs.disk.PermittedChanges.{nothing_may}
 use Rattle.walcore.proofs.machine.FitUnderUnchangedFiles.{SameCore, fits_disk_still, core_same, stays}
 use Rattle.walcore.proofs.read.MarksOfReaders.{at_slot, bound_at, together_map, together_push, together_set, emptied, mark_pushed}

@@ -1,22 +1,7 @@
 -- A new header is written over a log whose last database is all in the file, or into an empty one, and then synced.
-use Rattle.std.proofs.Common.{◌≡◌, ◌⊎◌, inl, inr, ⊎_elim, ℕ, ◌+◌, ◌-◌, ◌<◌, ◌≤◌, max, Bool, true, false, List, ◌∷◌, ◌++◌, length, take, get_or, refl, sym, ◌∙◌, ap, subst, arith, []}
-use Rattle.std.specs.Prelude.{Result, Ok, Err}
-use Rattle.std.specs.List.{Contains}
-use Rattle.std.proofs.lemmas.List.{take_all}
-use Rattle.std.proofs.lemmas.List.Elements.{Contains-push_cases}
-use Rattle.std.proofs.Math.Nat.{div-eq_of_lt}
-use Rattle.recovery.proofs.Words.{FileState, IsImage, WriteTouches, written, DiskState, IsSoundDisk, ArePresent, Writes, Syncs, ChangedBy, with_write, SinceSync, HasFixed, AltersFile, Log, DiskError, Stopped, Failed, TooLong, NoMemory, started, then_write, settled_one, written_inside, part, Database, IsJust, IsHeld, IsLogDurable, Suits, sector_some, suits_writes, suits_syncs, sector_within, file_syncs, MayBeRead, read_cases}
-use Rattle.crashdisk.proofs.call.EffectsOfCalls.{image_write, image_elsewhere, fixed_written, present_written}
-use Rattle.sqwal.specs.Header.{IsHeader, named_size}
-use Rattle.sqwal.specs.Frames.{frame_end, IsFront}
-use Rattle.sqwal.specs.Log.{IsLog}
-use Rattle.sqwal.proofs.log.DependenceOnPrefix.{frame_end-suc, frame_end-zero, frame_end-head}
-use Rattle.sqwal.proofs.log.ExistenceOfFront.{front_exists}
-use Rattle.walcore.specs.Alone.{AreWhole, wal_log}
-use Rattle.walcore.specs.Made.{AreMade, HasNewSalts, IsBegun}
-use Rattle.walcore.specs.Era.{shown}
-use Rattle.walcore.specs.internal.Era.{IsDurable}
-use Rattle.walcore.specs.Standing.{ShowsHistory, HasMadeHeader, Stands}
+use Rattle.std.proofs.Common.{◌≡◌, ◌⊎◌, inl, inr, ⊎_elim, ℕ, ◌+◌, ◌-◌, ◌<◌, ◌≤◌, max, Bool, true, false, List, ◌∷◌, ◌++◌, length, take, get_or, refl, sym, ◌∙◌, ap, subst, arith, [], Result, Ok, Err, take_all}
+use Rattle.walcore.proofs.Words.{Contains, Contains-push_cases, div-eq_of_lt, FileState, IsImage, WriteTouches, written, DiskState, IsSoundDisk, ArePresent, Writes, Syncs, ChangedBy, with_write, SinceSync, HasFixed, AltersFile, Log, DiskError, Stopped, Failed, TooLong, started, then_write, settled_one, written_inside, part, Database, IsJust, IsHeld, IsLogDurable, Suits, sector_some, suits_writes, suits_syncs, sector_within, file_syncs, MayBeRead, read_cases, image_write, image_elsewhere, fixed_written, present_written, IsHeader, named_size, frame_end, IsFront, IsLog, frame_end-suc, frame_end-zero, frame_end-head, front_exists, AreWhole, wal_log, AreMade, HasNewSalts, IsBegun, shown, IsDurable, ShowsHistory, HasMadeHeader, Stands}
+use Rattle.recovery.proofs.Words.{NoMemory}
 use Rattle.walcore.proofs.folds.ZeroedHeader.{zeros_bad}
 use Rattle.walcore.proofs.log.GrowthOfMadeLogs.{made_here, made_before, made_begun, begun_log}
 use Rattle.walcore.proofs.crash.FrontOfSurvivingLog.{same_front, just_file}

@@ -1,25 +1,8 @@
 -- While a new header is put over a log whose last database is all in the file, what is left shows that database.
-use Rattle.std.proofs.Common.{◌≡◌, ◌⊎◌, inl, inr, ⊎_elim, ℕ, ◌+◌, ◌-◌, ◌/◌, ◌<◌, ◌≤◌, Bool, true, false, List, [], length, take, get_or, refl, sym, ◌∙◌, ap, subst, arith}
-use Rattle.std.specs.Prelude.{IsTrue}
-use Rattle.std.specs.List.{Contains}
-use Rattle.std.proofs.lemmas.Bool.{cases_lt}
-use Rattle.std.proofs.lemmas.Nat.{le-div}
-use Rattle.std.proofs.lemmas.List.{get_or-take, length-take-le}
-use Rattle.std.proofs.Math.Nat.{div-eq_of_lt}
-use Rattle.recovery.proofs.Words.{FileState, IsSound, IsImage, HasFixed, Spreads, AltersFile, Database, page, IsFile, IsJust, ShowsWhole}
-use Rattle.sqwal.specs.Header.{IsHeader, named_size}
-use Rattle.sqwal.specs.Frames.{frame_end, Passes, IsFront}
-use Rattle.sqwal.specs.Log.{IsLog}
-use Rattle.sqwal.specs.View.{IsOver, IsView}
-use Rattle.sqwal.proofs.log.DependenceOnPrefix.{frame_end-suc, frame_end-zero, frame_end-head, frame_end-le, take_less}
-use Rattle.sqwal.proofs.log.ExistenceOfFront.{front_exists}
-use Rattle.sqwal.proofs.log.UniquenessOfView.{front_unique, view_file, view_same}
-use Rattle.walcore.specs.Made.{AreMade, NoChance}
-use Rattle.walcore.specs.Era.{IsBoundary, shown, IsEra}
-use Rattle.walcore.specs.internal.Era.{IsDurable}
+use Rattle.std.proofs.Common.{◌≡◌, ◌⊎◌, inl, inr, ⊎_elim, ℕ, ◌+◌, ◌-◌, ◌/◌, ◌<◌, ◌≤◌, Bool, true, false, List, [], length, take, get_or, refl, sym, ◌∙◌, ap, subst, arith, IsTrue, get_or-take, length-take-le}
+use Rattle.walcore.proofs.Words.{Contains, cases_lt, le-div, div-eq_of_lt, FileState, IsSound, IsImage, HasFixed, Spreads, AltersFile, Database, page, IsFile, IsJust, ShowsWhole, IsHeader, named_size, frame_end, Passes, IsFront, IsLog, IsOver, IsView, frame_end-suc, frame_end-zero, frame_end-head, frame_end-le, take_less, front_exists, front_unique, view_file, view_same, AreMade, NoChance, IsBoundary, shown, IsEra, IsDurable, wal_log}
 use Rattle.walcore.proofs.crash.OriginOfValidFrames.{known, named_same}
 use Rattle.walcore.proofs.crash.FrontOfSurvivingLog.{same_front, just_file, Fronts, fronts, down_front}
-use Rattle.walcore.specs.Alone.{wal_log}
 
 -- a log of no frames, or with no valid one, over a file that is just the database
 pub just_shows : (size : ℕ) (db w : List ℕ) (d : Database) → IsJust size d db → IsFile size db d → IsFront (named_size w) w 0 → ShowsWhole wal_log size db w d

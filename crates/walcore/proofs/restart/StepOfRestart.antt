@@ -1,29 +1,6 @@
 -- A restart steps the machine, whatever the disk answers.
-use Rattle.std.proofs.Common.{◌≡◌, ◌⊎◌, inl, inr, ⊎_elim, ℕ, zero, suc, ◌+◌, ◌-◌, ◌%◌, ◌^◌, ◌<◌, ◌≤◌, ◌==◌, not, Bool, true, false, cond, IsTrue, List, ◌∷◌, length, get_or, refl, sym, ◌∙◌, ap, subst, arith, Option, Some, None, []}
-use Rattle.std.specs.Prelude.{Result, Ok, Err, ◌≢◌, sum_by, is_some}
-use Rattle.std.specs.List.{list_any}
-use Rattle.std.proofs.lemmas.List.Sums.{sum_by-cons}
-use Rattle.recovery.proofs.Words.{word, IsImage, DiskState, Log, IsJust, Later, Refused, Refuses, Done, first_true, sound_writes, refuses_first, still, suits_by, answered, narrows_syncs, newest, quiet_ok}
-use Rattle.sqwal.specs.Frames.{summed}
-use Rattle.sqwal.specs.Header.{IsHeaderOf}
-use Rattle.sqwal.specs.Sums.{IsSumOf}
-use Rattle.sqwal.specs.declared.sum.Sum.{Sum}
-use Rattle.sqwal.specs.declared.header.WalHeader.{WalHeader}
-use Rattle.walcore.specs.Refusal.{number_of}
-use Rattle.walcore.specs.Machine.{reader_at, restart_refusal, closed, restarted, Restarts}
-use Rattle.walcore.specs.Made.{HasNewSalts, IsBegun}
-use Rattle.walcore.specs.Making.{has_begun, RestartsAnew, MadeByRestart}
-use Rattle.walcore.specs.Era.{shown}
-use Rattle.walcore.specs.Changes.{MayBegin}
-use Rattle.walcore.specs.Standing.{ShowsHistory, HasMadeHeader, Stands}
-use Rattle.walcore.specs.Fits.{Past, AreTogether, IsCore, FitsCore, StepsTo, times, has_mark}
-use Rattle.walcore.specs.internal.Opening.{IsNewLog, IsNewCore, HeaderSteps}
-use Rattle.walcore.specs.internal.Restarts.{MayRestart, RestartJudged, IsRestarted, IsClosed, TakesOver}
-use Rattle.walcore.specs.declared.opening.NewLog.{NewLog}
-use Rattle.walcore.specs.declared.reader.Reader.{Reader}
-use Rattle.walcore.specs.declared.state.Core.{Core}
-use Rattle.walcore.specs.declared.error.WalError.{WalError}
-use Rattle.walcore.specs.declared.error.WalError.TheVariants.{Closed, NotDrained, ReadersOpen, Device}
+use Rattle.std.proofs.Common.{◌≡◌, ◌⊎◌, inl, inr, ⊎_elim, ℕ, zero, suc, ◌+◌, ◌-◌, ◌%◌, ◌^◌, ◌<◌, ◌≤◌, ◌==◌, not, Bool, true, false, cond, IsTrue, List, ◌∷◌, length, get_or, refl, sym, ◌∙◌, ap, subst, arith, Option, Some, None, [], Result, Ok, Err, ◌≢◌, sum_by, is_some}
+use Rattle.walcore.proofs.Words.{list_any, sum_by-cons, word, IsImage, DiskState, Log, IsJust, Later, Refused, Refuses, Done, first_true, sound_writes, refuses_first, still, suits_by, answered, narrows_syncs, newest, quiet_ok, summed, IsHeaderOf, IsSumOf, Sum, WalHeader, number_of, reader_at, restart_refusal, closed, restarted, Restarts, HasNewSalts, IsBegun, has_begun, RestartsAnew, MadeByRestart, shown, MayBegin, ShowsHistory, HasMadeHeader, Stands, Past, AreTogether, IsCore, FitsCore, StepsTo, times, has_mark, IsNewLog, IsNewCore, HeaderSteps, MayRestart, RestartJudged, IsRestarted, IsClosed, TakesOver, NewLog, Reader, Core, WalError, Closed, NotDrained, ReadersOpen, Device, wal_log}
 use Rattle.walcore.proofs.machine.FitUnderUnchangedFiles.{same_core, stays}
 use Rattle.walcore.proofs.machine.FitOverEmptyLog.{HasNoReader, fresh_core}
 use Rattle.walcore.proofs.log.GrowthOfMadeLogs.{made_begun}
@@ -32,7 +9,6 @@ use Rattle.walcore.proofs.openings.StepOfOpening.{header_later, header_refused, 
 use Rattle.walcore.proofs.read.MarksOfReaders.{same_one}
 use Rattle.walcore.proofs.restart.NewHeaderOverLog.{restart_shows, begin_stands}
 use Rattle.walcore.proofs.disk.ToldRefusals.{tells_header}
-use Rattle.walcore.specs.Alone.{wal_log}
 
 -- ---- whether anybody reads
 

@@ -1,21 +1,6 @@
 -- The last frame is read, and a copy of it is written behind it.
-use Rattle.std.proofs.Common.{◌≡◌, ℕ, suc, ◌+◌, ◌-◌, ◌*◌, ◌<◌, ◌≤◌, cond, ◌==◌, List, ◌∷◌, length, take, drop, get_or, refl, sym, ◌∙◌, ap, subst, arith, length-drop, take-append-drop, []}
-use Rattle.std.specs.Prelude.{Result, Ok, Err}
-use Rattle.std.proofs.lemmas.Grind.{same_number_lists}
-use Rattle.std.proofs.lemmas.List.{get_or-take, get_or-drop, length-take-le, drop_at}
-use Rattle.recovery.proofs.Words.{byte, longest, DiskState, IsSoundDisk, Log, one_write, calls_then, sound_writes, counted_grows, AreBytes, Still, still_sound, refusal_after}
-use Rattle.sqwal.specs.Frames.{frame_at, frame_end, page_of, size_of, content_of}
-use Rattle.sqwal.specs.Log.{IsLog}
-use Rattle.sqwal.proofs.log.DependenceOnPrefix.{frame_at-end, frame_end-le}
-use Rattle.sqwal.proofs.log.LogWithAppendedFrame.{word_fits}
-use Rattle.sqwal.proofs.log.WrittenHeadersAndFrames.{put_two}
-use borrow.Rule.Slice.PartMut.{put_mid}
-use Rattle.crashdisk.specs.internal.Keeps.{PlaceAnswer}
-use Rattle.walcore.specs.Standing.{IsPresent}
-use Rattle.walcore.specs.internal.Going.{FrameStep, KnowsLog, Going, FramesAnswer}
-use Rattle.walcore.specs.internal.Syncing.{IsRepeated, KnowsLast}
-use Rattle.walcore.specs.declared.state.Core.{Core}
-use Rattle.walcore.specs.declared.error.WalError.{WalError}
+use Rattle.std.proofs.Common.{◌≡◌, ℕ, suc, ◌+◌, ◌-◌, ◌*◌, ◌<◌, ◌≤◌, cond, ◌==◌, List, ◌∷◌, length, take, drop, get_or, refl, sym, ◌∙◌, ap, subst, arith, length-drop, take-append-drop, [], Result, Ok, Err, get_or-take, get_or-drop, length-take-le, drop_at}
+use Rattle.walcore.proofs.Words.{same_number_lists, byte, longest, DiskState, IsSoundDisk, Log, one_write, calls_then, sound_writes, counted_grows, AreBytes, Still, still_sound, refusal_after, frame_at, frame_end, page_of, size_of, content_of, IsLog, frame_at-end, frame_end-le, word_fits, put_two, put_mid, PlaceAnswer, IsPresent, FrameStep, KnowsLog, Going, FramesAnswer, IsRepeated, KnowsLast, Core, WalError, Device}
 use Rattle.walcore.proofs.disk.PermittedChanges.{nothing_may}
 use Rattle.walcore.proofs.commit.EraAfterCommit.{content_whole}
 use Rattle.walcore.proofs.log.BytesOfNextFrame.{take_bytes, drop_bytes}
@@ -27,7 +12,6 @@ use Rattle.walcore.proofs.sync.LogWithRepeatedFrame.{behind_same}
 use Rattle.walcore.proofs.commit.FitAfterCommit.{knows_more}
 use Rattle.walcore.proofs.commit.LogAfterFrameWrite.{IsFrameAt, KeepsLog, Reaches, frame_place, frame_may, frame_known, frame_quiet, frame_refused, frame_stands}
 use Rattle.walcore.proofs.commit.SequenceOfFrameWrites.{size_most}
-use Rattle.walcore.specs.declared.error.WalError.TheVariants.{Device}
 
 -- ---- there is one
 

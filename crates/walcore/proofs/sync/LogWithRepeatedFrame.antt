@@ -1,17 +1,7 @@
 -- On a disk that tears the last frame is written once more, as a frame of its own, before the log is synced: so the next
 -- frames lie in other sectors than what is durable.
 use Rattle.std.proofs.Common.{◌≡◌, ⊎_elim, ℕ, suc, ◌+◌, ◌*◌, ◌/◌, ◌≤◌, min, true, false, List, ◌∷◌, take, get_or, refl, sym, ◌∙◌, ap, subst, arith, []}
-use Rattle.std.proofs.lemmas.Bool.{cases_lt}
-use Rattle.std.proofs.lemmas.Nat.{le-div}
-use Rattle.std.proofs.Math.Nat.{div-mul-le_self, mul-le-mul_right, lt-div-mul-add}
-use Rattle.recovery.proofs.Words.{DiskState, Database, Suits, sector_some, sector_within}
-use Rattle.sqwal.specs.Frames.{frame_end, page_of, size_of, content_of, IsCommit}
-use Rattle.sqwal.specs.Refusal.{most_frames}
-use Rattle.sqwal.proofs.log.DependenceOnPrefix.{frame_end-suc, frame_end-head, take_less}
-use Rattle.walcore.specs.Era.{shown, IsEra}
-use Rattle.walcore.specs.internal.Era.{IsApplied}
-use Rattle.walcore.specs.Standing.{IsBehind, Stands}
-use Rattle.walcore.specs.internal.Syncing.{IsRepeated}
+use Rattle.walcore.proofs.Words.{cases_lt, le-div, div-mul-le_self, mul-le-mul_right, lt-div-mul-add, DiskState, Database, Suits, sector_some, sector_within, frame_end, page_of, size_of, content_of, IsCommit, most_frames, frame_end-suc, frame_end-head, take_less, shown, IsEra, IsApplied, IsBehind, Stands, IsRepeated}
 use Rattle.walcore.proofs.log.GrowthOfMadeLogs.{made_more}
 use Rattle.walcore.proofs.crash.FrontOfSurvivingLog.{boundary_same}
 use Rattle.walcore.proofs.log.CommitOfExtendedLog.{extended_front, extended_count}

@@ -1,26 +1,9 @@
 -- A sync steps to all commits being durable.
-use Rattle.std.proofs.Common.{◌≡◌, ◌⊎◌, inl, inr, ⊎_elim, ℕ, suc, ◌+◌, ◌-◌, ◌*◌, ◌/◌, ◌%◌, ◌≤◌, Bool, true, false, cond, not, ◌&&◌, ◌==◌, List, ◌∷◌, length, take, get_or, refl, sym, ◌∙◌, ap, subst, arith, Option, lit≤, []}
-use Rattle.std.specs.Prelude.{IsTrue, Some, None, Result, Ok, Err}
-use Rattle.std.proofs.lemmas.Bool.Decides.{nat_tests}
-use Rattle.recovery.proofs.Words.{IsImage, Log, DiskError, image_elsewhere, counted_grows, Files, Done, Refused, Refuses, IsJust, HadRefusal, IsSameDisk, SyncStep, had_refusal, refusal_after, told_err, told_ok, present_image, sector_some, one_sync, calls_then, AreFiles, answered, ShowsWhole, last, newest}
-use Rattle.crashdisk.specs.Call.{DiskState, Syncs as CallSyncs}
-use Rattle.sqwal.specs.Frames.{frame_end, page_of, size_of, content_of, summed}
-use Rattle.sqwal.specs.Sums.{IsSumOf}
-use Rattle.sqwal.specs.Refusal.{most_frames}
-use Rattle.sqwal.proofs.log.DependenceOnPrefix.{frame_end-le}
-use Rattle.walcore.specs.Refusal.{number_of}
-use Rattle.walcore.specs.Machine.{reader_at, synced, closed, call_refusal, Syncs}
-use Rattle.walcore.specs.Made.{NoChance}
-use Rattle.walcore.specs.Making.{Made, MadeByCopy, MadeBySync}
-use Rattle.walcore.specs.Changes.{MayChange}
-use Rattle.walcore.specs.Standing.{IsBehind, Stands, IsPresent}
-use Rattle.walcore.specs.Fits.{Past, IsIndexed, IsBound, AreTogether, IsNewestDurable, IsCore, FitsCore, StepsTo, times}
-use Rattle.walcore.specs.internal.Commits.{Rests, Closes, RestAnswer}
-use Rattle.walcore.specs.internal.Going.{KnowsLog, Going, FramesAnswer}
-use Rattle.walcore.specs.internal.Syncing.{IsRepeated, is_due, KnowsLast, Repeats, SyncsBehind, SyncsCopy, SyncsBy}
-use Rattle.walcore.specs.declared.state.Core.{Core}
-use Rattle.walcore.specs.declared.reader.Reader.{Reader}
-use Rattle.walcore.specs.declared.error.WalError.{WalError}
+use Rattle.std.proofs.Common.{◌≡◌, ◌⊎◌, inl, inr, ⊎_elim, ℕ, suc, ◌+◌, ◌-◌, ◌*◌, ◌/◌, ◌%◌, ◌≤◌, Bool, true, false, cond, not, ◌&&◌, ◌==◌, List, ◌∷◌, length, take, get_or, refl, sym, ◌∙◌, ap, subst, arith, Option, lit≤, [], IsTrue, Some, None, Result, Ok, Err}
+use Rattle.walcore.proofs.Words.{nat_tests, IsImage, Log, DiskError, image_elsewhere, counted_grows, Files, Done, Refused, Refuses, IsJust, HadRefusal, IsSameDisk, SyncStep, had_refusal, refusal_after, told_err, told_ok, present_image, sector_some, one_sync, calls_then, AreFiles, answered, ShowsWhole, last, newest, DiskState, frame_end, page_of, size_of, content_of, summed, IsSumOf, most_frames, frame_end-le, number_of, reader_at, synced, closed, call_refusal, NoChance, Made, MadeByCopy, MadeBySync, MayChange, IsBehind, Stands, IsPresent, Past, IsIndexed, IsBound, AreTogether, IsNewestDurable, IsCore, FitsCore, StepsTo, times, Rests, Closes, RestAnswer, KnowsLog, Going, FramesAnswer, IsRepeated, is_due, KnowsLast, SyncsBehind, SyncsCopy, SyncsBy, Core, Reader, WalError, Device, wal_log}
+use Rattle.crashdisk.specs.Call.{Syncs as CallSyncs}
+use Rattle.walcore.specs.Machine.{Syncs}
+use Rattle.walcore.specs.internal.Syncing.{Repeats}
 use Rattle.walcore.proofs.crash.HistoryInCrashImages.{present_last}
 use Rattle.walcore.proofs.disk.DiskInvariantUnderCalls.{stands_syncs, stands_synced, stands_fewer}
 use Rattle.walcore.proofs.log.PresentFrames.{present_syncs}
@@ -30,8 +13,6 @@ use Rattle.walcore.proofs.log.CommitOfExtendedLog.{extended_front}
 use Rattle.walcore.proofs.sync.LogWithRepeatedFrame.{index_to, index_to-low, repeated_stands, behind_whole, behind_even, behind_copy, behind_same}
 use Rattle.walcore.proofs.sync.CopyOfLastFrame.{repeated_exists}
 use Rattle.walcore.proofs.commit.FitAfterCommit.{disk_by, facts_stand, present_bytes, knows_same, together_map}
-use Rattle.walcore.specs.declared.error.WalError.TheVariants.{Device}
-use Rattle.walcore.specs.Alone.{wal_log}
 
 -- what is present shows the newest database
 pub present_newest : (past : Past) (e : List ℕ) (n : ℕ) (index : ℕ → ℕ) (mark d c size : ℕ) (s : DiskState) → Stands size past.made.logs e n past.state.history index mark d c s → IsPresent size e n s

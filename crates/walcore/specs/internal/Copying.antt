@@ -1,9 +1,8 @@
 -- What the calls of a fold answer, in one record each (fileformat2, 4.3).
-use Rattle.std.specs.Prelude.{◌≡◌, ℕ, ◌+◌, ◌-◌, ◌*◌, ◌≤◌, List, length, Result}
+use Rattle.std.specs.Prelude.{◌≡◌, ℕ, ◌*◌, ◌≤◌, List, length, Result}
 use Rattle.sqval.specs.Database.{Database}
-use Rattle.sqval.specs.Limits.{Bounds, greatest}
+use Rattle.sqval.specs.Limits.{Bounds}
 use Rattle.sqwal.specs.View.{Unnamed, IsView}
-use Rattle.sqwal.specs.Frames.{IsValidFrame}
 use Rattle.sqwal.specs.Index.{FrameTable}
 use Rattle.crashdisk.specs.Call.{DiskState, ArePresent, HasCalls}
 use Rattle.crashdisk.specs.Keeps.{Later, IsLong, IsLogDurable, TearsPages, TellsRefusal}
@@ -13,25 +12,18 @@ use Rattle.walcore.specs.Folding.{FoldsWithin}
 use Rattle.walcore.specs.Lengths.{EndsBy, IsLengthOf, KeepsLength}
 use Rattle.walcore.specs.internal.Lengths.{IsFronted}
 use Rattle.walcore.specs.internal.Phases.{Scanning}
-use Rattle.recovery.specs.internal.Phases.{Filling}
-use Rattle.walcore.specs.Plans.{IsTable, IsFitWithin}
+use Rattle.recovery.specs.Phases.{Filling}
+use Rattle.walcore.specs.Plans.{IsFitWithin}
 use Rattle.walcore.specs.internal.Plans.{IsCopy, IsPlan}
 use Rattle.walcore.specs.Steps.{FoldCallsWithin}
-use Rattle.walcore.specs.internal.Steps.{RunAnswer, EndAnswer, Copied, FoldedAnswer}
+use Rattle.walcore.specs.internal.Steps.{EndAnswer, Copied, FoldedAnswer}
 use Rattle.walcore.specs.declared.folding.Folded.{Folded}
 use Rattle.walcore.specs.declared.plan.Plan.{Plan}
 use Rattle.walcore.specs.declared.error.WalError.{WalError}
 use Rattle.walcore.specs.declared.error.WalError.TheVariants.{Device}
-use Rattle.recovery.specs.internal.Steps.{CopyAnswer}
+use Rattle.recovery.specs.Steps.{CopyAnswer}
 use Rattle.recovery.specs.Logs.{ShowsAlone}
 use Rattle.walcore.specs.Alone.{wal_log}
-
--- one of the pages from page p on, or more of them up to so many, are copied, where the frames 1 to m name them
-pub record CopiesRun (size : ℕ) (t : FrameTable) (m p most : ℕ) (result : Result ℕ WalError) (old new : DiskState) : Type 0 where
-  pub log : KeepsLog old new
-  pub calls : (bytes : ℕ) → (p - 1 + most) * size ≤ bytes → HasCalls (MayFillWithin bytes size) old new
-  pub told : TellsRefusal Device result old new
-  pub pages : (w : List ℕ) (count : ℕ) → ArePresent old.log w → IsValidFrame size w m → IsTable size count w m t → p - 1 + most ≤ count → count * size ≤ greatest.bytes → RunAnswer size w m p result old new
 
 -- the pages 1 to count are copied from the frames 1 to m
 pub record CopiesPages {T : Type 0} (size : ℕ) (t : FrameTable) (m count : ℕ) (result : Result T WalError) (old new : DiskState) : Type 0 where

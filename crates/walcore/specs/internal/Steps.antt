@@ -1,26 +1,25 @@
 -- What the parts of a fold do to a disk (fileformat2, 4.3).
-use Rattle.std.specs.Prelude.{◌≡◌, ◌⊎◌, ℕ, suc, ◌+◌, ◌-◌, ◌*◌, ◌<◌, Bool, false, List, length, get_or, Result, Ok, Err, IsErr, []}
+use Rattle.std.specs.Prelude.{◌≡◌, ◌⊎◌, ℕ, suc, Bool, false, List, Result, Ok, Err, IsErr, []}
 use Rattle.sqval.specs.Database.{Database}
 use Rattle.sqwal.specs.Header.{IsHeader, named_size}
-use Rattle.sqwal.specs.Frames.{IsValidFrame, content_of}
-use Rattle.sqwal.specs.View.{Unnamed, IsLast}
+use Rattle.sqwal.specs.Frames.{IsValidFrame}
 use Rattle.sqval.specs.CommitFaults.{most_bytes}
 use Rattle.sqwal.specs.Took.{TookWithin}
 use Rattle.sqwal.specs.declared.scan.Scan.{Scan}
 use Rattle.sqwal.specs.declared.error.WalFormatError.{WalFormatError}
 use Rattle.sqwal.specs.declared.error.WalFormatError.TheVariants.{TooLong, NoMemory}
 use Rattle.crashdisk.specs.State.{IsSettled}
-use Rattle.crashdisk.specs.Call.{DiskState, ArePresent, Writes, Cuts}
-use Rattle.crashdisk.specs.declared.file.File.TheVariants.{Db, Log}
+use Rattle.crashdisk.specs.Call.{DiskState, ArePresent, Cuts}
+use Rattle.crashdisk.specs.declared.file.File.TheVariants.{Log}
 use Rattle.crashdisk.specs.declared.error.DiskError.{DiskError}
 use Rattle.walcore.specs.Folding.{IsFolded}
-use Rattle.crashdisk.specs.Keeps.{HadRefusal, IsLogDurable, Still}
+use Rattle.crashdisk.specs.Keeps.{HadRefusal, IsLogDurable}
 use Rattle.crashdisk.specs.internal.Keeps.{Told, SyncStep}
 use Rattle.walcore.specs.internal.Phases.{Writing, Filed}
 use Rattle.walcore.specs.declared.folding.Folded.{Folded}
 use Rattle.walcore.specs.declared.error.WalError.{WalError}
 use Rattle.walcore.specs.declared.error.WalError.TheVariants.{TooLarge, NoMemory as WalNoMemory, Device}
-use Rattle.recovery.specs.internal.Files.{ArePages}
+use Rattle.recovery.specs.Files.{ArePages}
 use Rattle.recovery.specs.Scanning.{ScanKind}
 use Rattle.walcore.specs.Steps.{FoldCallsWithin}
 
@@ -42,25 +41,6 @@ IsWithoutHeader e r = r ≡ Ok false
 -- the scan of a log, which takes at most so many frames; a log with a valid header counts
 abbrev pub wal_scan : (most : ℕ) → ScanKind Scan WalError
 wal_scan most = record { Took = TookWithin most; Read = TookWithin most; Counts = λ w. IsHeader (named_size w) w; Refused = ScanRefused most }
-
--- ---- The copying.
-
--- k pages from page p on: the last frames that name them, of the frames 1 to m, stand one behind the other; they are read, and
--- the pages are written to their places at once
-pub record PutsRun (size : ℕ) (w : List ℕ) (m p k : ℕ) (called : Result (Unit {0}) DiskError) (old new : DiskState) : Type 0 where
-  pub frame : ℕ
-  pub last : (j : ℕ) → j < k → IsLast size w m (p + j) (frame + j)
-  pub bytes : List ℕ
-  pub long : length bytes ≡ k * size
-  pub each : (j i : ℕ) → j < k → i < size → get_or bytes (j * size + i) 0 ≡ get_or (content_of size w (frame + j)) i 0
-  pub mid : DiskState
-  pub read : Still old mid
-  pub write : Writes Db ((p - 1) * size) bytes called mid new
-
--- so many pages from page p on were put, or it alone was looked for and none of these frames names it
-unfoldable pub RunAnswer : (size : ℕ) → List ℕ → (m p : ℕ) → Result ℕ WalError → (old new : DiskState) → Type 0
-RunAnswer size w m p (Ok k) old new = ((k ≡ 1) × Unnamed size w m p × (new ≡ old)) ⊎ PutsRun size w m p k (Ok tt) old new
-RunAnswer size w m p (Err e) old new = (e ≡ Device) × HadRefusal old new × (Still old new ⊎ ((k : ℕ) × (called : Result (Unit {0}) DiskError) × PutsRun size w m p k called old new))
 
 -- ---- The end.
 

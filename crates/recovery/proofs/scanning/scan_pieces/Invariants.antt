@@ -1,6 +1,5 @@
 use Rattle.std.proofs.Common.{◌-◌, ◌≡◌, ◌↔◌, ◌<◌, ◌≤◌, ℕ, List, length, take, []}
-use Rattle.crashdisk.specs.Call.{ArePresent}
-use Rattle.crashdisk.specs.Keeps.{Still}
+use Rattle.recovery.proofs.Below.{ArePresent, Still}
 use Rattle.recovery.proofs.scanning.scan_pieces.Given as goal
 
 abbrev pub invariant-loop-at : goal.invariant-loop-at

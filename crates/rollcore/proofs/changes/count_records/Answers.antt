@@ -1,10 +1,5 @@
-use Rattle.std.proofs.Common.{◌≡◌, ◌+◌, ◌<◌, ◌≤◌, ℕ, [], List, length, take, get_or, cond, Bor, ◌∙◌, ap, arith}
-use Rattle.std.specs.Prelude.{nat_le}
-use Rattle.std.proofs.lemmas.Bool.Decides.{nat_tests}
-use Rattle.std.proofs.lemmas.List.{get_or-map, length-map, take-map}
-use Rattle.std.proofs.lemmas.List.Sums.{sum_by_more_le}
-use Rattle.recovery.proofs.Words.{Pages, lent}
-use Rattle.rollcore.specs.Machine.{recorded}
+use Rattle.std.proofs.Common.{◌≡◌, ◌+◌, ◌<◌, ◌≤◌, ℕ, [], List, length, take, get_or, cond, Bor, ◌∙◌, ap, arith, nat_le}
+use Rattle.rollcore.proofs.Words.{nat_tests, get_or-map, length-map, take-map, sum_by_more_le, Pages, lent, recorded}
 use Rattle.rollcore.proofs.commit.ListedChanges.{there}
 use Rattle.rollcore.proofs.changes.count_records.Goals as goal
 

@@ -1,5 +1,5 @@
 use Rattle.std.proofs.Common.{◌≡◌, ◌-◌, ◌+◌, take}
-use Rattle.recovery.proofs.Words.{lent}
+use Rattle.rollcore.proofs.Words.{lent}
 use Rattle.rollcore.proofs.commit.ListedChanges.{there}
 use Rattle.rollcore.proofs.changes.count_records.Given as goal
 

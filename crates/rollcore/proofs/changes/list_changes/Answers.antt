@@ -1,10 +1,6 @@
 use Rattle.std.proofs.Common.{rules, List, sym, subst}
-use Rattle.std.specs.List.Sorted.{IsPermutation, IsNonDecreasingBy}
-use Rattle.std.proofs.lemmas.List.Sorted.{IsNonDecreasingBy-from_sort_by_key}
-use Rattle.recovery.proofs.Words.{lent, faultless}
-use Rattle.rollcore.specs.internal.Commits.{AreChanges}
+use Rattle.rollcore.proofs.Words.{IsPermutation, IsNonDecreasingBy, IsNonDecreasingBy-from_sort_by_key, lent, faultless, AreChanges, Change}
 use Rattle.rollcore.specs.internal.Listing.{written}
-use Rattle.rollcore.specs.declared.changes.Change.{Change}
 use Rattle.rollcore.proofs.commit.ListedChanges.{are_changes}
 use Rattle.rollcore.proofs.changes.list_changes.Goals as goal
 

@@ -1,8 +1,5 @@
-use Rattle.std.proofs.Common.{◌≡◌, ◌-◌, ◌+◌, ◌++◌, ◌∷◌, [], ⊎_elim, ℕ, List, sym, ◌∙◌, ap, arith, append_assoc}
-use Rattle.std.specs.Prelude.{None}
-use Rattle.std.proofs.lemmas.Bool.{cases_lt}
-use Rattle.rollcore.specs.internal.Listing.{cut_off}
-use Rattle.rollcore.specs.declared.changes.Change.{Change}
+use Rattle.std.proofs.Common.{◌≡◌, ◌-◌, ◌+◌, ◌++◌, ◌∷◌, [], ⊎_elim, ℕ, List, sym, ◌∙◌, ap, arith, append_assoc, None}
+use Rattle.rollcore.proofs.Words.{cases_lt, cut_off, Change}
 use Rattle.rollcore.proofs.commit.ListedChanges.{cut_off_more}
 use Rattle.rollcore.proofs.changes.list_cut_off.Goals as goal
 

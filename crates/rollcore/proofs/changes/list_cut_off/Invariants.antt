@@ -1,5 +1,5 @@
 use Rattle.std.proofs.Common.{◌≡◌, ◌-◌, ◌++◌, ◌≤◌}
-use Rattle.rollcore.specs.internal.Listing.{cut_off}
+use Rattle.rollcore.proofs.Words.{cut_off}
 use Rattle.rollcore.proofs.changes.list_cut_off.Given as goal
 
 abbrev pub invariant-loop-page : goal.invariant-loop-page

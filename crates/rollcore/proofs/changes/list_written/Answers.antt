@@ -1,9 +1,6 @@
-use Rattle.std.proofs.Common.{◌≡◌, ◌+◌, ◌++◌, ◌∷◌, [], ℕ, List, length, take, get_or, Bor, sym, ◌∙◌, ap}
-use Rattle.std.specs.Prelude.{Some}
-use Rattle.std.proofs.lemmas.List.{map_more, length-map, length-take-le}
-use Rattle.recovery.proofs.Words.{Pages, lent}
+use Rattle.std.proofs.Common.{◌≡◌, ◌+◌, ◌++◌, ◌∷◌, [], ℕ, List, length, take, get_or, Bor, sym, ◌∙◌, ap, Some, length-take-le}
+use Rattle.rollcore.proofs.Words.{map_more, length-map, Pages, lent, Change}
 use Rattle.rollcore.specs.internal.Listing.{written}
-use Rattle.rollcore.specs.declared.changes.Change.{Change}
 use Rattle.rollcore.proofs.commit.ListedChanges.{more_yes, more_no}
 use Rattle.rollcore.proofs.changes.list_written.Goals as goal
 use Rattle.rollcore.proofs.changes.list_written.Goals.{then-x-old_size+in_ok-push, else-x-old_size}

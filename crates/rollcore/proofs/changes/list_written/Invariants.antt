@@ -1,5 +1,5 @@
 use Rattle.std.proofs.Common.{◌≡◌, take}
-use Rattle.recovery.proofs.Words.{lent}
+use Rattle.rollcore.proofs.Words.{lent}
 use Rattle.rollcore.specs.internal.Listing.{written}
 use Rattle.rollcore.proofs.changes.list_written.Given as goal
 

@@ -1,6 +1,5 @@
 use Rattle.std.proofs.Common.{ℕ, ◌^◌, ◌<◌, sym, subst, arith}
-use Rattle.recovery.proofs.Words.{lent}
-use Rattle.rollcore.specs.Machine.{recorded}
+use Rattle.rollcore.proofs.Words.{lent, recorded}
 use Rattle.rollcore.proofs.commit.StepOfCommit.{few_records}
 use Rattle.rollcore.proofs.commits.prepare.Goals as goal
 

@@ -1,8 +1,5 @@
-use Rattle.std.proofs.Common.{◌≡◌, ⊎_elim, ℕ, ◌+◌, ◌*◌, subst, arith}
-use Rattle.std.specs.Prelude.{Some}
-use Rattle.std.proofs.lemmas.Bool.{cases_lt}
-use Rattle.sqjournal.specs.Took.{HasEntry}
-use Rattle.sqjournal.specs.declared.reading.Record.{Record}
+use Rattle.std.proofs.Common.{◌≡◌, ⊎_elim, ℕ, ◌+◌, ◌*◌, subst, arith, Some}
+use Rattle.rollcore.proofs.Words.{cases_lt, HasEntry, Record}
 use Rattle.rollcore.proofs.replays.DecisivePrefixOfJournal.{read_entry}
 use Rattle.rollcore.proofs.copying.run_from.Goals as goal
 

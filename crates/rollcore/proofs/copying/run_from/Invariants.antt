@@ -1,7 +1,5 @@
-use Rattle.std.proofs.Common.{ℕ, List, ◌+◌, ◌-◌, ◌*◌, ◌<◌, ◌≤◌}
-use Rattle.std.specs.Prelude.{Some}
-use Rattle.sqjournal.specs.Took.{HasEntry}
-use Rattle.rollcore.specs.internal.Steps.{HasRead}
+use Rattle.std.proofs.Common.{ℕ, List, ◌+◌, ◌-◌, ◌*◌, ◌<◌, ◌≤◌, Some}
+use Rattle.rollcore.proofs.Words.{HasEntry, HasRead}
 use Rattle.rollcore.proofs.copying.run_from.Given as goal
 
 abbrev pub invariant-loop-run : goal.invariant-loop-run

@@ -1,4 +1,4 @@
-use Rattle.rollcore.specs.Machine.{start}
+use Rattle.rollcore.proofs.Words.{start}
 use Rattle.rollcore.proofs.machine.StepInvariants.{sane_start, sane_runs}
 use Rattle.rollcore.proofs.laws.runs_are_sane.Goals as goal
 

@@ -1,4 +1,4 @@
-use Rattle.rollcore.specs.Machine.{start}
+use Rattle.rollcore.proofs.Words.{start}
 use Rattle.rollcore.proofs.machine.StepInvariants.{sane_start, sane_runs, kept_runs}
 use Rattle.rollcore.proofs.laws.what_is_durable_stays.Goals as goal
 

@@ -1,5 +1,5 @@
 use Rattle.std.proofs.Common.{arith, ◌∙◌, sym}
-use Rattle.rollcore.specs.Paging.{ReadJudged}
+use Rattle.rollcore.proofs.Words.{ReadJudged}
 use Rattle.rollcore.proofs.paging.judge_read.Goals as goal
 
 pub returns-then-not-core-clause-judged : goal.returns-then-not-core-clause-judged

@@ -1,11 +1,5 @@
-use Rattle.std.proofs.Common.{◌≡◌, ◌↔◌, ◌*◌, ◌^◌, ◌≤◌, ℕ, length}
-use Rattle.recovery.proofs.Words.{Database, apply, lent}
-use Rattle.std.specs.Prelude.{Ok}
-use Rattle.rollcore.specs.internal.Committing.{RestsAt}
-use Rattle.rollcore.specs.Changes.{MayCommit, Asks}
-use Rattle.rollcore.specs.Commits.{KeepsCore}
-use Rattle.rollcore.specs.internal.Commits.{IsReady}
-use Rattle.rollcore.specs.internal.Segments.{pages_of, Parted}
+use Rattle.std.proofs.Common.{◌≡◌, ◌↔◌, ◌*◌, ◌^◌, ◌≤◌, ℕ, length, Ok}
+use Rattle.rollcore.proofs.Words.{Database, apply, lent, RestsAt, MayCommit, Asks, KeepsCore, IsReady, pages_of, Parted}
 use Rattle.rollcore.proofs.parts.put_segments.Given as goal
 
 abbrev pub invariant-loop-k : goal.invariant-loop-k

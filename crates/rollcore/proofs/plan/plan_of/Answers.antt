@@ -1,10 +1,7 @@
-use Rattle.std.proofs.Common.{◌≡◌, ◌+◌, length, rules, arith}
-use Rattle.std.specs.Prelude.{Some, None}
-use Rattle.sqjournal.proofs.read.JournalOfTakenBytes.{size_bounds}
-use Rattle.recovery.proofs.Words.{passed}
+use Rattle.std.proofs.Common.{◌≡◌, ◌+◌, length, rules, arith, Some, None}
+use Rattle.rollcore.proofs.Words.{size_bounds, passed, NoMemory}
 use Rattle.rollcore.proofs.replays.PlanOfScannedLog.{plan_none, plan_some, plan_refused, plan_memory}
 use Rattle.rollcore.proofs.replays.DecisivePrefixOfJournal.{read_first}
-use Rattle.rollcore.specs.declared.error.RollError.TheVariants.{NoMemory}
 use Rattle.rollcore.proofs.plan.plan_of.Goals as goal
 
 pub returns-in_default-clause-plan : goal.returns-in_default-clause-plan

@@ -1,26 +1,18 @@
-use Rattle.std.proofs.Common.{rules, arith}
-use Rattle.std.specs.Prelude.{Err, Option}
-use Rattle.sqjournal.specs.declared.replay.Replay.{Replay}
-use Rattle.rollcore.specs.declared.error.RollError.TheVariants.{TooLarge}
+use Rattle.std.proofs.Common.{rules, arith, Err, Option}
+use Rattle.rollcore.proofs.Words.{during, Replay, TooLarge}
 use Rattle.rollcore.proofs.disk.ToldRefusals.{told_same}
 use Rattle.rollcore.proofs.replays.ScanOfLogPrefix.{scan_long}
 use Rattle.rollcore.proofs.reading.scan_log.Goals as goal
 
 pub returns-then-long-gt-LONGEST : goal.returns-then-long-gt-LONGEST
-returns-then-long-gt-LONGEST g c = record {
-  word = search rules;
-  holds = λ word.
-      record {
-        still = search rules;
-        told = told_same {T = Option Replay} (Err TooLarge) (g.D.Disk.state c.args.disk.now) (g.D.Disk.state c.args.disk.now) (omega arith);
-        found = λ w are long. scan_long w _ _ c.args.long long c.if-long-gt-LONGEST.true;
-      };
-}
+returns-then-long-gt-LONGEST g c = during (search rules) (λ word.
+    record {
+      still = search rules;
+      told = told_same {T = Option Replay} (Err TooLarge) (g.D.Disk.state c.args.disk.now) (g.D.Disk.state c.args.disk.now) (omega arith);
+      found = λ w are long. scan_long w _ _ c.args.long long c.if-long-gt-LONGEST.true;
+    })
 
 pub returns : goal.returns
-returns g c = record {
-  word = c.scan_log.ensures.word;
-  holds = λ word.
-      let scanned = c.scan_log.ensures.holds word in
-      record { still = scanned.still; told = scanned.told; found = λ w are long. scanned.found w are long 0 c.new.ensures };
-}
+returns g c = during c.scan_log.ensures.word (λ word.
+    let scanned = c.scan_log.ensures.holds word in
+    record { still = scanned.still; told = scanned.told; found = λ w are long. scanned.found w are long 0 c.new.ensures })

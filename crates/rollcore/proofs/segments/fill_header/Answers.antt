@@ -1,6 +1,5 @@
-use Rattle.std.proofs.Common.{◌∙◌, ℕ, List, length, sym, ap, subst}
-use Rattle.std.proofs.lemmas.List.{length-take-le}
-use Rattle.sqjournal.specs.Header.{Names}
+use Rattle.std.proofs.Common.{◌∙◌, ℕ, List, length, sym, ap, subst, length-take-le}
+use Rattle.rollcore.proofs.Words.{Names}
 use Rattle.rollcore.proofs.segments.fill_header.Goals as goal
 
 pub copy_from_slice-requires : goal.copy_from_slice-requires

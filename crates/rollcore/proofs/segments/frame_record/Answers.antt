@@ -1,6 +1,5 @@
 use Rattle.std.proofs.Common.{◌≡◌, ◌+◌, ◌-◌, ◌++◌, ◌∙◌, ℕ, length, take, drop, ap, arith}
-use Rattle.byteorder.specs.Endian.{big_bytes}
-use Rattle.sqjournal.specs.NonceSum.{nonce_sum}
+use Rattle.rollcore.proofs.Words.{big_bytes, nonce_sum}
 use Rattle.rollcore.proofs.journal.RecordsOfOldPages.{framed}
 use Rattle.rollcore.proofs.segments.frame_record.Goals as goal
 

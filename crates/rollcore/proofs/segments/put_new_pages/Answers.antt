@@ -1,10 +1,6 @@
-use Rattle.std.proofs.Common.{◌<◌, ◌++◌, ◌+◌, ℕ, length, refl, sym, ap, subst, arith, rules, []}
-use Rattle.std.specs.Prelude.{Result, Ok}
-use Rattle.recovery.proofs.Words.{lent, DiskState, passed}
-use Rattle.rollcore.specs.Changes.{MayReplay, Asks}
+use Rattle.std.proofs.Common.{◌<◌, ◌++◌, ◌+◌, ℕ, length, refl, sym, ap, subst, arith, rules, [], Result, Ok}
+use Rattle.rollcore.proofs.Words.{during, lent, DiskState, passed, MayReplay, Asks, PutPagesAnswer, new_numbers, RollError}
 use Rattle.rollcore.proofs.disk.ToldRefusals.{asks_same, asks_as, asks_err, asks_then, page_within}
-use Rattle.rollcore.specs.internal.Segments.{PutPagesAnswer, new_numbers}
-use Rattle.rollcore.specs.declared.error.RollError.{RollError}
 use Rattle.rollcore.proofs.commit.AppendedPages.{Grown, grown_none, grown_all, grown_old, grown_put, grown_failed, lent_at, lent_length}
 use Rattle.rollcore.proofs.segments.put_new_pages.Goals as goal
 use Rattle.rollcore.proofs.segments.put_new_pages.Goals.{then-page-old_size+in_ok-put_page, else-page-old_size}
@@ -46,37 +42,31 @@ loop-x-preserved g c = record {
 }
 
 pub returns-clause-disk : goal.returns-clause-disk
-returns-clause-disk g c = record {
-  word = search rules;
-  holds = λ word.
-      record {
-        asks = λ size placed. asks_as {U = Unit {0}} _ (Ok tt) tt _ _ refl (c.loop-x.invariant.asks word size placed);
-        put = λ size sector d e named place w before is begun many are somes put.
-            let done = grown_all size sector d e named place w begun (lent c.args.pages.now) are before somes c.loop-x.x-index _ _ (omega (arith, c.loop-x-test.false, lent_length c.args.pages.now))
-            (c.loop-x.invariant.put word size sector d e named place w before is begun many are somes put) in
-            subst (λ (n : ℕ). PutPagesAnswer {T = Unit {0}} size sector d e named place w (before ++ new_numbers n (lent c.args.pages.now)) (Ok tt) (g.D.Disk.state c.args.disk.now) (g.D.Disk.state c.loop-x.disk)) (sym many) done;
-      };
-}
+returns-clause-disk g c = during (search rules) (λ word.
+    record {
+      asks = λ size placed. asks_as {U = Unit {0}} _ (Ok tt) tt _ _ refl (c.loop-x.invariant.asks word size placed);
+      put = λ size sector d e named place w before is begun many are somes put.
+          let done = grown_all size sector d e named place w begun (lent c.args.pages.now) are before somes c.loop-x.x-index _ _ (omega (arith, c.loop-x-test.false, lent_length c.args.pages.now))
+          (c.loop-x.invariant.put word size sector d e named place w before is begun many are somes put) in
+          subst (λ (n : ℕ). PutPagesAnswer {T = Unit {0}} size sector d e named place w (before ++ new_numbers n (lent c.args.pages.now)) (Ok tt) (g.D.Disk.state c.args.disk.now) (g.D.Disk.state c.loop-x.disk)) (sym many) done;
+    })
 
 pub returns-in_err-put_page-clause-disk : goal.returns-in_err-put_page-clause-disk
-returns-in_err-put_page-clause-disk g c = record {
-  word = search rules;
-  holds = λ word.
-      let by_put_page = c.put_page.ensures.disk.holds (c.loop-x.invariant.word.0 word) in
-      record {
-        asks = λ size placed.
-            let here = placed c.loop-x.x-index (0, record { ref_ptr = (0, 0); now = [] }) c.loop-x-test.true in
-            asks_then {U = Unit {0}} _ (Ok tt) tt _ _ _ refl (c.loop-x.invariant.asks word size placed)
-            (asks_err c.from_residual.result c.put_page.result _ _ _ c.in_err-put_page.was (passed c.from_residual.result _ c.from_residual.ensures.1)
-            (subst (λ (n : ℕ). Asks (MayReplay n) c.put_page.result (g.D.Disk.state c.loop-x.disk) (g.D.Disk.state c.put_page.new.disk)) here.0
-            (by_put_page.asks (page_within size _ _ here.0 here.1))));
-        put = λ size sector d e named place w before is begun many are somes put.
-            let was = c.loop-x.invariant.put word size sector d e named place w before is begun many are somes put in
-            let lt : c.loop-x.x-index < length (lent c.args.pages.now) = omega (arith, c.loop-x-test.true, lent_length c.args.pages.now) in
-            let here = lent_at c.args.pages.now c.loop-x.x-index (0, record { ref_ptr = (0, 0); now = [] }) c.loop-x-test.true in
-            subst (λ (x : Result (Unit {0}) RollError). PutPagesAnswer size sector d e named place w (before ++ new_numbers c.args.old_size (lent c.args.pages.now)) x (g.D.Disk.state c.args.disk.now) (g.D.Disk.state c.put_page.new.disk))
-            (sym (passed c.from_residual.result _ c.from_residual.ensures.1))
-            (grown_failed size sector d e named place w begun (lent c.args.pages.now) are before somes c.loop-x.x-index lt _ _ c.put_page.result _ _ _ (sym here.0) (sym here.1) (omega (arith, c.if-page-old_size.true, many)) was
-            by_put_page.step c.in_err-put_page.field-0.0 c.in_err-put_page.was);
-      };
-}
+returns-in_err-put_page-clause-disk g c = during (search rules) (λ word.
+    let by_put_page = c.put_page.ensures.disk.holds (c.loop-x.invariant.word.0 word) in
+    record {
+      asks = λ size placed.
+          let here = placed c.loop-x.x-index (0, record { ref_ptr = (0, 0); now = [] }) c.loop-x-test.true in
+          asks_then {U = Unit {0}} _ (Ok tt) tt _ _ _ refl (c.loop-x.invariant.asks word size placed)
+          (asks_err c.from_residual.result c.put_page.result _ _ _ c.in_err-put_page.was (passed c.from_residual.result _ c.from_residual.ensures.1)
+          (subst (λ (n : ℕ). Asks (MayReplay n) c.put_page.result (g.D.Disk.state c.loop-x.disk) (g.D.Disk.state c.put_page.new.disk)) here.0
+          (by_put_page.asks (page_within size _ _ here.0 here.1))));
+      put = λ size sector d e named place w before is begun many are somes put.
+          let was = c.loop-x.invariant.put word size sector d e named place w before is begun many are somes put in
+          let lt : c.loop-x.x-index < length (lent c.args.pages.now) = omega (arith, c.loop-x-test.true, lent_length c.args.pages.now) in
+          let here = lent_at c.args.pages.now c.loop-x.x-index (0, record { ref_ptr = (0, 0); now = [] }) c.loop-x-test.true in
+          subst (λ (x : Result (Unit {0}) RollError). PutPagesAnswer size sector d e named place w (before ++ new_numbers c.args.old_size (lent c.args.pages.now)) x (g.D.Disk.state c.args.disk.now) (g.D.Disk.state c.put_page.new.disk))
+          (sym (passed c.from_residual.result _ c.from_residual.ensures.1))
+          (grown_failed size sector d e named place w begun (lent c.args.pages.now) are before somes c.loop-x.x-index lt _ _ c.put_page.result _ _ _ (sym here.0) (sym here.1) (omega (arith, c.if-page-old_size.true, many)) was
+          by_put_page.step c.in_err-put_page.field-0.0 c.in_err-put_page.was);
+    })

@@ -1,9 +1,5 @@
-use Rattle.std.proofs.Common.{◌≡◌, ◌↔◌, ◌<◌, ℕ, List, length}
-use Rattle.recovery.proofs.Words.{Database, lent}
-use Rattle.std.specs.Prelude.{Ok}
-use Rattle.rollcore.specs.Changes.{MayReplay, Asks}
-use Rattle.rollcore.specs.internal.Commits.{ArePlaced}
-use Rattle.rollcore.specs.internal.Segments.{Journaled, ArePut, AreSome, AreOf}
+use Rattle.std.proofs.Common.{◌≡◌, ◌↔◌, ◌<◌, ℕ, List, length, Ok}
+use Rattle.rollcore.proofs.Words.{Database, lent, MayReplay, Asks, ArePlaced, Journaled, ArePut, AreSome, AreOf}
 use Rattle.rollcore.proofs.commit.AppendedPages.{Grown}
 use Rattle.rollcore.proofs.segments.put_new_pages.Given as goal
 

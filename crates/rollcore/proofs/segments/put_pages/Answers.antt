@@ -1,11 +1,6 @@
-use Rattle.std.proofs.Common.{◌++◌, ◌+◌, ◌*◌, ◌≤◌, ℕ, refl, sym, ap, subst, arith, rules, []}
-use Rattle.std.specs.Prelude.{Result, Ok}
-use Rattle.recovery.proofs.Words.{lent, DiskState, most_bytes, passed}
-use Rattle.rollcore.specs.Changes.{MayReplay, Asks}
-use Rattle.rollcore.specs.internal.Commits.{change_at}
+use Rattle.std.proofs.Common.{◌++◌, ◌+◌, ◌*◌, ◌≤◌, ℕ, refl, sym, ap, subst, arith, rules, [], Result, Ok}
+use Rattle.rollcore.proofs.Words.{during, lent, DiskState, most_bytes, passed, MayReplay, Asks, change_at, PutPagesAnswer, pages_of, RollError}
 use Rattle.rollcore.proofs.disk.ToldRefusals.{asks_same, asks_as, asks_err, asks_then}
-use Rattle.rollcore.specs.internal.Segments.{PutPagesAnswer, pages_of}
-use Rattle.rollcore.specs.declared.error.RollError.{RollError}
 use Rattle.rollcore.proofs.commit.OverwrittenPages.{turned_none, turned_all, turned_cut, turned_put, turned_failed, lent_content, Turned}
 use Rattle.rollcore.proofs.segments.put_pages.Goals as goal
 use Rattle.rollcore.proofs.segments.put_pages.Goals.{in-Some+in_ok-put_page-in-Some, in-None}
@@ -18,39 +13,33 @@ loop-change-init g c = record {
 }
 
 pub returns-clause-disk : goal.returns-clause-disk
-returns-clause-disk g c = record {
-  word = search rules;
-  holds = λ word.
-      record {
-        asks = λ size placed within. asks_as {U = Unit {0}} _ (Ok tt) tt _ _ refl (c.loop-change.invariant.asks word size placed within);
-        put = λ size sector d e named place w before is begun turned somes put.
-            turned_all size sector d e named place w begun (lent c.args.pages.now) c.args.changes.now turned before somes c.loop-change.change-index _ _ (omega (arith, c.loop-change-test.false))
-            (c.loop-change.invariant.put word size sector d e named place w before is begun turned somes put);
-      };
-}
+returns-clause-disk g c = during (search rules) (λ word.
+    record {
+      asks = λ size placed within. asks_as {U = Unit {0}} _ (Ok tt) tt _ _ refl (c.loop-change.invariant.asks word size placed within);
+      put = λ size sector d e named place w before is begun turned somes put.
+          turned_all size sector d e named place w begun (lent c.args.pages.now) c.args.changes.now turned before somes c.loop-change.change-index _ _ (omega (arith, c.loop-change-test.false))
+          (c.loop-change.invariant.put word size sector d e named place w before is begun turned somes put);
+    })
 
 pub returns-in_err-put_page-in-Some-clause-disk : goal.returns-in_err-put_page-in-Some-clause-disk
-returns-in_err-put_page-in-Some-clause-disk g c = record {
-  word = search rules;
-  holds = λ word.
-      let by_put_page = c.put_page.ensures.disk.holds (c.loop-change.invariant.word.0 word) in
-      record {
-        asks = λ size placed within.
-            let full = (placed c.in-Some.k (0, record { ref_ptr = (0, 0); now = [] }) (c.requires.within c.loop-change.change-index c.in-Some.k c.loop-change-test.true c.in-Some.is)).0 in
-            let fits = subst (λ (n : ℕ). (change_at c.args.changes.now c.loop-change.change-index).page * n ≤ most_bytes) (sym full) (within c.loop-change.change-index c.loop-change-test.true) in
-            asks_then {U = Unit {0}} _ (Ok tt) tt _ _ _ refl (c.loop-change.invariant.asks word size placed within)
-            (asks_err c.from_residual.result c.put_page.result _ _ _ c.in_err-put_page-in-Some.was (passed c.from_residual.result _ c.from_residual.ensures.1)
-            (subst (λ (n : ℕ). Asks (MayReplay n) c.put_page.result (g.D.Disk.state c.loop-change.disk) (g.D.Disk.state c.put_page.new.disk)) full (by_put_page.asks fits)));
-        put = λ size sector d e named place w before is begun turned somes put.
-            let step = by_put_page.step in
-            let was = c.loop-change.invariant.put word size sector d e named place w before is begun turned somes put in
-            let some = c.in-Some.is in
-            subst (λ (x : Result (Unit {0}) RollError). PutPagesAnswer size sector d e named place w (before ++ pages_of c.args.changes.now) x (g.D.Disk.state c.args.disk.now) (g.D.Disk.state c.put_page.new.disk))
-            (sym (passed c.from_residual.result _ c.from_residual.ensures.1))
-            (turned_failed size sector d e named place w begun (lent c.args.pages.now) c.args.changes.now turned before somes c.loop-change.change-index c.loop-change-test.true c.in-Some.k _ c.put_page.result _ _ _ some
-            (lent_content c.args.pages.now c.in-Some.k (0, record { ref_ptr = (0, 0); now = [] }) (c.requires.within c.loop-change.change-index c.in-Some.k c.loop-change-test.true some)) was step c.in_err-put_page-in-Some.field-0.0 c.in_err-put_page-in-Some.was);
-      };
-}
+returns-in_err-put_page-in-Some-clause-disk g c = during (search rules) (λ word.
+    let by_put_page = c.put_page.ensures.disk.holds (c.loop-change.invariant.word.0 word) in
+    record {
+      asks = λ size placed within.
+          let full = (placed c.in-Some.k (0, record { ref_ptr = (0, 0); now = [] }) (c.requires.within c.loop-change.change-index c.in-Some.k c.loop-change-test.true c.in-Some.is)).0 in
+          let fits = subst (λ (n : ℕ). (change_at c.args.changes.now c.loop-change.change-index).page * n ≤ most_bytes) (sym full) (within c.loop-change.change-index c.loop-change-test.true) in
+          asks_then {U = Unit {0}} _ (Ok tt) tt _ _ _ refl (c.loop-change.invariant.asks word size placed within)
+          (asks_err c.from_residual.result c.put_page.result _ _ _ c.in_err-put_page-in-Some.was (passed c.from_residual.result _ c.from_residual.ensures.1)
+          (subst (λ (n : ℕ). Asks (MayReplay n) c.put_page.result (g.D.Disk.state c.loop-change.disk) (g.D.Disk.state c.put_page.new.disk)) full (by_put_page.asks fits)));
+      put = λ size sector d e named place w before is begun turned somes put.
+          let step = by_put_page.step in
+          let was = c.loop-change.invariant.put word size sector d e named place w before is begun turned somes put in
+          let some = c.in-Some.is in
+          subst (λ (x : Result (Unit {0}) RollError). PutPagesAnswer size sector d e named place w (before ++ pages_of c.args.changes.now) x (g.D.Disk.state c.args.disk.now) (g.D.Disk.state c.put_page.new.disk))
+          (sym (passed c.from_residual.result _ c.from_residual.ensures.1))
+          (turned_failed size sector d e named place w begun (lent c.args.pages.now) c.args.changes.now turned before somes c.loop-change.change-index c.loop-change-test.true c.in-Some.k _ c.put_page.result _ _ _ some
+          (lent_content c.args.pages.now c.in-Some.k (0, record { ref_ptr = (0, 0); now = [] }) (c.requires.within c.loop-change.change-index c.in-Some.k c.loop-change-test.true some)) was step c.in_err-put_page-in-Some.field-0.0 c.in_err-put_page-in-Some.was);
+    })
 
 pub loop-change-preserved : goal.loop-change-preserved
 loop-change-preserved g c = record {

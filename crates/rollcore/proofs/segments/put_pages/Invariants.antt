@@ -1,9 +1,5 @@
-use Rattle.std.proofs.Common.{◌↔◌, ◌<◌, ℕ, List}
-use Rattle.recovery.proofs.Words.{Database, lent}
-use Rattle.std.specs.Prelude.{Ok}
-use Rattle.rollcore.specs.Changes.{MayReplay, Asks}
-use Rattle.rollcore.specs.internal.Commits.{ArePlaced, AreWithin}
-use Rattle.rollcore.specs.internal.Segments.{Journaled, ArePut, AreTurned, AreSome}
+use Rattle.std.proofs.Common.{◌↔◌, ◌<◌, ℕ, List, Ok}
+use Rattle.rollcore.proofs.Words.{Database, lent, MayReplay, Asks, ArePlaced, AreWithin, Journaled, ArePut, AreTurned, AreSome}
 use Rattle.rollcore.proofs.commit.OverwrittenPages.{Turned}
 use Rattle.rollcore.proofs.segments.put_pages.Given as goal
 

@@ -1,5 +1,4 @@
-use Rattle.byteorder.specs.Endian.{big_bytes}
-use Rattle.sqjournal.proofs.journal.WordsOfHeader.{put_at}
+use Rattle.rollcore.proofs.Words.{big_bytes, put_at}
 use Rattle.rollcore.proofs.segments.put_word.Goals as goal
 
 pub returns : goal.returns

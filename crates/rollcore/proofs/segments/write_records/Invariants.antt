@@ -1,8 +1,5 @@
-use Rattle.std.proofs.Common.{◌≡◌, ◌↔◌, ◌+◌, ◌-◌, ◌*◌, ℕ, List, length}
-use Rattle.recovery.proofs.Words.{Database}
-use Rattle.std.specs.Prelude.{Ok}
-use Rattle.rollcore.specs.Changes.{MayCommit, Asks}
-use Rattle.rollcore.specs.internal.Segments.{Recording, pages_of, AreFresh}
+use Rattle.std.proofs.Common.{◌≡◌, ◌↔◌, ◌+◌, ◌-◌, ◌*◌, ℕ, List, length, Ok}
+use Rattle.rollcore.proofs.Words.{Database, MayCommit, Asks, Recording, pages_of, AreFresh}
 use Rattle.rollcore.proofs.journal.RecordsOfOldPages.{GoneTo}
 use Rattle.rollcore.proofs.segments.write_records.Given as goal
 

@@ -1,5 +1,5 @@
 use Rattle.std.proofs.Common.{take}
-use Rattle.walcore.specs.internal.Bringing.{IsLeast}
+use Rattle.walcore.proofs.Words.{IsLeast}
 use Rattle.walcore.proofs.checkpoints.least_mark.Given as goal
 
 abbrev pub invariant-loop-mark : goal.invariant-loop-mark

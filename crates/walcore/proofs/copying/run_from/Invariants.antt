@@ -1,5 +1,5 @@
 use Rattle.std.proofs.Common.{ℕ, ◌+◌, ◌-◌, ◌<◌, ◌≤◌}
-use Rattle.sqwal.specs.Index.{IsNewest}
+use Rattle.walcore.proofs.Words.{IsNewest}
 use Rattle.walcore.proofs.copying.run_from.Given as goal
 
 abbrev pub invariant-loop-count : goal.invariant-loop-count

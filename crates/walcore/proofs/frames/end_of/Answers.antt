@@ -1,5 +1,5 @@
 use Rattle.std.proofs.Common.{ℕ, ◌+◌, ◌*◌, ◌∙◌, ap}
-use Rattle.sqwal.specs.Frames.{frame_end}
+use Rattle.walcore.proofs.Words.{frame_end}
 use Rattle.walcore.proofs.frames.end_of.Goals as goal
 
 pub returns : goal.returns

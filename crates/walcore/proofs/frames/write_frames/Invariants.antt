@@ -1,9 +1,5 @@
-use Rattle.std.proofs.Common.{◌≡◌, ℕ, ◌+◌, ◌≤◌, List, length}
-use Rattle.std.specs.Prelude.{◌↔◌}
-use Rattle.sqwal.specs.Refusal.{most_frames}
-use Rattle.recovery.proofs.Words.{lent}
-use Rattle.walcore.specs.Made.{IsExtended}
-use Rattle.walcore.specs.internal.Going.{KeepsCore, KnowsLog, Going}
+use Rattle.std.proofs.Common.{◌≡◌, ℕ, ◌+◌, ◌≤◌, List, length, ◌↔◌}
+use Rattle.walcore.proofs.Words.{most_frames, lent, IsExtended, KeepsCore, KnowsLog, Going}
 use Rattle.walcore.proofs.frames.write_frames.Given as goal
 
 abbrev pub invariant-loop-k : goal.invariant-loop-k

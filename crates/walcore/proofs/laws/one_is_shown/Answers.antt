@@ -1,5 +1,5 @@
-use Rattle.std.specs.Prelude.{Ok}
-use Rattle.recovery.proofs.Words.{Log, sound_syncs, synced_down}
+use Rattle.std.proofs.Common.{Ok}
+use Rattle.walcore.proofs.Words.{Log, sound_syncs, synced_down}
 use Rattle.walcore.proofs.openings.FoundFiles.{is_found, found_syncs, found_alone}
 use Rattle.walcore.proofs.laws.one_is_shown.Goals as goal
 

@@ -1,5 +1,4 @@
-use Rattle.recovery.proofs.Words.{crash_shows, alone_same, alone_looks, alone_syncs}
-use Rattle.walcore.specs.Alone.{wal_log}
+use Rattle.walcore.proofs.Words.{crash_shows, alone_same, alone_looks, alone_syncs, wal_log}
 use Rattle.walcore.proofs.laws.what_is_shown_stays.Goals as goal
 
 pub returns-clause-len : goal.returns-clause-len

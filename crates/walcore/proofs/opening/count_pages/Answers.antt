@@ -1,56 +1,42 @@
-use Rattle.std.proofs.Common.{◌∙◌, ℕ, sym, subst, arith, rules}
-use Rattle.recovery.proofs.Words.{IsPageSize, count_zero, count_rest, passed, still_looks, tells_ok}
+use Rattle.std.proofs.Common.{◌∙◌, ℕ, sym, subst, arith, rules, Err}
+use Rattle.walcore.proofs.Words.{during, IsPageSize, count_zero, count_rest, passed, still_looks, tells_ok, TooLarge, PageSize, Device}
 use Rattle.walcore.proofs.openings.RefusalBeforeWrites.{count_whole}
-use Rattle.std.specs.Prelude.{Err}
-use Rattle.walcore.specs.declared.error.WalError.TheVariants.{TooLarge, PageSize, Device}
 use Rattle.walcore.proofs.opening.count_pages.Goals.{then-long-eq0-via-then-long-eq0, then-long-eq0-via-else-long-eq0+then-long-size-ne0}
 use Rattle.walcore.proofs.opening.count_pages.Goals as goal
 
 pub returns-in_err-long : goal.returns-in_err-long
-returns-in_err-long g c = record {
-  word = c.len.ensures.word;
-  holds = λ word. record {
-    still = still_looks _ c.len.result _ _ (g.met.D.Disk.sound c.args.disk.now word) (c.len.ensures.state word);
-    told = λ more. passed c.from_residual.result Device c.from_residual.ensures.1;
-    found = search rules;
-  };
-}
+returns-in_err-long g c = during c.len.ensures.word (λ word. record {
+  still = still_looks _ c.len.result _ _ (g.met.D.Disk.sound c.args.disk.now word) (c.len.ensures.state word);
+  told = λ more. passed c.from_residual.result Device c.from_residual.ensures.1;
+  found = search rules;
+})
 
 pub returns-then-long-gt-MOST_BYTES : goal.returns-then-long-gt-MOST_BYTES
-returns-then-long-gt-MOST_BYTES g c = record {
-  word = c.len.ensures.word;
-  holds = λ word. record {
-    still = still_looks _ c.len.result _ _ (g.met.D.Disk.sound c.args.disk.now word) (c.len.ensures.state word);
-    told = tells_ok {T = ℕ} Device (Err TooLarge) c.len.result _ (g.D.Disk.state c.args.disk.now) (g.D.Disk.state c.len.new.self) c.in_ok-long.was (c.len.ensures.state word).refused;
-    found = search rules;
-  };
-}
+returns-then-long-gt-MOST_BYTES g c = during c.len.ensures.word (λ word. record {
+  still = still_looks _ c.len.result _ _ (g.met.D.Disk.sound c.args.disk.now word) (c.len.ensures.state word);
+  told = tells_ok {T = ℕ} Device (Err TooLarge) c.len.result _ (g.D.Disk.state c.args.disk.now) (g.D.Disk.state c.len.new.self) c.in_ok-long.was (c.len.ensures.state word).refused;
+  found = search rules;
+})
 
 pub returns-then-long-eq0 : goal.returns-then-long-eq0
-returns-then-long-eq0 g c = record {
-  word = c.len.ensures.word;
-  holds = λ word. record {
-    still = still_looks _ c.len.result _ _ (g.met.D.Disk.sound c.args.disk.now word) (c.len.ensures.state word);
-    told = tells_ok {T = ℕ} Device (Err PageSize) c.len.result _ (g.D.Disk.state c.args.disk.now) (g.D.Disk.state c.len.new.self) c.in_ok-long.was (c.len.ensures.state word).refused;
-    found = (
-      omega (arith, c.in_ok-long.ensures.answer word),
-      λ n one e. elim c.then-long-eq0.branch [
-        | then-long-eq0-via-then-long-eq0 w ↦ count_zero c.args.page_size n c.in_ok-long.long (subst (λ k. IsPageSize k) c.get.ensures.value c.get.ensures.valid) one (e ∙ sym (c.in_ok-long.ensures.answer word)) w.if-long-eq0.true
-        | then-long-eq0-via-else-long-eq0+then-long-size-ne0 w ↦ count_rest c.args.page_size c.from-size.result n c.in_ok-long.long (c.from-size.ensures ∙ c.get.ensures.value) (e ∙ sym (c.in_ok-long.ensures.answer word)) w.if-long-size-ne0.true
-      ],
-    );
-  };
-}
+returns-then-long-eq0 g c = during c.len.ensures.word (λ word. record {
+  still = still_looks _ c.len.result _ _ (g.met.D.Disk.sound c.args.disk.now word) (c.len.ensures.state word);
+  told = tells_ok {T = ℕ} Device (Err PageSize) c.len.result _ (g.D.Disk.state c.args.disk.now) (g.D.Disk.state c.len.new.self) c.in_ok-long.was (c.len.ensures.state word).refused;
+  found = (
+    omega (arith, c.in_ok-long.ensures.answer word),
+    λ n one e. elim c.then-long-eq0.branch [
+      | then-long-eq0-via-then-long-eq0 w ↦ count_zero c.args.page_size n c.in_ok-long.long (subst (λ k. IsPageSize k) c.get.ensures.value c.get.ensures.valid) one (e ∙ sym (c.in_ok-long.ensures.answer word)) w.if-long-eq0.true
+      | then-long-eq0-via-else-long-eq0+then-long-size-ne0 w ↦ count_rest c.args.page_size c.from-size.result n c.in_ok-long.long (c.from-size.ensures ∙ c.get.ensures.value) (e ∙ sym (c.in_ok-long.ensures.answer word)) w.if-long-size-ne0.true
+    ],
+  );
+})
 
 pub returns : goal.returns
-returns g c = record {
-  word = c.len.ensures.word;
-  holds = λ word. record {
-    still = still_looks _ c.len.result _ _ (g.met.D.Disk.sound c.args.disk.now word) (c.len.ensures.state word);
-    told = tells_ok Device _ c.len.result _ (g.D.Disk.state c.args.disk.now) (g.D.Disk.state c.len.new.self) c.in_ok-long.was (c.len.ensures.state word).refused;
-    found =
-        let long = c.in_ok-long.ensures.answer word in
-        let whole = count_whole c.args.page_size c.from-size.result c.in_ok-long.long (c.from-size.ensures ∙ c.get.ensures.value) c.if-long-size-ne0.false c.if-long-eq0.false in
-        (whole.0, whole.1 ∙ long, omega (arith, long, c.if-long-gt-MOST_BYTES.false));
-  };
-}
+returns g c = during c.len.ensures.word (λ word. record {
+  still = still_looks _ c.len.result _ _ (g.met.D.Disk.sound c.args.disk.now word) (c.len.ensures.state word);
+  told = tells_ok Device _ c.len.result _ (g.D.Disk.state c.args.disk.now) (g.D.Disk.state c.len.new.self) c.in_ok-long.was (c.len.ensures.state word).refused;
+  found =
+      let long = c.in_ok-long.ensures.answer word in
+      let whole = count_whole c.args.page_size c.from-size.result c.in_ok-long.long (c.from-size.ensures ∙ c.get.ensures.value) c.if-long-size-ne0.false c.if-long-eq0.false in
+      (whole.0, whole.1 ∙ long, omega (arith, long, c.if-long-gt-MOST_BYTES.false));
+})

@@ -1,6 +1,5 @@
 use Rattle.std.proofs.Common.{◌≡◌, ◌+◌, ◌<◌, ◌==◌, cond, length, subst, arith, rules}
-use Rattle.std.proofs.lemmas.Grind.{common_steps}
-use Rattle.walcore.specs.Fits.{times}
+use Rattle.walcore.proofs.Words.{common_steps, times}
 use Rattle.walcore.proofs.read.MarksOfReaders.{removed, none_times}
 use Rattle.walcore.proofs.paging.take_out.Goals as goal
 

@@ -1,7 +1,5 @@
 use Rattle.std.proofs.Common.{◌≡◌, ◌+◌, ℕ, [], ap, subst, ◌∙◌, length, arith, length-append}
-use Rattle.sqwal.specs.Header.{named_size}
-use Rattle.sqwal.specs.Index.{FrameTable}
-use Rattle.walcore.specs.Plans.{IsTable}
+use Rattle.walcore.proofs.Words.{named_size, FrameTable, IsTable}
 use Rattle.walcore.proofs.folds.PlanOfScannedLog.{table_none, table_more, valid_below}
 use Rattle.walcore.proofs.plan.index_of.Goals as goal
 

@@ -1,8 +1,5 @@
 use Rattle.std.proofs.Common.{◌≤◌, ◌≡◌, ℕ, List, length}
-use Rattle.sqwal.specs.Header.{named_size}
-use Rattle.sqwal.specs.Frames.{IsValidFrame}
-use Rattle.sqwal.specs.Took.{TookWithin}
-use Rattle.walcore.specs.Plans.{IsTable}
+use Rattle.walcore.proofs.Words.{named_size, IsValidFrame, TookWithin, IsTable}
 use Rattle.walcore.proofs.plan.index_of.Given as goal
 
 abbrev pub invariant-loop-k : goal.invariant-loop-k

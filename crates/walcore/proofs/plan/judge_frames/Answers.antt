@@ -1,5 +1,5 @@
 use Rattle.std.proofs.Common.{◌≡◌, ◌≤◌, ◌<◌, ◌*◌, ◌∙◌, sym, arith}
-use Rattle.sqwal.proofs.feed.ScanAnswers.{few_frames}
+use Rattle.walcore.proofs.Words.{few_frames}
 use Rattle.walcore.proofs.folds.PlanOfScannedLog.{judged_large, judged_other, judged}
 use Rattle.walcore.proofs.plan.judge_frames.Goals as goal
 

@@ -1,8 +1,6 @@
 use Rattle.std.proofs.Common.{◌≤◌, ◌∙◌, refl, arith}
-use Rattle.recovery.proofs.Words.{passed}
+use Rattle.walcore.proofs.Words.{passed, no_memory, NoMemory}
 use Rattle.walcore.proofs.folds.PlanOfScannedLog.{plan_none, plan_some, plan_refused, plan_memory, page_most}
-use Rattle.recovery.proofs.AnswersOfSteps.{no_memory}
-use Rattle.walcore.specs.declared.error.WalError.TheVariants.{NoMemory}
 use Rattle.walcore.proofs.plan.plan_of.Goals as goal
 
 pub returns-in_err-front-clause-plan : goal.returns-in_err-front-clause-plan

@@ -1,5 +1,5 @@
+use Rattle.walcore.proofs.Words.{named_size}
 use Rattle.walcore.proofs.folds.PlanOfScannedLog.{wanted_low, wanted_high}
-use Rattle.sqwal.specs.Header.{named_size}
 use Rattle.walcore.proofs.plan.wanted.Goals as goal
 
 pub returns-then-entry-size-clause-page : goal.returns-then-entry-size-clause-page

@@ -1,6 +1,5 @@
 use Rattle.std.proofs.Common.{◌≡◌, ◌∙◌, ◌++◌, ℕ, List, length, drop, ap, subst}
-use Rattle.std.proofs.lemmas.List.{take_rest}
-use Rattle.sqwal.specs.Frames.{IsFrameHead}
+use Rattle.walcore.proofs.Words.{take_rest, IsFrameHead}
 use Rattle.walcore.proofs.syncs.put_head.Goals as goal
 
 pub returns : goal.returns

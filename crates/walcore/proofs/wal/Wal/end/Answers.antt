@@ -1,5 +1,5 @@
 use Rattle.std.proofs.Common.{refl}
-use Rattle.recovery.proofs.Words.{still}
+use Rattle.walcore.proofs.Words.{still}
 use Rattle.walcore.proofs.read.MarksOfReaders.{mark_there}
 use Rattle.walcore.proofs.read.StepsOfReaders.{end_done}
 use Rattle.walcore.proofs.wal.Wal.end.Goals as goal
