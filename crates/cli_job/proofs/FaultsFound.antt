@@ -3,10 +3,10 @@ use Rattle.std.proofs.Common.{inl, inr, ⊎_elim, ℕ, Bool, List, Option, None,
 use Rattle.std.specs.Prelude.{Ok, Err}
 use Rattle.sqval.specs.Limits.{Bounds}
 use Rattle.sqview.specs.LogView.{pages_of}
-use Rattle.sqshown.specs.Found.{IsFoundOf, fault_in}
-use Rattle.sqshown.specs.declared.contents.Contents.{Contents}
-use Rattle.sqshown.specs.declared.surveys.Found.{Found}
-use Rattle.sqshown.specs.declared.surveys.Found.TheVariants as surveys
+use Rattle.cli_show.specs.Found.{IsFoundOf, fault_in}
+use Rattle.cli_show.specs.declared.contents.Contents.{Contents}
+use Rattle.cli_show.specs.declared.surveys.Found.{Found}
+use Rattle.cli_show.specs.declared.surveys.Found.TheVariants as surveys
 use Rattle.cli_job.specs.Faults.{HaveFault}
 
 -- the fault that was found is one that the files have

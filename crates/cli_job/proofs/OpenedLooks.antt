@@ -1,14 +1,14 @@
 -- What is found of files as they were opened.
 use Rattle.std.proofs.Common.{◌≡◌, ◌⊎◌, inl, inr, ⊎_elim, ℕ, List, Option, sym, subst}
 use Rattle.std.specs.Prelude.{Bool, Result, Ok, Err, IsErrAnd}
-use Rattle.sqwords.specs.declared.requests.Options.{Options}
-use Rattle.sqfacts.specs.declared.outcome.Refusal.{Refusal}
+use Rattle.cli_words.specs.declared.requests.Options.{Options}
+use Rattle.cli_facts.specs.declared.outcome.Refusal.{Refusal}
 use Rattle.sqview.specs.internal.Laid.{HoldsPart}
 use Rattle.sqview.proofs.file.HeldPartOfFile.{holds_nothing}
-use Rattle.sqopen.specs.Refusals.{IsFromWatch}
-use Rattle.sqopen.specs.declared.opened_file.OpenedFile.{OpenedFile}
-use Rattle.sqshown.specs.Contents.{AreGiven}
-use Rattle.sqshown.specs.declared.contents.Contents.{Contents}
+use Rattle.cli_files.specs.Refusals.{IsFromWatch}
+use Rattle.cli_files.specs.declared.opened_file.OpenedFile.{OpenedFile}
+use Rattle.cli_show.specs.Contents.{AreGiven}
+use Rattle.cli_show.specs.declared.contents.Contents.{Contents}
 use Rattle.cli_job.specs.Commands.{Finds, IsDamage}
 use Rattle.cli_job.specs.Opened.{AreFresh, AreOpenedFor, Counted, FindsOpened, Looks, Settles, all_opened, opened_of, reads_logs}
 use Rattle.cli_job.specs.declared.commands.Command.{Command}

@@ -3,18 +3,18 @@ use Rattle.std.specs.Prelude.{◌≡◌, ◌⊎◌, Bool, true, false, Option, N
 use Rattle.std.specs.IoError.{error_kind}
 use Rattle.std.specs.declared.io.ErrorKind.{ErrorKind}
 use Rattle.std.specs.declared.io.ErrorKind.TheVariants.{OutOfMemory}
-use Rattle.sqfacts.specs.declared.fronts.Front.{Front}
-use Rattle.sqfacts.specs.declared.outcome.Refusal.TheVariants.{FileFailed, TooLarge, NoMemory}
-use Rattle.sqfacts.specs.declared.status.Status.{Status}
-use Rattle.sqfacts.specs.declared.status.Status.TheVariants as statuses
+use Rattle.cli_facts.specs.declared.fronts.Front.{Front}
+use Rattle.cli_facts.specs.declared.outcome.Refusal.TheVariants.{FileFailed, TooLarge, NoMemory}
+use Rattle.cli_facts.specs.declared.status.Status.{Status}
+use Rattle.cli_facts.specs.declared.status.Status.TheVariants as statuses
 use Rattle.sqpage.specs.declared.fault.CheckError.{CheckError}
 use Rattle.sqpage.specs.declared.fault.Fault.{Fault}
 use Rattle.sqpage.specs.declared.fault.Fault.TheVariants as faults
-use Rattle.sqrowshown.specs.declared.stop.Stop.{Stop}
-use Rattle.sqrowshown.specs.declared.stop.Stop.TheVariants as stops
-use Rattle.sqshown.specs.Found.{fault_in}
-use Rattle.sqshown.specs.declared.error.ShowError.{ShowError}
-use Rattle.sqshown.specs.declared.error.ShowError.TheVariants as errors
+use Rattle.cli_show_rows.specs.declared.stop.Stop.{Stop}
+use Rattle.cli_show_rows.specs.declared.stop.Stop.TheVariants as stops
+use Rattle.cli_show.specs.Found.{fault_in}
+use Rattle.cli_show.specs.declared.error.ShowError.{ShowError}
+use Rattle.cli_show.specs.declared.error.ShowError.TheVariants as errors
 use Rattle.sqdeepjudge.specs.Verdicts.{is_damaged}
 use Rattle.cli_job.specs.declared.answers.Answer.{Answer}
 use Rattle.cli_job.specs.declared.answers.Answer.TheVariants.{Done, Damaged, Refused}

@@ -1,24 +1,24 @@
 -- What each command finds of the files of a database.
 use Rattle.std.specs.Prelude.{◌≡◌, ℕ, Bool, true, false, List, Option, Result, Ok, Err, IfErr, IsSome, IsTrue, OnOk}
 use Rattle.std.specs.Io.KnownBytes.{Appends}
-use Rattle.sqfacts.specs.declared.outcome.Refusal.{Refusal}
-use Rattle.sqwords.specs.declared.requests.Options.{Options}
-use Rattle.sqwords.specs.declared.requests.Part.{Part}
-use Rattle.sqwords.specs.declared.requests.Part.TheVariants as parts
-use Rattle.sqshown.specs.Behind.{IsWholeLogText}
-use Rattle.sqshown.specs.Contents.{AreGiven, contents_of}
-use Rattle.sqshown.specs.Errors.{IfRefused}
-use Rattle.sqshown.specs.Found.{fault_in, IsFoundOf, IsUnfound}
-use Rattle.sqshown.specs.Limits.{limits_named}
-use Rattle.sqshown.specs.Logs.{IsUnreadLog}
-use Rattle.sqshown.specs.LogsShown.{IsCommitsText, IsLogText}
-use Rattle.sqshown.specs.Shown.{IsHeaderText, IsHeaderUnshown, IsPageUnshown, ShowsPage}
-use Rattle.sqshown.specs.Views.{IsNotFound, IsUnasked}
-use Rattle.sqshown.specs.declared.contents.Contents.{Contents}
-use Rattle.sqshown.specs.declared.views.Asked.{Asked}
-use Rattle.sqdump.specs.Rows.{AreRowsShown}
-use Rattle.sqdump.specs.declared.rows.Wanted.{Wanted}
-use Rattle.sqdeepshown.specs.Found.{IsFoundAs}
+use Rattle.cli_facts.specs.declared.outcome.Refusal.{Refusal}
+use Rattle.cli_words.specs.declared.requests.Options.{Options}
+use Rattle.cli_words.specs.declared.requests.Part.{Part}
+use Rattle.cli_words.specs.declared.requests.Part.TheVariants as parts
+use Rattle.cli_show.specs.Behind.{IsWholeLogText}
+use Rattle.cli_show.specs.Contents.{AreGiven, contents_of}
+use Rattle.cli_show.specs.Errors.{IfRefused}
+use Rattle.cli_show.specs.Found.{fault_in, IsFoundOf, IsUnfound}
+use Rattle.cli_show.specs.Limits.{limits_named}
+use Rattle.cli_show.specs.Logs.{IsUnreadLog}
+use Rattle.cli_show.specs.LogsShown.{IsCommitsText, IsLogText}
+use Rattle.cli_show.specs.Shown.{IsHeaderText, IsHeaderUnshown, IsPageUnshown, ShowsPage}
+use Rattle.cli_show.specs.Views.{IsNotFound, IsUnasked}
+use Rattle.cli_show.specs.declared.contents.Contents.{Contents}
+use Rattle.cli_show.specs.declared.views.Asked.{Asked}
+use Rattle.cli_dump.specs.Rows.{AreRowsShown}
+use Rattle.cli_dump.specs.declared.rows.Wanted.{Wanted}
+use Rattle.cli_show_deep.specs.Found.{IsFoundAs}
 use Rattle.sqdeepjudge.specs.Verdicts.{is_damaged}
 use Rattle.cli_job.specs.declared.commands.Command.{Command}
 use Rattle.cli_job.specs.declared.commands.Command.TheVariants.{Check, Pages, Show, Rows}

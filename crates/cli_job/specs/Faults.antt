@@ -6,9 +6,9 @@ use Rattle.sqval.specs.Limits.{Bounds}
 use Rattle.sqpage.specs.declared.fault.CheckError.{CheckError}
 use Rattle.sqcheck.specs.declared.survey.Survey.{Survey}
 use Rattle.sqview.specs.declared.view_error.ViewError.TheVariants as views
-use Rattle.sqshown.specs.Pages.{IsSurveyed}
-use Rattle.sqshown.specs.Views.{AskedRefused, AskedShows}
-use Rattle.sqshown.specs.declared.contents.Contents.{Contents}
+use Rattle.cli_show.specs.Pages.{IsSurveyed}
+use Rattle.cli_show.specs.Views.{AskedRefused, AskedShows}
+use Rattle.cli_show.specs.declared.contents.Contents.{Contents}
 
 -- the fault that a survey names, or for which there is none
 abbrev pub fault_of : Result Survey CheckError → Option CheckError

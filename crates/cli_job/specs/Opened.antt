@@ -1,21 +1,21 @@
 -- Which files of a database are opened, and what a command comes to of them (own).
 use Rattle.std.specs.Prelude.{◌≡◌, ◌≢◌, ◌⊎◌, ℕ, Bool, true, false, List, Option, Some, Result, IsErrAnd}
 use Rattle.std.specs.Fs.{metadata_len}
-use Rattle.sqwords.specs.declared.requests.Part.TheVariants.{Log, Commits}
-use Rattle.sqwords.specs.declared.requests.SuperJournal.{SuperJournal}
-use Rattle.sqwords.specs.declared.requests.SuperJournal.TheVariants.{Gone}
-use Rattle.sqfacts.specs.Refusals.{refusal_of}
-use Rattle.sqfacts.specs.declared.outcome.Refusal.{Refusal}
-use Rattle.sqfacts.specs.declared.outcome.Refusal.TheVariants.{TwoLogs}
+use Rattle.cli_words.specs.declared.requests.Part.TheVariants.{Log, Commits}
+use Rattle.cli_words.specs.declared.requests.SuperJournal.{SuperJournal}
+use Rattle.cli_words.specs.declared.requests.SuperJournal.TheVariants.{Gone}
+use Rattle.cli_facts.specs.Refusals.{refusal_of}
+use Rattle.cli_facts.specs.declared.outcome.Refusal.{Refusal}
+use Rattle.cli_facts.specs.declared.outcome.Refusal.TheVariants.{TwoLogs}
 use Rattle.sqview.specs.Logs.{AreTwoLogs}
 use Rattle.sqview.specs.declared.read_ahead.ReadAhead.{ReadAhead}
 use Rattle.sqview.specs.declared.view_error.ViewError.{ViewError}
-use Rattle.sqopen.specs.Files.{AreRegular, IsMissing, IsOpenedAt, IsOpenedOf, IsSteady, NeverFails}
-use Rattle.sqopen.specs.Refusals.{IsFromSystem, IsFromWatch}
-use Rattle.sqopen.specs.declared.logs.Beheld.{Beheld}
-use Rattle.sqopen.specs.declared.opened_file.OpenedFile.{OpenedFile}
-use Rattle.sqopen.specs.declared.paths.Paths.{Paths}
-use Rattle.sqshown.specs.declared.contents.Contents.{Contents}
+use Rattle.cli_files.specs.Files.{AreRegular, IsMissing, IsOpenedAt, IsOpenedOf, IsSteady, NeverFails}
+use Rattle.cli_files.specs.Refusals.{IsFromSystem, IsFromWatch}
+use Rattle.cli_files.specs.declared.logs.Beheld.{Beheld}
+use Rattle.cli_files.specs.declared.opened_file.OpenedFile.{OpenedFile}
+use Rattle.cli_files.specs.declared.paths.Paths.{Paths}
+use Rattle.cli_show.specs.declared.contents.Contents.{Contents}
 use Rattle.cli_job.specs.Commands.{Finds}
 use Rattle.cli_job.specs.declared.commands.Command.{Command}
 use Rattle.cli_job.specs.declared.commands.Command.TheVariants.{Show}

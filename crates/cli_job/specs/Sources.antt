@@ -3,11 +3,11 @@ use Rattle.std.specs.Prelude.{◌≡◌, ◌≤◌, ℕ, Option, Some, None, ◌
 use Rattle.cli_job.specs.declared.sources.Watch.{Watch}
 use Rattle.cli_job.specs.declared.sources.Watch.TheVariants.{Dated, Undated, Still, Indexed}
 use Rattle.std.specs.Borrow.{Bor}
-use Rattle.sqfacts.specs.declared.outcome.Refusal.{Refusal}
-use Rattle.sqfacts.specs.declared.outcome.Refusal.TheVariants.{InUse, NoSuchCommit}
-use Rattle.sqwords.specs.declared.requests.Options.{Options}
-use Rattle.sqopen.specs.Files.{AreBeside}
-use Rattle.sqopen.specs.Refusals.{IsFromWatch}
+use Rattle.cli_facts.specs.declared.outcome.Refusal.{Refusal}
+use Rattle.cli_facts.specs.declared.outcome.Refusal.TheVariants.{InUse, NoSuchCommit}
+use Rattle.cli_words.specs.declared.requests.Options.{Options}
+use Rattle.cli_files.specs.Files.{AreBeside}
+use Rattle.cli_files.specs.Refusals.{IsFromWatch}
 use Rattle.cli_job.specs.declared.sources.Source.{Source}
 
 -- the front where none is asked for, and else the one that is, which isn't behind it

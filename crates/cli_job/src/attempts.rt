@@ -1,6 +1,6 @@
 //! Readings that are made again while others change the files.
-use sqfacts::Refusal;
-use sqshown::ShowError;
+use cli_facts::Refusal;
+use cli_show::ShowError;
 use std::io::{self, Write};
 use std::thread;
 use std::time::{Clock, Duration, Instant};

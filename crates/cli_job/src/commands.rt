@@ -1,20 +1,20 @@
 //! The commands that read the files of a database, and what they find of opened files.
 ghost use Rattle.std.specs.Prelude.{◌≡◌, ◌↔◌, IfErr, IsTrue, OnOk};
-ghost use Rattle.sqshown.specs.Contents.{AreGiven, contents_of};
-ghost use Rattle.sqshown.specs.Errors.{IfRefused};
+ghost use Rattle.cli_show.specs.Contents.{AreGiven, contents_of};
+ghost use Rattle.cli_show.specs.Errors.{IfRefused};
 ghost use Rattle.cli_job.specs.Commands.{ChecksFiles, Finds, IsDamage, IsPartShown, IsPartUnshown, PrintsRows};
 ghost use Rattle.cli_job.specs.Commands.{SurveysFiles};
 ghost use Rattle.cli_job.specs.Opened.{reads_logs};
 
-use sqdeepshown::{DeepFinding, judged_as};
-use sqdump::{Printed, Wanted, show_rows};
-use sqfacts::{Front, Refusal};
-use sqshown::{
+use cli_dump::{Printed, Wanted, show_rows};
+use cli_facts::{Front, Refusal};
+use cli_show::{
     Asked, Contents, Found, ShowError, show_commits, show_header, show_log, show_page,
     show_whole_log, survey_files,
 };
+use cli_show_deep::{DeepFinding, judged_as};
+use cli_words::{Options, Part};
 use sqview::FileBytes;
-use sqwords::{Options, Part};
 use std::alloc::Global;
 use std::io::Write;
 

@@ -1,8 +1,8 @@
 //! A command as it is carried out: what it finds of files that don't change meanwhile.
 ghost use Rattle.std.specs.Prelude.{◌≡◌, ◌⊎◌, Err, IfErr, IfOk, IsErrAnd, OnOk};
 ghost use Rattle.std.specs.Duration.{as_nanos};
-ghost use Rattle.sqopen.specs.Files.{opened_bytes};
-ghost use Rattle.sqopen.specs.Refusals.{IsFromSystem, IsFromWatch};
+ghost use Rattle.cli_files.specs.Files.{opened_bytes};
+ghost use Rattle.cli_files.specs.Refusals.{IsFromSystem, IsFromWatch};
 ghost use Rattle.cli_job.specs.Opened.{AreFresh, AreOpenedFor, GivesBytes, IsUnopenedFor, Looks, Settles, all_opened};
 ghost use Rattle.cli_job.specs.internal.Jobs.{young_of};
 
@@ -10,9 +10,9 @@ use crate::commands::{Command, Finding, Wants, find};
 use crate::metered::{Metered, db_metered};
 use crate::opening::{logs_alone, open_all};
 use crate::sources::{Before, Source, before_of, still_as_before, wait_for};
-use sqfacts::{Front, NoteWriter, Notes, Readings, Refusal, SystemFile, unchanged};
-use sqopen::{Count, OpenedFile, readings_of};
-use sqshown::{Contents, read_ahead};
+use cli_facts::{Front, NoteWriter, Notes, Readings, Refusal, SystemFile, unchanged};
+use cli_files::{Count, OpenedFile, readings_of};
+use cli_show::{Contents, read_ahead};
 use sqview::{FileBytes, ReadAhead};
 use std::io::{self, Write};
 use std::rt::Files;

@@ -1,9 +1,9 @@
 //! A file of which it is counted how much is read.
 ghost use Rattle.std.specs.Prelude.{◌≡◌};
 
-use sqopen::Count;
+use cli_files::Count;
+use cli_show::Contents;
 use sqpage::SourceError;
-use sqshown::Contents;
 use sqview::{FileBytes, ReadAhead};
 use std::alloc::{AllocError, Global};
 

@@ -1,17 +1,17 @@
 //! The opened files of a database.
 ghost use Rattle.std.specs.Prelude.{◌≡◌, ◌≢◌, ◌⊎◌, IfErr, IfOk, Some, false, true};
-ghost use Rattle.sqopen.specs.Files.{IsMissing, opened_bytes};
-ghost use Rattle.sqopen.specs.Refusals.{IsFromSystem};
+ghost use Rattle.cli_files.specs.Files.{IsMissing, opened_bytes};
+ghost use Rattle.cli_files.specs.Refusals.{IsFromSystem};
 ghost use Rattle.cli_job.specs.Opened.{AreOpened, GivesBytes, IsUnchosen, IsUnopened};
 
-use sqfacts::{Notes, Refusal, SystemFile};
-use sqopen::{
+use cli_facts::{Notes, Refusal, SystemFile};
+use cli_files::{
     Beheld, Beside, OpenedFile, Paths, counting_log, look_at, open_database, open_logs, tell_alone,
     tell_length,
 };
-use sqshown::Contents;
+use cli_show::Contents;
+use cli_words::SuperJournal;
 use sqview::LogInUse;
-use sqwords::SuperJournal;
 use std::fs::Metadata;
 use std::io::Write;
 use std::rt::Files;

@@ -3,9 +3,9 @@ ghost use Rattle.std.specs.Prelude.{◌≡◌, Err, IfErr, IfOk};
 
 use crate::answers::Answer;
 use crate::jobs::Job;
-use sqfacts::{Notes, Quoted, Refusal, SystemFile};
-use sqopen::{NewFile, discard_file, end_file, folder_identity, is_log_of, remove};
-use sqshown::ShowError;
+use cli_facts::{Notes, Quoted, Refusal, SystemFile};
+use cli_files::{NewFile, discard_file, end_file, folder_identity, is_log_of, remove};
+use cli_show::ShowError;
 use std::io::Write;
 use std::rt::Files;
 

@@ -1,15 +1,17 @@
 //! The files of a database as a command reads them, and how it is seen that others change them meanwhile.
 ghost use Rattle.std.specs.Prelude.{◌≡◌, ◌⊎◌, ◌↔◌, IfErr, IfOk, IsSome, IsTrue, false, true};
-ghost use Rattle.sqopen.specs.Refusals.{IsFromSystem, IsFromWatch};
+ghost use Rattle.cli_files.specs.Refusals.{IsFromSystem, IsFromWatch};
 ghost use Rattle.cli_job.specs.Sources.{AtFile, AtFront, IsAloneOf, IsFrontUnder, IsReadAt, IsSourceOf};
 ghost use Rattle.cli_job.specs.Sources.{IsUnsourced};
 ghost use Rattle.cli_job.specs.internal.Watches.{AreUndated, IsUndated, StandsYet};
 
-use sqfacts::{Front, Notes, Reading, Readings, Refusal, SystemFile, read_or_zeros, unchanged};
-use sqheld::{Held, Locks, frames_named};
+use cli_facts::{Front, Notes, Reading, Readings, Refusal, SystemFile, read_or_zeros, unchanged};
+use cli_files::{
+    Paths, as_before, is_index_live, look_at, paths_of, readings_of, time_to_wait, told,
+};
+use cli_held::{Held, Locks, frames_named};
+use cli_words::Options;
 use sqlocks::{IndexHead, index_front};
-use sqopen::{Paths, as_before, is_index_live, look_at, paths_of, readings_of, time_to_wait, told};
-use sqwords::Options;
 use std::fs::File;
 use std::io::{self, Write};
 use std::rt::Files;

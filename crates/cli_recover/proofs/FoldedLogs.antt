@@ -18,9 +18,9 @@ use Rattle.sqwal.specs.declared.error.WalFormatError.TheVariants.{NotAWal, PageS
 use Rattle.sqwal.proofs.feed.ScanUnderMoreBytes.{header-more, header_refused-more}
 use Rattle.sqview.specs.Laid.{part_or_zeros}
 use Rattle.sqview.proofs.file.FileHeads.{part_is}
-use Rattle.sqfacts.specs.declared.outcome.Refusal.{Refusal}
-use Rattle.sqfacts.specs.declared.outcome.Refusal.TheVariants as refusals
-use Rattle.sqshown.specs.Logs.{ScanFound}
+use Rattle.cli_facts.specs.declared.outcome.Refusal.{Refusal}
+use Rattle.cli_facts.specs.declared.outcome.Refusal.TheVariants as refusals
+use Rattle.cli_show.specs.Logs.{ScanFound}
 use Rattle.cli_recover.specs.internal.Scans.{FoldsByFront, FoldsBySize, ScansTo}
 use Rattle.cli_recover.specs.Plans.{HasOtherSize, IsCommitOf, IsUnplanned, PlansFold}
 use Rattle.cli_recover.specs.declared.plans.Recovery.{Recovery}

@@ -8,11 +8,11 @@ use Rattle.sqwal.specs.declared.error.WalFormatError.{WalFormatError}
 use Rattle.sqwal.specs.declared.error.WalFormatError.TheVariants.{UnknownVersion}
 use Rattle.sqpage.specs.Header.{HasMagic, HasPageSize, size_named}
 use Rattle.sqview.specs.Laid.{part_or_zeros}
-use Rattle.sqwords.specs.declared.requests.SuperJournal.{SuperJournal as Said}
-use Rattle.sqwords.specs.declared.requests.SuperJournal.TheVariants.{Present}
-use Rattle.sqfacts.specs.declared.outcome.Refusal.{Refusal}
-use Rattle.sqfacts.specs.declared.outcome.Refusal.TheVariants.{SuperJournal, UnknownLogVersion, NoSuchCommit, PageSizesDiffer, TooLarge, NoMemory}
-use Rattle.sqopen.specs.Journals.{NamesSuperJournal}
+use Rattle.cli_words.specs.declared.requests.SuperJournal.{SuperJournal as Said}
+use Rattle.cli_words.specs.declared.requests.SuperJournal.TheVariants.{Present}
+use Rattle.cli_facts.specs.declared.outcome.Refusal.{Refusal}
+use Rattle.cli_facts.specs.declared.outcome.Refusal.TheVariants.{SuperJournal, UnknownLogVersion, NoSuchCommit, PageSizesDiffer, TooLarge, NoMemory}
+use Rattle.cli_files.specs.Journals.{NamesSuperJournal}
 use Rattle.cli_recover.specs.declared.plans.Recovery.{Recovery}
 use Rattle.cli_recover.specs.declared.plans.Recovery.TheVariants.{Empty, Fold, RollBack}
 

@@ -4,18 +4,18 @@ ghost use Rattle.cli_job.specs.Answers.{IsDoneOr};
 
 use crate::outcomes::print_outcome;
 use crate::plans::{Recovery, plan_recovery, scan_of};
+use cli_facts::{Front, Notes, Outcome, Refusal, SystemFile};
+use cli_files::{Count, NewFile, OpenedFile, begin_file, counting_log, told};
 use cli_job::{
     Answer, Before, Job, Metered, all_ahead, all_metered, both_ahead, judge_name, kept, named,
     open_seen, wait_for,
 };
-use sqfacts::{Front, Notes, Outcome, Refusal, SystemFile};
-use sqopen::{Count, NewFile, OpenedFile, begin_file, counting_log, told};
+use cli_show::{Contents, ShowError, limits_of, replayed, view_of};
+use cli_words::Options;
 use sqpage::PageSource;
-use sqshown::{Contents, ShowError, limits_of, replayed, view_of};
 use sqval::Limits;
 use sqview::{CopyError, FileBytes, ReadAhead, View, copy};
 use sqwal::Scan;
-use sqwords::Options;
 use std::alloc::Global;
 use std::fs::OpenFile;
 use std::io::{Seek, Write};

@@ -1,8 +1,8 @@
 //! What is printed of a recovery, or a JSON object of it.
-use sqfacts::Outcome;
-use sqlines::{Fact, number, write_facts};
-use sqshown::ShowError;
-use sqwords::{Options, Style};
+use cli_facts::Outcome;
+use cli_show::ShowError;
+use cli_text::{Fact, number, write_facts};
+use cli_words::{Options, Style};
 use std::io::{self, Write};
 
 /// What a recovery did.

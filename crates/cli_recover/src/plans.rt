@@ -1,20 +1,20 @@
 //! What a recovery does, as data: `recover` carries it out, and `--to` copies by it.
 ghost use Rattle.std.specs.Prelude.{◌≡◌, ◌≢◌, ◌↔◌, ℕ, suc, List, IfOk, IfSome, IsOkAnd, IsTrue};
 ghost use Rattle.sqjournal.specs.declared.header.JournalHeader.{JournalHeader};
-ghost use Rattle.sqshown.specs.Contents.{KeepsBytes};
-ghost use Rattle.sqshown.specs.Limits.{limits_named};
+ghost use Rattle.cli_show.specs.Contents.{KeepsBytes};
+ghost use Rattle.cli_show.specs.Limits.{limits_named};
 ghost use Rattle.sqwal.specs.Took.{TookWithin};
 ghost use Rattle.cli_recover.specs.Plans.{HasOtherSize, IsCommitOf, PlansFold, RollsBack};
 ghost use Rattle.cli_recover.specs.internal.Scans.{FoldsByFront, FoldsBySize, NamesSize, ScansLog, ScansTo};
 
-use sqfacts::Refusal;
-use sqopen::names_super_journal;
+use cli_facts::Refusal;
+use cli_files::names_super_journal;
+use cli_show::{Contents, limits_of, scanned};
+use cli_words::{Options, SuperJournal};
 use sqpage::{SourceError, has_magic, named_page_size};
-use sqshown::{Contents, limits_of, scanned};
 use sqval::{Limits, PageSize};
 use sqview::{FileBytes, LogInUse};
 use sqwal::{Scan, WalFormatError, WalHeader};
-use sqwords::{Options, SuperJournal};
 use std::alloc::Global;
 
 /// What a recovery does.

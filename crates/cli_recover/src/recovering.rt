@@ -4,18 +4,18 @@ ghost use Rattle.cli_job.specs.Answers.{IsDoneOr};
 
 use crate::outcomes::print_outcome;
 use crate::plans::{Recovery, plan_recovery, scan_of};
-use cli_job::{Answer, Job, Metered, Source, Watch};
-use rollcore::replay_within;
-use sqfacts::{FileDisk, Guard, Notes, Outcome, Refusal, SystemFile, metadata_of};
-use sqopen::{
+use cli_facts::{FileDisk, Guard, Notes, Outcome, Refusal, SystemFile, metadata_of};
+use cli_files::{
     Beheld, Beside, Count, OpenElsewhere, OpenedFile, Progress, counting_log, open_database,
     open_logs, paths_of, tell_dropped, tell_length, tell_unread, told,
 };
-use sqshown::{Contents, ShowError, limits_of};
+use cli_job::{Answer, Job, Metered, Source, Watch};
+use cli_show::{Contents, ShowError, limits_of};
+use cli_words::Options;
+use rollcore::replay_within;
 use sqval::{Limits, PageSize};
 use sqview::{FileBytes, LogInUse};
 use sqwal::Scan;
-use sqwords::Options;
 use std::alloc::Global;
 use std::cell::RefCell;
 use std::fs::{Metadata, OpenFile, OpenOptions};

@@ -1,17 +1,17 @@
 -- What a salvage comes to, by the script that was written.
 use Rattle.std.proofs.Common.{◌≡◌, ◌⊎◌, inl, inr, ⊎_elim, ℕ, List, Option, refl, sym, subst, true≢false}
 use Rattle.std.specs.Prelude.{Bool, false, Result, Ok, Err, IfOk, IsErr, IsOk}
-use Rattle.sqfacts.specs.declared.outcome.Refusal.{Refusal}
-use Rattle.sqrowshown.specs.declared.stop.Stop.{Stop}
+use Rattle.cli_facts.specs.declared.outcome.Refusal.{Refusal}
+use Rattle.cli_show_rows.specs.declared.stop.Stop.{Stop}
 use Rattle.sqview.specs.internal.Laid.{HoldsPart}
-use Rattle.sqopen.specs.declared.opened_file.OpenedFile.{OpenedFile}
-use Rattle.sqshown.specs.Contents.{AreGiven}
-use Rattle.sqshown.specs.declared.contents.Contents.{Contents}
-use Rattle.sqfacts.specs.declared.outcome.Refusal.TheVariants.{NoMemory}
-use Rattle.sqshown.specs.declared.error.ShowError.{ShowError}
-use Rattle.sqshown.specs.declared.error.ShowError.TheVariants as errors
-use Rattle.sqdump.specs.Salvages.{IsSalvageShown}
-use Rattle.sqdump.specs.declared.salvage.Salvaged.{Salvaged}
+use Rattle.cli_files.specs.declared.opened_file.OpenedFile.{OpenedFile}
+use Rattle.cli_show.specs.Contents.{AreGiven}
+use Rattle.cli_show.specs.declared.contents.Contents.{Contents}
+use Rattle.cli_facts.specs.declared.outcome.Refusal.TheVariants.{NoMemory}
+use Rattle.cli_show.specs.declared.error.ShowError.{ShowError}
+use Rattle.cli_show.specs.declared.error.ShowError.TheVariants as errors
+use Rattle.cli_dump.specs.Salvages.{IsSalvageShown}
+use Rattle.cli_dump.specs.declared.salvage.Salvaged.{Salvaged}
 use Rattle.cli_job.specs.Answers.{IsUntold, Tells, answer_of_script}
 use Rattle.cli_report.specs.Salvages.{SalvagesTo, Scripts}
 use Rattle.cli_job.specs.Opened.{AreFresh, AreOpenedFor, Counted, all_opened, opened_of}

@@ -1,11 +1,11 @@
 -- What a salvage comes to, by the script that is written of the files that were opened for it (own).
 use Rattle.std.specs.Prelude.{◌≡◌, ◌⊎◌, ℕ, Bool, false, List, Option, Result, Ok, IfOk, IsErr}
-use Rattle.sqrowshown.specs.declared.stop.Stop.{Stop}
-use Rattle.sqopen.specs.declared.opened_file.OpenedFile.{OpenedFile}
-use Rattle.sqshown.specs.Contents.{AreGiven}
-use Rattle.sqshown.specs.declared.contents.Contents.{Contents}
-use Rattle.sqshown.specs.declared.error.ShowError.{ShowError}
-use Rattle.sqdump.specs.Salvages.{IsSalvageShown}
+use Rattle.cli_show_rows.specs.declared.stop.Stop.{Stop}
+use Rattle.cli_files.specs.declared.opened_file.OpenedFile.{OpenedFile}
+use Rattle.cli_show.specs.Contents.{AreGiven}
+use Rattle.cli_show.specs.declared.contents.Contents.{Contents}
+use Rattle.cli_show.specs.declared.error.ShowError.{ShowError}
+use Rattle.cli_dump.specs.Salvages.{IsSalvageShown}
 use Rattle.cli_job.specs.Answers.{answer_of_script}
 use Rattle.cli_job.specs.Opened.{AreOpenedFor}
 use Rattle.cli_job.specs.declared.answers.Answer.{Answer}

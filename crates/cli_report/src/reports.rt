@@ -1,16 +1,16 @@
 //! A page of HTML that shows a database and its log.
+use cli_dump::{CHANGES_HEAD, CHANGES_TAIL, Kept, keep_history};
+use cli_facts::{Front, NoteWriter, Notes, Refusal, SystemFile};
+use cli_files::{Beside, Count, NewFile, begin_file, look_at, open_logs, told};
+use cli_history::Files as Lent;
 use cli_job::{Answer, Counted, Job, Wants, judge_name, kept, named, open_all, wait_for};
-use sqdump::{CHANGES_HEAD, CHANGES_TAIL, Kept, keep_history};
-use sqfacts::{Front, NoteWriter, Notes, Refusal, SystemFile};
-use sqhistory::Files as Lent;
-use sqlines::{HEAD, TAIL};
-use sqopen::{Beside, Count, NewFile, begin_file, look_at, open_logs, told};
-use sqshown::{
+use cli_show::{
     LogFound, ReportFacts, ShowError, asked_of, facts_of, limits_of, log_of, survey_files,
     write_report_facts, write_verdict,
 };
+use cli_text::{HEAD, TAIL};
+use cli_words::Style;
 use sqview::FileBytes;
-use sqwords::Style;
 use std::alloc::Global;
 use std::fs::OpenFile;
 use std::io::{self, BufWriter, Seek, Write};

@@ -3,13 +3,13 @@ ghost use Rattle.std.specs.Prelude.{◌≡◌, Err};
 ghost use Rattle.std.specs.IoError.{error_kind};
 ghost use Rattle.cli_job.specs.Answers.{Tells, answer_of_rows, answer_of_unsound, error_of_write};
 
+use cli_facts::{Notes, Refusal};
 use cli_job::{Answer, Untold};
-use sqfacts::{Notes, Refusal};
-use sqlines::write_fault;
+use cli_show::ShowError;
+use cli_show_rows::Stop;
+use cli_text::write_fault;
+use cli_words::Style;
 use sqpage::{CheckError, Fault};
-use sqrowshown::Stop;
-use sqshown::ShowError;
-use sqwords::Style;
 use std::io::{self, ErrorKind, Write};
 
 /// Writes what stopped rows, behind those that were printed before.

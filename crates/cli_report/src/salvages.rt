@@ -1,18 +1,18 @@
 //! The script of SQL that `salvage` makes.
 ghost use Rattle.std.specs.Prelude.{◌≡◌, ◌⊎◌, IfOk, IsErr, Ok};
-ghost use Rattle.sqopen.specs.Files.{opened_bytes};
+ghost use Rattle.cli_files.specs.Files.{opened_bytes};
 ghost use Rattle.cli_job.specs.Answers.{Tells, answer_of_script};
 ghost use Rattle.cli_job.specs.Opened.{GivesBytes};
 ghost use Rattle.cli_report.specs.Salvages.{SalvagesTo, Scripts};
 
 use crate::reports::new_page;
 use crate::rows::write_printed;
+use cli_dump::{Salvaged, show_salvage};
+use cli_facts::{Notes, Refusal, SystemFile};
+use cli_files::{Count, NewFile, told};
 use cli_job::{Answer, Job, Wants, named};
-use sqdump::{Salvaged, show_salvage};
-use sqfacts::{Notes, Refusal, SystemFile};
-use sqopen::{Count, NewFile, told};
-use sqrowshown::Stop;
-use sqshown::ShowError;
+use cli_show::ShowError;
+use cli_show_rows::Stop;
 use std::io::{self, BufWriter, Write};
 use std::rt::Files;
 use std::time::Clock;

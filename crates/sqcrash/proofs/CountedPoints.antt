@@ -5,12 +5,12 @@ use Rattle.std.proofs.lemmas.Bool.{cases_lt}
 use Rattle.std.proofs.lemmas.List.{length-map}
 use Rattle.std.proofs.lemmas.List.Concat.{flat_map-cons}
 use Rattle.std.proofs.lemmas.List.Sums.{count_by-le-length, sum_by-append}
-use Rattle.sqplay.specs.declared.trace.Record.{Record}
-use Rattle.sqimages.specs.declared.torn.Which.{Which}
-use Rattle.sqimages.specs.declared.torn.Which.TheVariants.{Db, Wal, Journal}
-use Rattle.sqjudge.specs.declared.judgment.Judgment.{Judgment}
-use Rattle.sqjudge.specs.declared.judgment.Judgment.TheVariants.{Kept, Lost, Mixed, Fault, Refused}
-use Rattle.sqmissing.specs.declared.missing.Missing.{Missing}
+use Rattle.rig_play.specs.declared.trace.Record.{Record}
+use Rattle.rig_images.specs.declared.torn.Which.{Which}
+use Rattle.rig_images.specs.declared.torn.Which.TheVariants.{Db, Wal, Journal}
+use Rattle.rig_judge.specs.declared.judgment.Judgment.{Judgment}
+use Rattle.rig_judge.specs.declared.judgment.Judgment.TheVariants.{Kept, Lost, Mixed, Fault, Refused}
+use Rattle.rig_missing.specs.declared.missing.Missing.{Missing}
 use Rattle.sqcrash.specs.Lines.{asked_texts, texts_of}
 use Rattle.sqcrash.specs.Refusals.{most_images}
 use Rattle.sqcrash.specs.Rigs.{RigState, JudgesWhere, JudgesAll, is_point, is_of_part, stopped_at, texts_at}

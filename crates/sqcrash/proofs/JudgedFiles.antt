@@ -2,10 +2,10 @@
 use Rattle.std.proofs.Common.{◌≡◌, ℕ, List, Option, Some, sym, subst}
 use Rattle.sqwal.specs.Took.{Took}
 use Rattle.sqwal.specs.declared.scan.Scan.{Scan}
-use Rattle.sqimages.specs.declared.image.Image.{Image}
-use Rattle.sqjudge.specs.Shown.{Commit}
-use Rattle.sqjudge.specs.Judged.{IsFilesJudgment}
-use Rattle.sqjudge.specs.declared.judgment.Judgment.{Judgment}
+use Rattle.rig_images.specs.declared.image.Image.{Image}
+use Rattle.rig_judge.specs.Shown.{Commit}
+use Rattle.rig_judge.specs.Judged.{IsFilesJudgment}
+use Rattle.rig_judge.specs.declared.judgment.Judgment.{Judgment}
 use Rattle.sqcrash.specs.Surveys.{IsScanOf}
 
 -- of the same bytes the judgment is the same

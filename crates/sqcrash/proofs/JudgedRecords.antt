@@ -1,7 +1,7 @@
 -- Records that are played and judged one after the other.
 use Rattle.std.proofs.Common.{ℕ, List, [], ◌∷◌, ◌++◌, refl, sym, ◌∙◌, ap, subst, append_assoc}
 use Rattle.std.proofs.lemmas.List.{append-nil}
-use Rattle.sqplay.specs.declared.trace.Record.{Record}
+use Rattle.rig_play.specs.declared.trace.Record.{Record}
 use Rattle.sqcrash.specs.Rigs.{RigState, Judges, JudgesAll, texts_at}
 use Rattle.sqcrash.specs.declared.plan.Plan.{Plan}
 use Rattle.sqcrash.specs.Told.{Told}

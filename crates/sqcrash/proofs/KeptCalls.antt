@@ -1,14 +1,14 @@
 -- Records that are played, and whose calls are kept.
 use Rattle.std.proofs.Common.{◌≡◌, ℕ, ◌+◌, Option, Some, None, List, length, sym, ◌∙◌, ap, subst}
-use Rattle.sqplay.specs.Plays.{Files, Step}
-use Rattle.sqplay.specs.Trace.{bytes_of}
-use Rattle.sqplay.specs.declared.trace.Record.{Record}
-use Rattle.sqimages.specs.Left.{IsPresent}
-use Rattle.sqimages.specs.declared.image.Image.{Image}
-use Rattle.sqmissing.specs.Changes.{ChangeAnswer}
-use Rattle.sqmissing.specs.Missing.{file_in}
-use Rattle.sqmissing.specs.declared.change.Change.{Change}
-use Rattle.sqmissing.specs.declared.playing.Playing.{Playing}
+use Rattle.rig_play.specs.Plays.{Files, Step}
+use Rattle.rig_play.specs.Trace.{bytes_of}
+use Rattle.rig_play.specs.declared.trace.Record.{Record}
+use Rattle.rig_images.specs.Left.{IsPresent}
+use Rattle.rig_images.specs.declared.image.Image.{Image}
+use Rattle.rig_missing.specs.Changes.{ChangeAnswer}
+use Rattle.rig_missing.specs.Missing.{file_in}
+use Rattle.rig_missing.specs.declared.change.Change.{Change}
+use Rattle.rig_missing.specs.declared.playing.Playing.{Playing}
 use Rattle.sqcrash.specs.Runs.{RunState, with_change, KeepsBy, Goes}
 use Rattle.sqcrash.specs.Goings.{GoesKept, GoesPlain}
 

@@ -1,10 +1,10 @@
 -- Records of which the marks are looked at, one after the other.
 use Rattle.std.proofs.Common.{◌≡◌, ◌≢◌, inl, inr, ℕ, Bool, true, false, Option, Some, None, List, [], ◌∷◌, ◌++◌, length, refl, ap, subst}
 use Rattle.sqpage.specs.declared.fault.CheckError.{CheckError}
-use Rattle.sqplay.specs.declared.trace.Kind.{Kind}
-use Rattle.sqplay.specs.declared.trace.Kind.TheVariants as kinds
-use Rattle.sqplay.specs.declared.trace.Record.{Record}
-use Rattle.sqimages.specs.declared.image.Image.{Image}
+use Rattle.rig_play.specs.declared.trace.Kind.{Kind}
+use Rattle.rig_play.specs.declared.trace.Kind.TheVariants as kinds
+use Rattle.rig_play.specs.declared.trace.Record.{Record}
+use Rattle.rig_images.specs.declared.image.Image.{Image}
 use Rattle.sqcrash.specs.Marked.{MarkState, AreFaults, NotesChecked, MarksBy, MarksAll, BeginsChecked, GoesOver}
 use Rattle.sqcrash.specs.Snapshots.{IsFaultOf, NotesFault}
 use Rattle.sqcrash.specs.declared.marked.CommitFault.{CommitFault}

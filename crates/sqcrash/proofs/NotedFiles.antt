@@ -2,10 +2,10 @@
 use Rattle.std.proofs.Common.{◌≡◌, ℕ, Bool, true, false, cond, Option, None, List, [], ◌∷◌, ◌++◌, refl, sym, subst}
 use Rattle.std.specs.Prelude.{MatchOption}
 use Rattle.sqpage.specs.declared.fault.CheckError.{CheckError}
-use Rattle.sqimages.specs.Left.{IsPresent}
-use Rattle.sqimages.specs.declared.image.Image.{Image}
-use Rattle.sqjudge.specs.Shown.{Commit, IsNoted}
-use Rattle.sqjudge.specs.Sound.{ShowsSound, ShowsFault}
+use Rattle.rig_images.specs.Left.{IsPresent}
+use Rattle.rig_images.specs.declared.image.Image.{Image}
+use Rattle.rig_judge.specs.Shown.{Commit, IsNoted}
+use Rattle.rig_judge.specs.Sound.{ShowsSound, ShowsFault}
 use Rattle.sqcrash.specs.Runs.{RunState, Notes}
 use Rattle.sqcrash.specs.Snapshots.{NotesImage, NotesFault, IsFaultIn, IsFaultOf}
 

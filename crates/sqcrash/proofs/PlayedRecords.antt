@@ -1,11 +1,11 @@
 -- What records that were judged, or looked at, did to the files.
 use Rattle.std.proofs.Common.{◌≡◌, inl, inr, ℕ, ◌+◌, ◌*◌, ◌≤◌, Bool, true, false, cond, List, [], ◌∷◌, length, refl, sym, ◌∙◌, ap, subst, length-append, arith}
-use Rattle.sqplay.specs.Plays.{Files, Step, Plays}
-use Rattle.sqplay.specs.declared.trace.Kind.{Kind}
-use Rattle.sqplay.specs.declared.trace.Kind.TheVariants as kinds
-use Rattle.sqplay.specs.declared.trace.Record.{Record}
-use Rattle.sqimages.specs.declared.image.Image.{Image}
-use Rattle.sqjudge.specs.Shown.{Commit}
+use Rattle.rig_play.specs.Plays.{Files, Step, Plays}
+use Rattle.rig_play.specs.declared.trace.Kind.{Kind}
+use Rattle.rig_play.specs.declared.trace.Kind.TheVariants as kinds
+use Rattle.rig_play.specs.declared.trace.Record.{Record}
+use Rattle.rig_images.specs.declared.image.Image.{Image}
+use Rattle.rig_judge.specs.Shown.{Commit}
 use Rattle.sqcrash.specs.Runs.{RunState, Notes, TakesWaiting, TakesBy, Takes, Begins, Goes, Calls, PlaysBy, PlaysOne}
 use Rattle.sqcrash.specs.Marked.{MarkState, AreFaults, NotesChecked, BeginsChecked, GoesOver, MarksBy, MarksAll}
 use Rattle.sqcrash.specs.Refusals.{IsUnplayed, PlayRefused}

@@ -1,6 +1,6 @@
 -- What refuses images of a point, by what refuses one of them.
 use Rattle.std.proofs.Common.{inl, inr, ℕ, ◌+◌, ◌^◌, ◌<◌, ◌≤◌, List, length, ap, arith}
-use Rattle.sqimages.specs.declared.image.Image.{Image}
+use Rattle.rig_images.specs.declared.image.Image.{Image}
 use Rattle.sqcrash.specs.Refusals.{HasRoom, JudgingRefused, SurveyRefused, most_images}
 use Rattle.sqcrash.specs.Runs.{RunState}
 use Rattle.sqcrash.specs.Surveys.{IsBegun, Judged, Tells}

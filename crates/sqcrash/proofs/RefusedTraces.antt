@@ -5,11 +5,11 @@ use Rattle.std.proofs.lemmas.Bool.{cases_lt}
 use Rattle.std.proofs.lemmas.Bool.Decides.{nat_tests}
 use Rattle.std.proofs.lemmas.List.{drop_more, take-append-drop}
 use Rattle.std.proofs.lemmas.List.Sums.{sum_by-append}
-use Rattle.sqplay.specs.Plays.{Files, no_files, Plays}
-use Rattle.sqplay.specs.Trace.{IsTrace}
-use Rattle.sqplay.specs.declared.error.PlayError.{PlayError}
-use Rattle.sqplay.specs.declared.trace.Record.{Record}
-use Rattle.sqplay.specs.declared.trace.Trace.{Trace}
+use Rattle.rig_play.specs.Plays.{Files, no_files, Plays}
+use Rattle.rig_play.specs.Trace.{IsTrace}
+use Rattle.rig_play.specs.declared.error.PlayError.{PlayError}
+use Rattle.rig_play.specs.declared.trace.Record.{Record}
+use Rattle.rig_play.specs.declared.trace.Trace.{Trace}
 use Rattle.sqcrash.specs.Marked.{MarkState, MarksAll, are_at_marks}
 use Rattle.sqcrash.specs.Refusals.{IsOfMemory, IsOfFiles, IsUnplayed, PlayRefused, HasRoom, WriteRefused, most_images}
 use Rattle.sqcrash.specs.Refused.{IsRefusal, IsUnplayedAt, RigRefused, MarkingRefused, BeginRefused, IsNoPoint, IsFirstPart, point_count}

@@ -7,12 +7,12 @@ use Rattle.std.proofs.Math.ListN.{get_or-append}
 use Rattle.std.proofs.Math.Seq.{get_or-append_seam}
 use Rattle.std.specs.HashSet.{contains}
 use Rattle.std.specs.List.{All, AllPairs}
-use Rattle.sqimages.specs.Keys.{key_of}
-use Rattle.sqimages.specs.declared.image.Image.{Image}
+use Rattle.rig_images.specs.Keys.{key_of}
+use Rattle.rig_images.specs.declared.image.Image.{Image}
 use Rattle.std.specs.Bool.{MatchBool}
-use Rattle.sqplay.specs.Plays.{Files}
-use Rattle.sqimages.specs.Torn.{MayLeaveTorn, NoneTears}
-use Rattle.sqimages.specs.declared.torn.Which.{Which}
+use Rattle.rig_play.specs.Plays.{Files}
+use Rattle.rig_images.specs.Torn.{MayLeaveTorn, NoneTears}
+use Rattle.rig_images.specs.declared.torn.Which.{Which}
 use Rattle.sqcrash.specs.Runs.{RunState}
 use Rattle.sqcrash.specs.Surveys.{AreSame, Judged, IsSample}
 use Rattle.sqcrash.specs.Samples.{Takes, TakesOne, GoesOn}

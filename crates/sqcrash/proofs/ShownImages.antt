@@ -1,9 +1,9 @@
 -- What isn't down in what is shown of an image.
 use Rattle.std.proofs.Common.{◌≡◌, ℕ, List, refl}
-use Rattle.sqimages.specs.declared.image.Image.{Image}
-use Rattle.sqjudge.specs.declared.judgment.Judgment.{Judgment}
-use Rattle.sqjudge.specs.declared.judgment.Judgment.TheVariants.{Kept, Lost, Mixed, Fault, Refused}
-use Rattle.sqmissing.specs.declared.missing.Missing.{Missing}
+use Rattle.rig_images.specs.declared.image.Image.{Image}
+use Rattle.rig_judge.specs.declared.judgment.Judgment.{Judgment}
+use Rattle.rig_judge.specs.declared.judgment.Judgment.TheVariants.{Kept, Lost, Mixed, Fault, Refused}
+use Rattle.rig_missing.specs.declared.missing.Missing.{Missing}
 use Rattle.sqcrash.specs.Runs.{RunState, Explains}
 use Rattle.sqcrash.specs.Surveys.{Shows, ExplainsWrong}
 

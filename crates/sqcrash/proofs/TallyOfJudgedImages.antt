@@ -6,11 +6,11 @@ use Rattle.std.proofs.lemmas.List.Elements.{All-append}
 use Rattle.std.proofs.lemmas.List.Sums.{sum_by-append}
 use Rattle.sqwal.specs.Took.{Took}
 use Rattle.sqwal.specs.declared.scan.Scan.{Scan}
-use Rattle.sqimages.specs.Images.{IsNumbered}
-use Rattle.sqimages.specs.declared.counts.Counts.{Counts}
-use Rattle.sqimages.specs.declared.fixed.Fixed.{Fixed}
-use Rattle.sqimages.specs.declared.image.Image.{Image}
-use Rattle.sqjudge.specs.declared.judgment.Judgment.{Judgment}
+use Rattle.rig_images.specs.Images.{IsNumbered}
+use Rattle.rig_images.specs.declared.counts.Counts.{Counts}
+use Rattle.rig_images.specs.declared.fixed.Fixed.{Fixed}
+use Rattle.rig_images.specs.declared.image.Image.{Image}
+use Rattle.rig_judge.specs.declared.judgment.Judgment.{Judgment}
 use Rattle.sqcrash.specs.Runs.{RunState}
 use Rattle.sqcrash.specs.Surveys.{is_lost, is_mixed, is_fault, one_if, with_image, with_images, Judged, judgments, finding_of, findings_from, IsJudgedBy, Tells, AreNumbered, IsFixedScan, IsScanOf}
 use Rattle.sqcrash.specs.Samples.{Adds}

@@ -1,10 +1,10 @@
 -- Commits at marks that wait, the next one last.
 use Rattle.std.proofs.Common.{◌≡◌, ℕ, ◌-◌, ◌<◌, Bool, cond, List, [], ◌∷◌, ◌++◌, length, get_or, drop, map, reverse, refl, sym, ◌∙◌, ap, subst, length-append, arith}
 use Rattle.std.proofs.lemmas.List.{reverse-append, reverse-reverse}
-use Rattle.sqimages.specs.Left.{IsPresent}
-use Rattle.sqimages.specs.declared.image.Image.{Image}
-use Rattle.sqjudge.specs.Shown.{IsShowing, commit_of}
-use Rattle.sqjudge.specs.declared.snapshot.Snapshot.{Snapshot}
+use Rattle.rig_images.specs.Left.{IsPresent}
+use Rattle.rig_images.specs.declared.image.Image.{Image}
+use Rattle.rig_judge.specs.Shown.{IsShowing, commit_of}
+use Rattle.rig_judge.specs.declared.snapshot.Snapshot.{Snapshot}
 use Rattle.sqcrash.specs.Runs.{RunState, TakesWaiting}
 use Rattle.sqcrash.specs.Snapshots.{TakesLastOf}
 

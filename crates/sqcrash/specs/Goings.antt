@@ -1,7 +1,7 @@
 -- A record is played, by whether its call is kept (own).
 use Rattle.std.specs.Prelude.{◌≡◌, ℕ, ◌+◌, List}
-use Rattle.sqplay.specs.Plays.{Step}
-use Rattle.sqplay.specs.declared.trace.Record.{Record}
+use Rattle.rig_play.specs.Plays.{Step}
+use Rattle.rig_play.specs.declared.trace.Record.{Record}
 use Rattle.sqcrash.specs.Runs.{RunState, KeepsChange}
 
 -- its call is kept

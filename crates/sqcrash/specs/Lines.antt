@@ -6,14 +6,14 @@ use Rattle.sqpage.specs.Faults.{number_of, name_of}
 use Rattle.sqpage.specs.declared.fault.Fault.{Fault}
 use Rattle.sqview.specs.declared.view_error.ViewError.{ViewError}
 use Rattle.sqview.specs.declared.view_error.ViewError.TheVariants as refusals
-use Rattle.sqjudge.specs.declared.judgment.Judgment.{Judgment}
-use Rattle.sqjudge.specs.declared.judgment.Judgment.TheVariants as judgments
+use Rattle.rig_judge.specs.declared.judgment.Judgment.{Judgment}
+use Rattle.rig_judge.specs.declared.judgment.Judgment.TheVariants as judgments
 use Rattle.sqcrash.specs.declared.marked.CommitFault.{CommitFault}
-use Rattle.sqplay.specs.declared.trace.Kind.{Kind}
-use Rattle.sqplay.specs.declared.trace.Kind.TheVariants as kinds
-use Rattle.sqplay.specs.declared.trace.Subject.{Subject}
-use Rattle.sqplay.specs.declared.trace.Subject.TheVariants as subjects
-use Rattle.sqmissing.specs.declared.missing.Missing.{Missing}
+use Rattle.rig_play.specs.declared.trace.Kind.{Kind}
+use Rattle.rig_play.specs.declared.trace.Kind.TheVariants as kinds
+use Rattle.rig_play.specs.declared.trace.Subject.{Subject}
+use Rattle.rig_play.specs.declared.trace.Subject.TheVariants as subjects
+use Rattle.rig_missing.specs.declared.missing.Missing.{Missing}
 use Rattle.sqcrash.specs.Told.{Told}
 use Rattle.sqcrash.specs.declared.stopped.Stopped.{Stopped}
 use Rattle.sqcrash.specs.declared.plan.Plan.{Plan}

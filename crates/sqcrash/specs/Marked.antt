@@ -1,12 +1,12 @@
 -- The databases that files show at the beginning and at each mark, and which of them aren't well formed (own).
 use Rattle.std.specs.Prelude.{◌≡◌, ◌≢◌, ◌⊎◌, ℕ, Bool, true, false, List, [], ◌∷◌, ◌++◌, length, map}
 use Rattle.sqpage.specs.declared.fault.CheckError.{CheckError}
-use Rattle.sqplay.specs.declared.trace.Kind.{Kind}
-use Rattle.sqplay.specs.declared.trace.Kind.TheVariants as kinds
-use Rattle.sqplay.specs.declared.trace.Record.{Record}
-use Rattle.sqimages.specs.declared.image.Image.{Image}
-use Rattle.sqjudge.specs.Shown.{commit_of}
-use Rattle.sqjudge.specs.Sound.{ShowsSound, ShowsFault}
+use Rattle.rig_play.specs.declared.trace.Kind.{Kind}
+use Rattle.rig_play.specs.declared.trace.Kind.TheVariants as kinds
+use Rattle.rig_play.specs.declared.trace.Record.{Record}
+use Rattle.rig_images.specs.declared.image.Image.{Image}
+use Rattle.rig_judge.specs.Shown.{commit_of}
+use Rattle.rig_judge.specs.Sound.{ShowsSound, ShowsFault}
 use Rattle.sqcrash.specs.Runs.{RunState, Notes, Goes}
 use Rattle.sqcrash.specs.declared.plan.CommitsAt.{CommitsAt}
 use Rattle.sqcrash.specs.declared.plan.CommitsAt.TheVariants as at

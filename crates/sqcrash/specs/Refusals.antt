@@ -1,8 +1,8 @@
 -- What refuses the steps of a run (own).
 use Rattle.std.specs.Prelude.{◌≡◌, ◌⊎◌, ℕ, ◌+◌, ◌-◌, ◌*◌, ◌^◌, ◌<◌, ◌≤◌, List}
-use Rattle.sqplay.specs.Plays.{Files, StepRefused}
-use Rattle.sqplay.specs.declared.error.PlayError.{PlayError}
-use Rattle.sqplay.specs.declared.trace.Record.{Record}
+use Rattle.rig_play.specs.Plays.{Files, StepRefused}
+use Rattle.rig_play.specs.declared.error.PlayError.{PlayError}
+use Rattle.rig_play.specs.declared.trace.Record.{Record}
 use Rattle.sqcrash.specs.Runs.{RunState}
 use Rattle.sqcrash.specs.Surveys.{third_of}
 use Rattle.sqcrash.specs.declared.outcome.Refusal.{Refusal}

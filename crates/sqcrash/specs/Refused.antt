@@ -1,11 +1,11 @@
 -- Why a trace is refused (own).
 use Rattle.std.specs.Prelude.{◌≡◌, ◌⊎◌, ℕ, ◌+◌, ◌-◌, ◌*◌, ◌^◌, ◌<◌, ◌≤◌, IsTrue, false, List, ◌∷◌, ◌++◌, length, Option, None, Some, Err}
 use Rattle.std.specs.List.{count_by}
-use Rattle.sqplay.specs.Plays.{Files, no_files, Plays, StepRefused}
-use Rattle.sqplay.specs.Trace.{IsTrace, TraceAnswer}
-use Rattle.sqplay.specs.declared.error.PlayError.{PlayError}
-use Rattle.sqplay.specs.declared.trace.Record.{Record}
-use Rattle.sqplay.specs.declared.trace.Trace.{Trace}
+use Rattle.rig_play.specs.Plays.{Files, no_files, Plays, StepRefused}
+use Rattle.rig_play.specs.Trace.{IsTrace, TraceAnswer}
+use Rattle.rig_play.specs.declared.error.PlayError.{PlayError}
+use Rattle.rig_play.specs.declared.trace.Record.{Record}
+use Rattle.rig_play.specs.declared.trace.Trace.{Trace}
 use Rattle.sqcrash.specs.Refusals.{IsOfMemory, IsTooMany, PlayRefused, SurveyRefused, most_images}
 use Rattle.sqcrash.specs.Rigs.{RigState, is_point, is_of_part}
 use Rattle.sqcrash.specs.declared.outcome.Refusal.{Refusal}

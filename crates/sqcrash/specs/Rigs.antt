@@ -1,11 +1,11 @@
 -- A trace is played, and the images of its points are judged (own).
 use Rattle.std.specs.Prelude.{◌≡◌, ℕ, ◌+◌, ◌-◌, ◌%◌, Bool, true, false, ◌&&◌, nat_eq, List, [], ◌∷◌, ◌++◌, length, map, Option, Some, None}
-use Rattle.sqplay.specs.Trace.{IsTrace, bytes_of}
-use Rattle.sqplay.specs.declared.trace.Kind.{Kind}
-use Rattle.sqplay.specs.declared.trace.Kind.TheVariants as kinds
-use Rattle.sqplay.specs.declared.trace.Record.{Record}
-use Rattle.sqplay.specs.declared.trace.Trace.{Trace}
-use Rattle.sqjudge.specs.Shown.{commit_of}
+use Rattle.rig_play.specs.Trace.{IsTrace, bytes_of}
+use Rattle.rig_play.specs.declared.trace.Kind.{Kind}
+use Rattle.rig_play.specs.declared.trace.Kind.TheVariants as kinds
+use Rattle.rig_play.specs.declared.trace.Record.{Record}
+use Rattle.rig_play.specs.declared.trace.Trace.{Trace}
+use Rattle.rig_judge.specs.Shown.{commit_of}
 use Rattle.sqcrash.specs.Runs.{RunState, run_of, no_run, with_marked, with_why, PlaysOne}
 use Rattle.sqcrash.specs.Marked.{are_at_marks, AreMarked}
 use Rattle.sqcrash.specs.Surveys.{no_tally, one_if, IsSurvey}

@@ -1,20 +1,20 @@
 -- A recorded run: what it committed, what a crash may leave of it, and what is known to be durable (own).
 use Rattle.std.specs.Prelude.{◌≡◌, ◌≢◌, ◌⊎◌, ℕ, ◌+◌, max, Bool, cond, List, [], ◌∷◌, ◌++◌, length, map, reverse, Option, Some, None}
-use Rattle.sqplay.specs.Plays.{Files, files_of, no_files, Step}
-use Rattle.sqplay.specs.Trace.{bytes_of}
-use Rattle.sqplay.specs.declared.meta.Meta.{Meta}
-use Rattle.sqplay.specs.declared.trace.Kind.{Kind}
-use Rattle.sqplay.specs.declared.trace.Kind.TheVariants as kinds
-use Rattle.sqplay.specs.declared.trace.Record.{Record}
-use Rattle.sqimages.specs.Left.{IsPresent}
-use Rattle.sqimages.specs.declared.image.Image.{Image}
-use Rattle.sqjudge.specs.Shown.{Commit, IsNoted, IsShowing, commit_of, commits_of}
-use Rattle.sqmissing.specs.Changes.{ChangeAnswer}
-use Rattle.sqmissing.specs.Missing.{file_in, AreMissing}
-use Rattle.sqmissing.specs.declared.change.Change.{Change}
-use Rattle.sqmissing.specs.declared.missing.Missing.{Missing}
-use Rattle.sqmissing.specs.declared.playing.Playing.{Playing}
-use Rattle.sqmissing.specs.declared.sectors.SectorSize.{SectorSize}
+use Rattle.rig_play.specs.Plays.{Files, files_of, no_files, Step}
+use Rattle.rig_play.specs.Trace.{bytes_of}
+use Rattle.rig_play.specs.declared.meta.Meta.{Meta}
+use Rattle.rig_play.specs.declared.trace.Kind.{Kind}
+use Rattle.rig_play.specs.declared.trace.Kind.TheVariants as kinds
+use Rattle.rig_play.specs.declared.trace.Record.{Record}
+use Rattle.rig_images.specs.Left.{IsPresent}
+use Rattle.rig_images.specs.declared.image.Image.{Image}
+use Rattle.rig_judge.specs.Shown.{Commit, IsNoted, IsShowing, commit_of, commits_of}
+use Rattle.rig_missing.specs.Changes.{ChangeAnswer}
+use Rattle.rig_missing.specs.Missing.{file_in, AreMissing}
+use Rattle.rig_missing.specs.declared.change.Change.{Change}
+use Rattle.rig_missing.specs.declared.missing.Missing.{Missing}
+use Rattle.rig_missing.specs.declared.playing.Playing.{Playing}
+use Rattle.rig_missing.specs.declared.sectors.SectorSize.{SectorSize}
 use Rattle.sqcrash.specs.Promises.{IsMark, promised, IsSpokenOf}
 use Rattle.sqcrash.specs.declared.plan.CommitsAt.{CommitsAt}
 use Rattle.sqcrash.specs.declared.plan.CommitsAt.TheVariants as at

@@ -1,12 +1,12 @@
 -- Images that are taken into a sample, each once (own).
 use Rattle.std.specs.Prelude.{◌≡◌, ◌⊎◌, ℕ, suc, ◌+◌, Bool, true, false, cond, nat_eq, List, ◌++◌}
 use Rattle.std.specs.HashSet.{contains}
-use Rattle.sqimages.specs.Keys.{key_of}
-use Rattle.sqimages.specs.declared.image.Image.{Image}
+use Rattle.rig_images.specs.Keys.{key_of}
+use Rattle.rig_images.specs.declared.image.Image.{Image}
 use Rattle.sqcrash.specs.Runs.{RunState}
 use Rattle.sqcrash.specs.Surveys.{IsJudgedBy, with_image, finding_of}
-use Rattle.sqjudge.specs.declared.judgment.Judgment.{Judgment}
-use Rattle.sqmissing.specs.declared.missing.Missing.{Missing}
+use Rattle.rig_judge.specs.declared.judgment.Judgment.{Judgment}
+use Rattle.rig_missing.specs.declared.missing.Missing.{Missing}
 use Rattle.sqcrash.specs.declared.sample.Sample.{Sample}
 use Rattle.sqcrash.specs.declared.survey.Survey.{Survey}
 

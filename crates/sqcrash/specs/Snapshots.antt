@@ -1,10 +1,10 @@
 -- Commits that are taken from the present files, as they were looked at (own).
 use Rattle.std.specs.Prelude.{◌≡◌, ℕ, Bool, true, false, cond, List, [], ◌∷◌, ◌++◌, map, reverse, Option, None, MatchOption}
 use Rattle.sqpage.specs.declared.fault.CheckError.{CheckError}
-use Rattle.sqimages.specs.declared.image.Image.{Image}
-use Rattle.sqjudge.specs.Shown.{IsNoted, IsShowing, commit_of}
-use Rattle.sqjudge.specs.Sound.{ShowsSound, ShowsFault}
-use Rattle.sqjudge.specs.declared.snapshot.Snapshot.{Snapshot}
+use Rattle.rig_images.specs.declared.image.Image.{Image}
+use Rattle.rig_judge.specs.Shown.{IsNoted, IsShowing, commit_of}
+use Rattle.rig_judge.specs.Sound.{ShowsSound, ShowsFault}
+use Rattle.rig_judge.specs.declared.snapshot.Snapshot.{Snapshot}
 use Rattle.sqcrash.specs.Runs.{RunState, Notes}
 
 -- the database that this image shows is one more commit, where it isn't the last one's

@@ -3,22 +3,22 @@ use Rattle.std.specs.Prelude.{◌≡◌, ◌⊎◌, ℕ, suc, ◌+◌, ◌/◌, 
 use Rattle.std.specs.List.{All, AllPairs, count_by}
 use Rattle.sqwal.specs.Took.{Took}
 use Rattle.sqwal.specs.declared.scan.Scan.{Scan}
-use Rattle.sqimages.specs.Images.{AreCounts, IsNumbered, image_count}
-use Rattle.sqimages.specs.Left.{MayLeave}
-use Rattle.sqimages.specs.Torn.{MayLeaveTorn, NoneTears}
-use Rattle.sqimages.specs.declared.counts.Counts.{Counts}
-use Rattle.sqimages.specs.declared.fixed.Fixed.{Fixed}
-use Rattle.sqimages.specs.declared.image.Image.{Image}
-use Rattle.sqimages.specs.declared.torn.Which.{Which}
-use Rattle.sqimages.specs.declared.torn.Which.TheVariants.{Db, Wal, Journal}
-use Rattle.sqjudge.specs.Judged.{IsFilesJudgment}
-use Rattle.sqjudge.specs.declared.judgment.Judgment.{Judgment}
-use Rattle.sqjudge.specs.declared.judgment.Judgment.TheVariants.{Kept, Lost, Mixed, Fault, Refused}
+use Rattle.rig_images.specs.Images.{AreCounts, IsNumbered, image_count}
+use Rattle.rig_images.specs.Left.{MayLeave}
+use Rattle.rig_images.specs.Torn.{MayLeaveTorn, NoneTears}
+use Rattle.rig_images.specs.declared.counts.Counts.{Counts}
+use Rattle.rig_images.specs.declared.fixed.Fixed.{Fixed}
+use Rattle.rig_images.specs.declared.image.Image.{Image}
+use Rattle.rig_images.specs.declared.torn.Which.{Which}
+use Rattle.rig_images.specs.declared.torn.Which.TheVariants.{Db, Wal, Journal}
+use Rattle.rig_judge.specs.Judged.{IsFilesJudgment}
+use Rattle.rig_judge.specs.declared.judgment.Judgment.{Judgment}
+use Rattle.rig_judge.specs.declared.judgment.Judgment.TheVariants.{Kept, Lost, Mixed, Fault, Refused}
 use Rattle.sqcrash.specs.Runs.{RunState, Explains}
 use Rattle.sqcrash.specs.Told.{Told}
 use Rattle.sqcrash.specs.declared.survey.Tally.{Tally}
-use Rattle.sqmissing.specs.declared.missing.Missing.{Missing}
-use Rattle.sqshrink.specs.Shrunk.{IsShrunk}
+use Rattle.rig_missing.specs.declared.missing.Missing.{Missing}
+use Rattle.rig_shrink.specs.Shrunk.{IsShrunk}
 use Rattle.sqcrash.specs.declared.survey.Survey.{Survey}
 
 -- this is the scan of an image's log, if there is one

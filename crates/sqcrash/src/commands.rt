@@ -10,7 +10,7 @@ use crate::promise::Promise;
 use crate::requests::{LineError, Request};
 use clap::error::ErrorKind;
 use clap::{Arg, ArgAction, ArgMatches, Command, value_parser};
-use sqplay::Meta;
+use rig_play::Meta;
 use std::alloc::{AllocError, Global};
 
 /// An option with a value.

@@ -12,8 +12,8 @@ use crate::lines::Line;
 use crate::outcome::{Refusal, more};
 use crate::plan::Plan;
 use crate::stopped::Stopped;
-use sqmissing::Missing;
-use sqplay::{Kind, Subject};
+use rig_missing::Missing;
+use rig_play::{Kind, Subject};
 use std::fmt;
 use std::io::{self, Write};
 

@@ -2,8 +2,8 @@
 ghost use Rattle.std.specs.Prelude.{◌≡◌};
 ghost use Rattle.sqcrash.specs.Told.{Told};
 
-use sqjudge::Judgment;
-use sqmissing::Missing;
+use rig_judge::Judgment;
+use rig_missing::Missing;
 use std::marker::Model;
 
 /// What is wrong with an image.

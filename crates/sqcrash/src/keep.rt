@@ -6,7 +6,7 @@ ghost use Rattle.sqcrash.specs.declared.outcome.Refusal.TheVariants.{FileFailed}
 use crate::explained::is_asked;
 use crate::outcome::Refusal;
 use crate::plan::Plan;
-use sqimages::Image;
+use rig_images::Image;
 use std::rt::Files;
 use std::{fs, io};
 

@@ -4,7 +4,7 @@ ghost use Rattle.std.specs.Io.KnownBytes.{Appends};
 ghost use Rattle.sqcrash.specs.Lines.{commits_text};
 
 use crate::marked::CommitFault;
-use sqjudge::Judgment;
+use rig_judge::Judgment;
 use sqpage::{CheckError, Fault};
 use sqview::ViewError;
 use std::fmt;

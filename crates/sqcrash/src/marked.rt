@@ -8,9 +8,9 @@ ghost use Rattle.sqcrash.specs.Refused.{MarkingRefused};
 use crate::outcome::Refusal;
 use crate::plan::{CommitsAt, Plan};
 use crate::run::Run;
-use sqjudge::Snapshot;
+use rig_judge::Snapshot;
+use rig_play::{Kind, Record};
 use sqpage::CheckError;
-use sqplay::{Kind, Record};
 use std::alloc::Global;
 
 /// A commit that isn't well formed.

@@ -3,8 +3,8 @@ ghost use Rattle.std.specs.Prelude.{◌≡◌, ◌+◌, MatchResult};
 ghost use Rattle.sqcrash.specs.Refusals.{IsTooMany};
 
 use crashdisk::DiskError;
-use sqjudge::SnapshotError;
-use sqplay::{PlayError, TraceError};
+use rig_judge::SnapshotError;
+use rig_play::{PlayError, TraceError};
 use std::alloc::{AllocError, AllocFailed};
 use std::io;
 use thiserror::Error;

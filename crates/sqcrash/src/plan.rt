@@ -3,7 +3,7 @@ ghost use Rattle.std.specs.Prelude.{◌<◌, IsTrue};
 ghost use Rattle.crashdisk.specs.Solid.{is_sector_size};
 
 use crate::promise::Promise;
-use sqplay::Meta;
+use rig_play::Meta;
 
 /// Which databases of a run are its commits.
 #[derive(Clone, Copy, Debug, PartialEq, Eq)]

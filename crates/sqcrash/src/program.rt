@@ -18,7 +18,7 @@ use crate::plan::{Part, Plan};
 use crate::requests::{LineError, Request};
 use crate::rig::Rig;
 use crate::survey::Tally;
-use sqplay::{Record, Trace};
+use rig_play::{Record, Trace};
 use std::alloc::Global;
 use std::fmt::Display;
 use std::fs;

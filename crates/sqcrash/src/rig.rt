@@ -13,7 +13,7 @@ use crate::run::Run;
 use crate::stopped::Stopped;
 use crate::survey::{Tally, judge_images};
 use rand_pcg::Pcg32;
-use sqplay::{Kind, Record};
+use rig_play::{Kind, Record};
 use std::alloc::Global;
 
 /// A run that is being played and judged.

@@ -1,20 +1,20 @@
 //! A recorded run: what it committed, and what is known to be durable (own).
 ghost use Rattle.std.specs.Prelude.{◌≡◌, ◌<◌, ◌^◌, length, IsTrue, OnOk, IfOk, IfErr, MatchResult, cond};
 ghost use Rattle.crashdisk.specs.Solid.{is_sector_size};
-ghost use Rattle.sqplay.specs.Plays.{files_of};
+ghost use Rattle.rig_play.specs.Plays.{files_of};
 ghost use Rattle.sqcrash.specs.Runs.{size_of};
 ghost use Rattle.sqcrash.specs.Refusals.{IsOfMemory, IsUnplayed, PlayRefused};
 
 use crate::outcome::{Refusal, more};
 use crate::plan::CommitsAt;
 use crate::promise::{Mark, Promise};
-use sqimages::Image;
-use sqjudge::{
+use rig_images::Image;
+use rig_judge::{
     History, Judgment, Snapshot, fault_in_files, files_show, judge_files, judge_scanned,
 };
-use sqmissing::{Change, Missing, Playing, SectorSize, change_of, file_in, missing_calls};
+use rig_missing::{Change, Missing, Playing, SectorSize, change_of, file_in, missing_calls};
+use rig_play::{Kind, Meta, Player, Record, Subject};
 use sqpage::CheckError;
-use sqplay::{Kind, Meta, Player, Record, Subject};
 use sqwal::Scan;
 use std::alloc::Global;
 
@@ -75,18 +75,18 @@ pub struct Run {
 
 impl Run {
     ghost use Rattle.std.specs.Prelude.{map};
-    ghost use Rattle.sqplay.specs.Trace.{bytes_of};
-    ghost use Rattle.sqjudge.specs.Shown.{commit_of};
-    ghost use Rattle.sqjudge.specs.Judged.{IsFilesJudgment};
+    ghost use Rattle.rig_play.specs.Trace.{bytes_of};
+    ghost use Rattle.rig_judge.specs.Shown.{commit_of};
+    ghost use Rattle.rig_judge.specs.Judged.{IsFilesJudgment};
     ghost use Rattle.sqcrash.specs.Promises.{IsSpokenOf};
     ghost use Rattle.sqcrash.specs.Surveys.{IsScanOf};
     ghost use Rattle.sqcrash.specs.Runs.{run_of, no_run, with_marked, Notes, Takes, TakesWaiting};
     ghost use Rattle.sqcrash.specs.Runs.{Begins, Goes, Calls, Marks, PlaysOne, Explains, with_why, with_change};
     ghost use Rattle.sqcrash.specs.Goings.{GoesKept, GoesPlain};
-    ghost use Rattle.sqimages.specs.Left.{IsPresent};
-    ghost use Rattle.sqmissing.specs.Changes.{ChangeAnswer};
-    ghost use Rattle.sqmissing.specs.Missing.{file_in};
-    ghost use Rattle.sqplay.specs.Plays.{Step};
+    ghost use Rattle.rig_images.specs.Left.{IsPresent};
+    ghost use Rattle.rig_missing.specs.Changes.{ChangeAnswer};
+    ghost use Rattle.rig_missing.specs.Missing.{file_in};
+    ghost use Rattle.rig_play.specs.Plays.{Step};
     ghost use Rattle.sqcrash.specs.Snapshots.{NotesImage, NotesFault, IsFaultIn, ShowsLastOf, TakesLastOf};
 
     /// Nothing is played yet. The disks have sectors of this size, a power of two from 512 to 65536 bytes, and tear or

@@ -1,6 +1,6 @@
 //! Images that are drawn at a point, each judged once (own).
 ghost use Rattle.std.specs.Prelude.{◌≡◌, ◌<◌, ◌⊎◌, OnOk, IfErr, MatchResult};
-ghost use Rattle.sqimages.specs.Torn.{NoneTears};
+ghost use Rattle.rig_images.specs.Torn.{NoneTears};
 ghost use Rattle.sqcrash.specs.Runs.{run_of};
 ghost use Rattle.sqcrash.specs.Surveys.{IsFixedScan, IsDrawnSurvey, IsTornSurvey};
 ghost use Rattle.sqcrash.specs.Refusals.{IsOfMemory, JudgingRefused};
@@ -10,7 +10,7 @@ use crate::outcome::Refusal;
 use crate::run::Run;
 use crate::survey::Survey;
 use rand_core::Rng;
-use sqimages::{Fixed, Image, Which, draw, draw_now, draw_torn, redraw};
+use rig_images::{Fixed, Image, Which, draw, draw_now, draw_torn, redraw};
 use sqview::scan_log;
 use sqwal::Scan;
 use std::alloc::Global;
@@ -29,7 +29,7 @@ impl Sample {
     ghost use Rattle.sqcrash.specs.Runs.{run_of};
     ghost use Rattle.sqcrash.specs.Surveys.{IsScanOf};
     ghost use Rattle.std.specs.HashSet.{contains};
-    ghost use Rattle.sqimages.specs.Keys.{key_of};
+    ghost use Rattle.rig_images.specs.Keys.{key_of};
     ghost use Rattle.sqcrash.specs.Samples.{Takes, GoesOn};
 
     /// None yet, of so many.

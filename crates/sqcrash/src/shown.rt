@@ -1,6 +1,6 @@
 //! What is shown of an image with something wrong: where that is asked for, it is shrunk first (own).
 ghost use Rattle.std.specs.Prelude.{◌≡◌, Some, MatchResult};
-ghost use Rattle.sqshrink.specs.Shrunk.{IsShrunk};
+ghost use Rattle.rig_shrink.specs.Shrunk.{IsShrunk};
 ghost use Rattle.sqcrash.specs.Runs.{run_of};
 ghost use Rattle.sqcrash.specs.Refusals.{IsOfMemory};
 ghost use Rattle.sqcrash.specs.Surveys.{is_lost, is_mixed, is_fault, are_alike, IsFoundAs, Shows, ShowsBy, shown_of};
@@ -8,10 +8,10 @@ ghost use Rattle.sqcrash.specs.Surveys.{is_lost, is_mixed, is_fault, are_alike, 
 use crate::outcome::Refusal;
 use crate::run::Run;
 use crashdisk::DiskError;
-use sqimages::Image;
-use sqjudge::Judgment;
-use sqmissing::SectorSize;
-use sqshrink::{Finder, shrink};
+use rig_images::Image;
+use rig_judge::Judgment;
+use rig_missing::SectorSize;
+use rig_shrink::{Finder, shrink};
 
 fn is_lost(judgment: Judgment) -> bool
     ensures { result ≡ is_lost judgment }

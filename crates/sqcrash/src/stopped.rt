@@ -1,5 +1,5 @@
 //! Where the machine stops (own).
-use sqplay::{Kind, Subject};
+use rig_play::{Kind, Subject};
 
 /// A point, and the record behind which it comes.
 #[derive(Clone, Copy, Debug, PartialEq, Eq)]

@@ -1,6 +1,6 @@
 //! The images of a point are judged, counted and told (own).
 ghost use Rattle.std.specs.Prelude.{◌≡◌, ◌+◌, IfOk, IfErr, MatchResult};
-ghost use Rattle.sqimages.specs.Images.{AreCounts};
+ghost use Rattle.rig_images.specs.Images.{AreCounts};
 ghost use Rattle.sqcrash.specs.Runs.{run_of};
 ghost use Rattle.sqcrash.specs.Surveys.{IsNumberedSurvey, IsDrawnSurvey, IsUntornSurvey, IsSurvey, third_of};
 ghost use Rattle.sqcrash.specs.Surveys.{Shows, ExplainsWrong};
@@ -13,9 +13,9 @@ use crate::run::Run;
 use crate::sample::{survey_drawn, survey_redrawn, survey_torn};
 use crate::shown::{shown_of, shrunk_in};
 use rand_core::Rng;
-use sqimages::{Counts, Image, Which};
-use sqjudge::Judgment;
-use sqmissing::Missing;
+use rig_images::{Counts, Image, Which};
+use rig_judge::Judgment;
+use rig_missing::Missing;
 use sqwal::Scan;
 use std::alloc::Global;
 use std::fmt;

@@ -3,8 +3,8 @@ use Rattle.std.proofs.Common.{◌≡◌, ℕ, ◌+◌, ◌<◌, Bool, true, fals
 use Rattle.std.specs.List.{filter}
 use Rattle.std.proofs.lemmas.List.{append-nil, map-append}
 use Rattle.std.proofs.lemmas.List.Elements.{filter_more}
-use Rattle.sqstore.specs.Calls.{bytes_of}
-use Rattle.sqstore.specs.declared.call.Call.{Call}
+use Rattle.rig_store.specs.Calls.{bytes_of}
+use Rattle.rig_store.specs.declared.call.Call.{Call}
 use Rattle.sqcrash_store.specs.States.{tells_name, names_told}
 
 -- one that tells none adds none, and one that tells one its text

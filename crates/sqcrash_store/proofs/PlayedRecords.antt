@@ -1,7 +1,7 @@
 -- Records that are played one after the other.
 use Rattle.std.proofs.Common.{ℕ, Option, List, [], ◌∷◌, ◌++◌, refl, sym, ◌∙◌, ap, subst, append_assoc}
 use Rattle.std.proofs.lemmas.List.{append-nil}
-use Rattle.sqstore.specs.declared.call.Call.{Call}
+use Rattle.rig_store.specs.declared.call.Call.{Call}
 use Rattle.sqcrash_store.specs.Rigs.{RigState, PlaysOne, PlaysAll}
 use Rattle.sqcrash_store.specs.States.{TakeState, Takes, TakesAll}
 use Rattle.sqcrash_store.specs.Surveys.{Judging}

@@ -8,9 +8,9 @@ use Rattle.std.proofs.lemmas.List.{map-append, append-nil, drop-append-le, drop_
 use Rattle.std.proofs.lemmas.List.Elements.{All-append, filter-append}
 use Rattle.std.proofs.lemmas.List.Folds.{list_any-append}
 use Rattle.std.proofs.lemmas.List.Sums.{fold-append}
-use Rattle.sqstore.specs.Left.{MayLeave}
-use Rattle.sqstore.specs.Stores.{StoreState}
-use Rattle.sqstore.specs.Torn.{IsTornIfAny}
+use Rattle.rig_store.specs.Left.{MayLeave}
+use Rattle.rig_store.specs.Stores.{StoreState}
+use Rattle.rig_store.specs.Torn.{IsTornIfAny}
 use Rattle.sqcrash_store.specs.Keys.{key_of}
 use Rattle.sqcrash_store.specs.Surveys.{Judging, Judged, IsJudged, firsts, with_images, line_of, lines_from}
 use Rattle.sqcrash_store.specs.Tallies.{with_image}

@@ -1,7 +1,7 @@
 -- Where a crash may come, and what is known there (own).
 use Rattle.std.specs.Prelude.{◌≡◌, ◌≢◌, ◌⊎◌, ℕ, Bool, true, false, List, codes}
-use Rattle.sqstore.specs.declared.call.Action.{Action}
-use Rattle.sqstore.specs.declared.call.Action.TheVariants as actions
+use Rattle.rig_store.specs.declared.call.Action.{Action}
+use Rattle.rig_store.specs.declared.call.Action.TheVariants as actions
 use Rattle.sqcrash_store.specs.declared.plan.Plan.{Plan}
 
 -- behind a mark, and where it may come after each call, behind a call

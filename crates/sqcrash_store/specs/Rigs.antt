@@ -1,11 +1,11 @@
 -- A trace is played, and what crashes may leave at its points is judged (own).
 use Rattle.std.specs.Prelude.{◌≡◌, ℕ, ◌+◌, Bool, true, false, nat_eq, List, [], ◌∷◌, ◌++◌, Option, Some, None}
-use Rattle.sqstore.specs.Calls.{IsTrace, bytes_of}
-use Rattle.sqstore.specs.Stores.{StoreState, store_of, no_store, Goes}
-use Rattle.sqstore.specs.declared.call.Action.{Action}
-use Rattle.sqstore.specs.declared.call.Action.TheVariants as actions
-use Rattle.sqstore.specs.declared.call.Call.{Call}
-use Rattle.sqstore.specs.declared.call.Trace.{Trace}
+use Rattle.rig_store.specs.Calls.{IsTrace, bytes_of}
+use Rattle.rig_store.specs.Stores.{StoreState, store_of, no_store, Goes}
+use Rattle.rig_store.specs.declared.call.Action.{Action}
+use Rattle.rig_store.specs.declared.call.Action.TheVariants as actions
+use Rattle.rig_store.specs.declared.call.Call.{Call}
+use Rattle.rig_store.specs.declared.call.Trace.{Trace}
 use Rattle.sqcrash_store.specs.Points.{is_point, IsKnown}
 use Rattle.sqcrash_store.specs.States.{AreStates}
 use Rattle.sqcrash_store.specs.Surveys.{Judging, Judged, IsSurvey, with_images, lines_from}

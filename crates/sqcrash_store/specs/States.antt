@@ -1,12 +1,12 @@
 -- The states that a run had at the beginning and at its marks, as a command named them (own).
 use Rattle.std.specs.Prelude.{◌≡◌, ℕ, Bool, true, false, List, [], ◌∷◌, ◌++◌, map, Option}
 use Rattle.std.specs.List.{filter}
-use Rattle.sqstore.specs.Calls.{bytes_of}
-use Rattle.sqstore.specs.Left.{IsPresent}
-use Rattle.sqstore.specs.Stores.{StoreState, no_store, Goes}
-use Rattle.sqstore.specs.declared.call.Action.{Action}
-use Rattle.sqstore.specs.declared.call.Action.TheVariants as actions
-use Rattle.sqstore.specs.declared.call.Call.{Call}
+use Rattle.rig_store.specs.Calls.{bytes_of}
+use Rattle.rig_store.specs.Left.{IsPresent}
+use Rattle.rig_store.specs.Stores.{StoreState, no_store, Goes}
+use Rattle.rig_store.specs.declared.call.Action.{Action}
+use Rattle.rig_store.specs.declared.call.Action.TheVariants as actions
+use Rattle.rig_store.specs.declared.call.Call.{Call}
 use Rattle.sqcrash_store.specs.declared.plan.Plan.{Plan}
 use Rattle.sqcrash_store.specs.declared.verdict.Answer.{Answer}
 

@@ -2,9 +2,9 @@
 use Rattle.std.specs.Prelude.{◌≡◌, ℕ, ◌+◌, ◌/◌, cond, not, nat_eq, List, [], ◌∷◌, ◌++◌, length, map, drop, fold, Option}
 use Rattle.std.specs.List.{All, filter}
 use Rattle.std.specs.String.{string_bytes}
-use Rattle.sqstore.specs.Left.{MayLeave}
-use Rattle.sqstore.specs.Stores.{StoreState}
-use Rattle.sqstore.specs.Torn.{IsTornIfAny}
+use Rattle.rig_store.specs.Left.{MayLeave}
+use Rattle.rig_store.specs.Stores.{StoreState}
+use Rattle.rig_store.specs.Torn.{IsTornIfAny}
 use Rattle.sqcrash_store.specs.Keys.{key_of}
 use Rattle.sqcrash_store.specs.Lines.{finding_text}
 use Rattle.sqcrash_store.specs.Tallies.{with_image}

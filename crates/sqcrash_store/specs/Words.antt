@@ -9,8 +9,8 @@ use Rattle.clap.specs.declared.builder.action.ArgAction.TheVariants.{Set, SetTru
 use Rattle.clap.specs.declared.builder.value_parser.ValueParser.{ValueParser}
 use Rattle.clap.specs.declared.builder.value_parser.ValueParser.TheVariants.{Names, Unsigned}
 use Rattle.clap.specs.declared.error.kind.ErrorKind.TheVariants.{DisplayHelp}
-use Rattle.sqplay.specs.declared.meta.Meta.{Meta}
-use Rattle.sqplay.specs.declared.meta.Meta.TheVariants.{Parts, Whole, Ordered}
+use Rattle.rig_play.specs.declared.meta.Meta.{Meta}
+use Rattle.rig_play.specs.declared.meta.Meta.TheVariants.{Parts, Whole, Ordered}
 use Rattle.sqcrash_store.specs.declared.plan.Plan.{Plan}
 use Rattle.sqcrash_store.specs.declared.commands.Request.{Request}
 use Rattle.sqcrash_store.specs.declared.commands.LineError.{LineError}

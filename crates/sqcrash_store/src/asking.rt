@@ -4,7 +4,7 @@ ghost use Rattle.sqcrash_store.specs.Runs.{IsSaid};
 
 use crate::outcome::Refusal;
 use crate::verdict::Answer;
-use sqstore::Image;
+use rig_store::Image;
 use std::alloc::Global;
 use std::fs;
 use std::io::{self, BufRead, Write};
@@ -13,7 +13,7 @@ use std::rt::Files;
 /// Who says of files whether they are sound, and which state they show.
 pub trait Judge {
     ghost use Rattle.std.specs.Prelude.{ℕ, List, Option, IfOk};
-    ghost use Rattle.sqstore.specs.Left.{image_of};
+    ghost use Rattle.rig_store.specs.Left.{image_of};
     ghost use Rattle.sqcrash_store.specs.declared.verdict.Answer.{Answer};
 
     /// What it may say of what the names show.

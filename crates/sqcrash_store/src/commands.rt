@@ -12,7 +12,7 @@ use crate::plan::Plan;
 use clap::builder::ValueParser;
 use clap::error::ErrorKind;
 use clap::{Arg, ArgAction, ArgMatches, Command};
-use sqplay::Meta;
+use rig_play::Meta;
 use std::alloc::{AllocError, Global};
 use thiserror::Error;
 

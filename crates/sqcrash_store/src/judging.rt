@@ -10,7 +10,7 @@ use crate::rig::Rig;
 use crate::states::{take_names, take_states};
 use crate::survey::Bench;
 use crate::tally::Tally;
-use sqstore::Trace;
+use rig_store::Trace;
 use std::alloc::Global;
 use std::io::Write;
 

@@ -1,8 +1,8 @@
 //! Why a run was refused.
 ghost use Rattle.std.specs.Prelude.{◌≡◌, ◌+◌, IfOk};
 
-use sqplay::TraceError;
-use sqstore::StoreError;
+use rig_play::TraceError;
+use rig_store::StoreError;
 use std::alloc::{AllocError, AllocFailed};
 use std::io;
 use thiserror::Error;

@@ -2,7 +2,7 @@
 ghost use Rattle.std.specs.Prelude.{IsTrue};
 ghost use Rattle.crashdisk.specs.Solid.{is_sector_size};
 
-use sqplay::Meta;
+use rig_play::Meta;
 
 /// How a trace is to be judged.
 #[derive(Clone, Copy, Debug, PartialEq, Eq)]

@@ -10,7 +10,7 @@ use crate::states::play;
 use crate::survey::{Bench, Point, survey};
 use crate::tally::Tally;
 use rand_pcg::Pcg32;
-use sqstore::{Action, Call, Store};
+use rig_store::{Action, Call, Store};
 use std::io::Write;
 
 /// A run that is being played and judged.
@@ -61,7 +61,7 @@ fn is_asked(asked: Option<u64>, point: u64) -> bool
 impl Rig {
     ghost use Rattle.std.specs.Prelude.{◌≡◌, ◌+◌, ℕ, List, OnOk};
     ghost use Rattle.std.specs.Io.KnownBytes.{Appends};
-    ghost use Rattle.sqstore.specs.Calls.{bytes_of};
+    ghost use Rattle.rig_store.specs.Calls.{bytes_of};
     ghost use Rattle.sqcrash_store.specs.Surveys.{judging_of};
     ghost use Rattle.sqcrash_store.specs.Rigs.{rig_of, no_rig, NotesBy, JudgesAsked, PlaysOne, is_asked};
 

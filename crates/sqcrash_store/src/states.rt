@@ -1,15 +1,15 @@
 //! The states that a run had at its marks (own).
 ghost use Rattle.std.specs.Prelude.{◌≡◌, [], ◌∷◌, ◌++◌, map, OnOk, IfOk};
 ghost use Rattle.std.specs.String.{string_bytes};
-ghost use Rattle.sqstore.specs.Calls.{bytes_of};
-ghost use Rattle.sqstore.specs.Stores.{store_of, Goes};
+ghost use Rattle.rig_store.specs.Calls.{bytes_of};
+ghost use Rattle.rig_store.specs.Stores.{store_of, Goes};
 ghost use Rattle.sqcrash_store.specs.States.{SaysWhere, is_first, is_mark, tells_name, names_told, AreStates};
 
 use crate::asking::Judge;
 use crate::outcome::Refusal;
 use crate::plan::Plan;
 use crate::verdict::Answer;
-use sqstore::{Action, Call, Store, present};
+use rig_store::{Action, Call, Store, present};
 use std::alloc::Global;
 
 /// The text of a name that a record tells.

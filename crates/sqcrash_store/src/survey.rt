@@ -1,9 +1,9 @@
 //! The images of a point are judged, counted and told (own).
 ghost use Rattle.std.specs.Prelude.{◌≡◌, ◌≤◌, ℕ, List, IfOk};
 ghost use Rattle.std.specs.Io.KnownBytes.{Appends};
-ghost use Rattle.sqstore.specs.Left.{image_of, MayLeave};
-ghost use Rattle.sqstore.specs.Stores.{store_of};
-ghost use Rattle.sqstore.specs.Torn.{IsTornIfAny};
+ghost use Rattle.rig_store.specs.Left.{image_of, MayLeave};
+ghost use Rattle.rig_store.specs.Stores.{store_of};
+ghost use Rattle.rig_store.specs.Torn.{IsTornIfAny};
 ghost use Rattle.sqcrash_store.specs.Keys.{key_of};
 ghost use Rattle.sqcrash_store.specs.Tallies.{with_image};
 ghost use Rattle.sqcrash_store.specs.Surveys.{Judged, IsJudged, IsSurvey, judging_of};
@@ -16,7 +16,7 @@ use crate::plan::Plan;
 use crate::tally::Tally;
 use crate::verdict::{Answer, verdict_of};
 use rand_core::Rng;
-use sqstore::{Image, Store, draw, draw_torn};
+use rig_store::{Image, Store, draw, draw_torn};
 use std::alloc::Global;
 use std::collections::HashSet;
 use std::hash::{FoldHasher, Hasher};

@@ -1,14 +1,14 @@
 -- What a command comes to, by what it found.
 use Rattle.std.proofs.Common.{◌≡◌, ◌⊎◌, inl, inr, ⊎_elim, ℕ, List, Option, refl, sym, subst}
 use Rattle.std.specs.Prelude.{Result, Ok, Err, IsErrAnd}
-use Rattle.sqwords.specs.declared.requests.Options.{Options}
-use Rattle.sqfacts.specs.declared.outcome.Refusal.{Refusal}
-use Rattle.sqopen.specs.declared.opened_file.OpenedFile.{OpenedFile}
-use Rattle.sqshown.specs.Contents.{AreGiven, contents_of}
-use Rattle.sqshown.specs.Found.{fault_in}
-use Rattle.sqshown.specs.declared.contents.Contents.{Contents}
-use Rattle.sqshown.specs.declared.error.ShowError.{ShowError}
-use Rattle.sqshown.specs.declared.error.ShowError.TheVariants.{Refused}
+use Rattle.cli_words.specs.declared.requests.Options.{Options}
+use Rattle.cli_facts.specs.declared.outcome.Refusal.{Refusal}
+use Rattle.cli_files.specs.declared.opened_file.OpenedFile.{OpenedFile}
+use Rattle.cli_show.specs.Contents.{AreGiven, contents_of}
+use Rattle.cli_show.specs.Found.{fault_in}
+use Rattle.cli_show.specs.declared.contents.Contents.{Contents}
+use Rattle.cli_show.specs.declared.error.ShowError.{ShowError}
+use Rattle.cli_show.specs.declared.error.ShowError.TheVariants.{Refused}
 use Rattle.cli_job.specs.Answers.{IsUntold, Tells, answer_of_finding}
 use Rattle.cli_job.proofs.FaultsFound.{fault_had}
 use Rattle.sqrescue.specs.Comes.{Answers, Comes, IsUnread}

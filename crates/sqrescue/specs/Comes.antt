@@ -1,24 +1,24 @@
 -- What a command comes to, by the bytes of the files that were opened for it (own).
 use Rattle.std.specs.Prelude.{◌≡◌, ◌⊎◌, ℕ, Bool, List, Option, Result, Ok, Err, IsErrAnd}
 use Rattle.sqpage.specs.declared.fault.CheckError.{CheckError}
-use Rattle.sqfacts.specs.declared.outcome.Refusal.{Refusal}
-use Rattle.sqwords.specs.declared.requests.Options.{Options}
-use Rattle.sqwords.specs.declared.requests.Part.{Part}
-use Rattle.sqrowshown.specs.declared.stop.Stop.{Stop}
-use Rattle.sqopen.specs.Refusals.{IsFromWatch}
-use Rattle.sqopen.specs.declared.opened_file.OpenedFile.{OpenedFile}
-use Rattle.sqshown.specs.Contents.{AreGiven, contents_of}
-use Rattle.sqshown.specs.Errors.{IfRefused}
-use Rattle.sqshown.specs.Found.{IsUnfound}
-use Rattle.sqshown.specs.Views.{IsNotFound, IsUnasked}
-use Rattle.sqshown.specs.declared.contents.Contents.{Contents}
-use Rattle.sqshown.specs.declared.error.ShowError.{ShowError}
-use Rattle.sqshown.specs.declared.views.Asked.{Asked}
-use Rattle.sqdeepshown.specs.Found.{IsFoundAs}
+use Rattle.cli_facts.specs.declared.outcome.Refusal.{Refusal}
+use Rattle.cli_words.specs.declared.requests.Options.{Options}
+use Rattle.cli_words.specs.declared.requests.Part.{Part}
+use Rattle.cli_show_rows.specs.declared.stop.Stop.{Stop}
+use Rattle.cli_files.specs.Refusals.{IsFromWatch}
+use Rattle.cli_files.specs.declared.opened_file.OpenedFile.{OpenedFile}
+use Rattle.cli_show.specs.Contents.{AreGiven, contents_of}
+use Rattle.cli_show.specs.Errors.{IfRefused}
+use Rattle.cli_show.specs.Found.{IsUnfound}
+use Rattle.cli_show.specs.Views.{IsNotFound, IsUnasked}
+use Rattle.cli_show.specs.declared.contents.Contents.{Contents}
+use Rattle.cli_show.specs.declared.error.ShowError.{ShowError}
+use Rattle.cli_show.specs.declared.views.Asked.{Asked}
+use Rattle.cli_show_deep.specs.Found.{IsFoundAs}
 use Rattle.sqdeepjudge.specs.Verdicts.{is_damaged}
 use Rattle.sqdeepjudge.specs.declared.verdict.DeepVerdict.{DeepVerdict}
-use Rattle.sqdump.specs.Rows.{AreRowsShown}
-use Rattle.sqdump.specs.declared.rows.Wanted.{Wanted}
+use Rattle.cli_dump.specs.Rows.{AreRowsShown}
+use Rattle.cli_dump.specs.declared.rows.Wanted.{Wanted}
 use Rattle.cli_job.specs.Answers.{Tells, answer_named, answer_of_fault, answer_of_rows}
 use Rattle.cli_job.specs.Commands.{IsPartShown, IsPartUnshown}
 use Rattle.cli_job.specs.Faults.{HaveFault}

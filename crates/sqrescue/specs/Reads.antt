@@ -1,12 +1,12 @@
 -- What a reading of a database file comes to (own).
 use Rattle.std.specs.Prelude.{◌≡◌, ◌⊎◌, ℕ, Bool, true, false, ◌||◌, List, Result, IsErrAnd}
-use Rattle.sqwords.specs.declared.requests.Options.{Options}
-use Rattle.sqwords.specs.declared.requests.Part.TheVariants as parts
-use Rattle.sqopen.specs.declared.opened_file.OpenedFile.{OpenedFile}
-use Rattle.sqshown.specs.Errors.{IfRefused}
-use Rattle.sqshown.specs.Limits.{limits_named}
-use Rattle.sqshown.specs.declared.error.ShowError.{ShowError}
-use Rattle.sqshown.specs.declared.views.Asked.{Asked}
+use Rattle.cli_words.specs.declared.requests.Options.{Options}
+use Rattle.cli_words.specs.declared.requests.Part.TheVariants as parts
+use Rattle.cli_files.specs.declared.opened_file.OpenedFile.{OpenedFile}
+use Rattle.cli_show.specs.Errors.{IfRefused}
+use Rattle.cli_show.specs.Limits.{limits_named}
+use Rattle.cli_show.specs.declared.error.ShowError.{ShowError}
+use Rattle.cli_show.specs.declared.views.Asked.{Asked}
 use Rattle.sqrescue.specs.Comes.{Comes}
 use Rattle.cli_report.specs.Salvages.{SalvagesTo}
 use Rattle.cli_job.specs.Answers.{IsDoneOr}

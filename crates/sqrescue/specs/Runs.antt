@@ -2,19 +2,19 @@
 use Rattle.std.specs.Prelude.{◌≡◌, ◌⊎◌, ℕ, ◌++◌, List, Option, None, Some, Result, Err, codes}
 use Rattle.std.specs.Borrow.{Bor}
 use Rattle.std.specs.List.{Contains}
-use Rattle.sqfacts.specs.Statuses.{status_code}
-use Rattle.sqfacts.specs.declared.status.Status.{Status}
-use Rattle.sqfacts.specs.declared.status.Status.TheVariants as statuses
-use Rattle.sqheld.specs.Todo.{IsPrepared, texts}
-use Rattle.sqheld.specs.declared.todo.Todo.{Todo}
-use Rattle.sqheld.specs.declared.todo.Todo.TheVariants.{Run, Tell, Refuse}
-use Rattle.sqopen.specs.declared.opened_file.OpenedFile.{OpenedFile}
-use Rattle.sqshown.specs.declared.error.ShowError.{ShowError}
-use Rattle.sqshown.specs.declared.error.ShowError.TheVariants as errors
-use Rattle.sqwords.specs.Line.{Asks}
-use Rattle.sqwords.specs.declared.requests.Options.{Options}
-use Rattle.sqwords.specs.declared.requests.Request.{Request}
-use Rattle.sqwords.specs.declared.requests.Request.TheVariants as requests
+use Rattle.cli_facts.specs.Statuses.{status_code}
+use Rattle.cli_facts.specs.declared.status.Status.{Status}
+use Rattle.cli_facts.specs.declared.status.Status.TheVariants as statuses
+use Rattle.cli_held.specs.Todo.{IsPrepared, texts}
+use Rattle.cli_held.specs.declared.todo.Todo.{Todo}
+use Rattle.cli_held.specs.declared.todo.Todo.TheVariants.{Run, Tell, Refuse}
+use Rattle.cli_files.specs.declared.opened_file.OpenedFile.{OpenedFile}
+use Rattle.cli_show.specs.declared.error.ShowError.{ShowError}
+use Rattle.cli_show.specs.declared.error.ShowError.TheVariants as errors
+use Rattle.cli_words.specs.Line.{Asks}
+use Rattle.cli_words.specs.declared.requests.Options.{Options}
+use Rattle.cli_words.specs.declared.requests.Request.{Request}
+use Rattle.cli_words.specs.declared.requests.Request.TheVariants as requests
 use Rattle.cli_job.specs.Answers.{status_named, IsDoneOr}
 use Rattle.sqrescue.specs.Locking.{refusal_of}
 use Rattle.sqrescue.specs.Reads.{IsRead}

@@ -1,19 +1,19 @@
 //! What a command comes to, by what it found.
 ghost use Rattle.std.specs.Prelude.{◌≡◌, Err, IfErr};
-ghost use Rattle.sqopen.specs.Files.{opened_bytes};
+ghost use Rattle.cli_files.specs.Files.{opened_bytes};
 ghost use Rattle.cli_job.specs.Answers.{Tells, answer_of_finding, answer_of_shown};
 ghost use Rattle.cli_job.specs.Opened.{GivesBytes};
 ghost use Rattle.sqrescue.specs.Comes.{Comes};
 
 use crate::checking::write_checked;
 use crate::pages::write_surveyed;
+use cli_facts::{Front, Notes, Refusal, SystemFile};
+use cli_files::{Count, Paths};
 use cli_job::{Answer, Command, Finding, Job};
 use cli_report::write_printed;
-use sqfacts::{Front, Notes, Refusal, SystemFile};
-use sqopen::{Count, Paths};
-use sqshown::ShowError;
+use cli_show::ShowError;
+use cli_words::Style;
 use sqview::FileBytes;
-use sqwords::Style;
 use std::alloc::Global;
 use std::io::{BufWriter, Write};
 use std::rt::Files;

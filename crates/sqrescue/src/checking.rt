@@ -1,16 +1,16 @@
 //! What `check` prints.
 ghost use Rattle.std.specs.Prelude.{Ok, OnOk};
 ghost use Rattle.std.specs.Io.KnownBytes.{Appends};
-ghost use Rattle.sqdeepshown.specs.Lines.{found_text};
+ghost use Rattle.cli_show_deep.specs.Lines.{found_text};
 ghost use Rattle.sqdeepjudge.specs.Verdicts.{is_damaged};
 ghost use Rattle.cli_job.specs.Answers.{Tells, answer_named};
 
+use cli_facts::{Notes, Quoted};
 use cli_job::Answer;
+use cli_show::ShowError;
+use cli_show_deep::write_found;
+use cli_words::Style;
 use sqdeepjudge::DeepVerdict;
-use sqdeepshown::write_found;
-use sqfacts::{Notes, Quoted};
-use sqshown::ShowError;
-use sqwords::Style;
 use std::io::Write;
 use std::str;
 

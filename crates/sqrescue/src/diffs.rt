@@ -1,14 +1,14 @@
 //! What `diff` prints.
 use crate::answers::KEPT;
+use cli_dump::{Printed, show_changes, show_history};
+use cli_facts::{Notes, Refusal, SystemFile};
+use cli_files::{Count, OpenedFile};
+use cli_history::Files as Lent;
 use cli_job::{Answer, Job, Wants, open_all};
 use cli_report::write_printed;
-use sqdump::{Printed, show_changes, show_history};
-use sqfacts::{Notes, Refusal, SystemFile};
-use sqhistory::Files as Lent;
-use sqopen::{Count, OpenedFile};
-use sqshown::{Contents, ShowError, read_ahead};
+use cli_show::{Contents, ShowError, read_ahead};
+use cli_words::Compared;
 use sqview::ReadAhead;
-use sqwords::Compared;
 use std::io::{BufWriter, Write};
 use std::rt::Files;
 use std::time::Clock;

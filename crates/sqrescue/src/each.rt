@@ -4,9 +4,9 @@ ghost use Rattle.std.specs.Prelude.{◌≤◌, IfOk};
 use crate::locking;
 use crate::prefixed::Prefixed;
 use crate::program::told;
-use sqcommands::request;
-use sqeach::{Apart, files_of, line_of, taken_apart};
-use sqfacts::SystemFile;
+use cli_args::request;
+use cli_each::{Apart, files_of, line_of, taken_apart};
+use cli_facts::SystemFile;
 use std::alloc::{AllocError, Global};
 use std::io::{self, IsTerminal, Write};
 use std::rt::Files;
@@ -107,7 +107,7 @@ fn line_for<'a>(
 
 /// Whether a line is understood.
 fn is_understood(alloc: Global, line: &[&str]) -> bool {
-    match sqheld::line_of(alloc, line) {
+    match cli_held::line_of(alloc, line) {
         Ok(line) => request(alloc, line.words.as_slice()).is_ok(),
         Err(_) => true,
     }

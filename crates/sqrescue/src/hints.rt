@@ -1,5 +1,5 @@
 //! What is said to be done after a refusal.
-use sqfacts::Refusal;
+use cli_facts::Refusal;
 use std::io::ErrorKind;
 
 /// What to do where the system refused a call for this.

@@ -1,14 +1,14 @@
 //! The locks under which a command line is carried out.
 ghost use Rattle.std.specs.Prelude.{◌≡◌, ◌≤◌, IfOk};
-ghost use Rattle.sqheld.specs.Todo.{texts};
-ghost use Rattle.sqopen.specs.Files.{opened_bytes};
+ghost use Rattle.cli_held.specs.Todo.{texts};
+ghost use Rattle.cli_files.specs.Files.{opened_bytes};
 ghost use Rattle.cli_job.specs.Opened.{GivesBytes};
 ghost use Rattle.sqrescue.specs.Locking.{refusal_of};
 ghost use Rattle.sqrescue.specs.Runs.{EndsLine};
 
 use crate::program::{self, Under};
-use sqfacts::{Refusal, SystemFile};
-use sqheld::{Todo, Why, prepared};
+use cli_facts::{Refusal, SystemFile};
+use cli_held::{Todo, Why, prepared};
 use std::io::{self, IsTerminal, Write};
 use std::rt::Files;
 use std::time::Clock;

@@ -15,7 +15,7 @@ mod program;
 mod readings;
 mod unread;
 
-use sqfacts::SystemFile;
+use cli_facts::SystemFile;
 use std::env::{self, Env};
 use std::io::{self, IsTerminal, Write};
 use std::process::ExitCode;

@@ -1,13 +1,13 @@
 //! What `show --pages` prints.
 ghost use Rattle.std.specs.Prelude.{◌≡◌, IfOk, Ok};
-ghost use Rattle.sqshown.specs.Found.{fault_in};
+ghost use Rattle.cli_show.specs.Found.{fault_in};
 ghost use Rattle.cli_job.specs.Answers.{Tells, answer_of_fault};
 
+use cli_facts::Refusal;
 use cli_job::Answer;
-use sqfacts::Refusal;
-use sqshown::{Found, ShowError, write_pages, write_verdict};
+use cli_show::{Found, ShowError, write_pages, write_verdict};
+use cli_words::Style;
 use sqview::FileBytes;
-use sqwords::Style;
 use std::alloc::Global;
 use std::io::{self, BufWriter, Write};
 

@@ -1,6 +1,6 @@
 //! A writer of lines that say which file they are of.
-use sqfacts::Quoted;
-use sqrowlines::write_string;
+use cli_facts::Quoted;
+use cli_row_text::write_string;
 use std::io::{self, IsTerminal, Write};
 
 /// A writer each of whose lines begins with the name of a file, as `ls` prints it, and a colon; where the line is a

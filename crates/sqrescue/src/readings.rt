@@ -3,11 +3,11 @@ ghost use Rattle.std.specs.Prelude.{◌≡◌, Some};
 ghost use Rattle.sqrescue.specs.Reads.{asked_named, command_of, is_of_log};
 ghost use Rattle.sqrescue.specs.Runs.{read_for, read_named};
 
+use cli_dump::Wanted;
 use cli_job::Command;
+use cli_show::{Asked, limits_of};
+use cli_words::{Compared, Options, Part, Request};
 use sqcheck::Options as Maps;
-use sqdump::Wanted;
-use sqshown::{Asked, limits_of};
-use sqwords::{Compared, Options, Part, Request};
 
 /// What is looked for in the files.
 #[derive(Clone, Copy)]

@@ -2,8 +2,8 @@
 ghost use Rattle.std.specs.Prelude.{◌≤◌};
 
 use crate::program::{printed, refused};
-use sqcommands::LineError;
-use sqfacts::Status;
+use cli_args::LineError;
+use cli_facts::Status;
 use std::env::{Env, FillError};
 use std::io::{self, Write};
 use std::str;

@@ -1,15 +1,15 @@
 //! What a deep check of files finds, and how it is printed.
 use crate::deep_tests::file_with;
+use cli_facts::Refusal;
+use cli_show::Asked;
+use cli_show_deep::{judged_as, write_found};
+use cli_words::Style;
 use sqcheck::Options as Maps;
 use sqdeep::InnerFault;
 use sqdeepjudge::{Damage, DeepVerdict, judge_deep};
-use sqdeepshown::{judged_as, write_found};
-use sqfacts::Refusal;
 use sqschema::{ObjectError, SchemaFault};
-use sqshown::Asked;
 use sqval::Limits;
 use sqview::{JudgeError, Verdict, View};
-use sqwords::Style;
 use std::alloc::Global;
 use std::test::Fail;
 

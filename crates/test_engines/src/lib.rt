@@ -6,8 +6,8 @@ mod checks;
 #[cfg(test)]
 mod crashdisk_tests;
 #[cfg(test)]
-mod rollcore_tests;
+mod rig_play_tests;
 #[cfg(test)]
-mod sqplay_tests;
+mod rollcore_tests;
 #[cfg(test)]
 mod walcore_tests;

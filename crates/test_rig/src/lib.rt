@@ -4,10 +4,10 @@
 #[cfg(test)]
 mod asserts;
 #[cfg(test)]
-mod sqimages_tests;
+mod rig_images_tests;
 #[cfg(test)]
-mod sqjudge_tests;
+mod rig_judge_tests;
 #[cfg(test)]
-mod sqshrink_tests;
+mod rig_shrink_tests;
 #[cfg(test)]
 mod traces;

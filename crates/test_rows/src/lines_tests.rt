@@ -1,5 +1,5 @@
 //! Worked lines: the expected ones were written by hand from RFC 8259, RFC 4180 and SQLite's grammar.
-use sqrowlines::{Form, write_line};
+use cli_row_text::{Form, write_line};
 use sqval::Value;
 use std::alloc::Global;
 use std::test::Fail;

@@ -1,7 +1,7 @@
 //! Worked tables as they are printed: the expected lines were written by hand.
+use cli_row_text::{Form, write_heading, write_insert};
+use cli_show_rows::{print_headed, print_table};
 use sqpage::SliceSource;
-use sqrowlines::{Form, write_heading, write_insert};
-use sqrowshown::{print_headed, print_table};
 use sqtables::{objects, table_named};
 use sqval::PageSize;
 use std::alloc::{AllocError, Global};

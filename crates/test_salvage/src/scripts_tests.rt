@@ -1,6 +1,6 @@
 //! Scripts of damaged databases, worked by hand.
 use crate::files::{RISING, file_of, source_of};
-use sqsalvageshown::print_salvage;
+use cli_show_salvage::print_salvage;
 use std::alloc::Global;
 use std::process::Abort;
 use std::test::Fail;

@@ -1,6 +1,6 @@
 -- Which files may change unseen (own).
 use Rattle.std.specs.Prelude.{ℕ, ◌==◌, if◌then◌else◌, Option, None, Some}
-use Rattle.sqfacts.specs.declared.readings.Readings.{Readings}
+use Rattle.cli_facts.specs.declared.readings.Readings.{Readings}
 use Rattle.cli_job.specs.declared.sources.Before.{Before}
 use Rattle.cli_job.specs.declared.sources.Before.TheVariants.{Dated}
 

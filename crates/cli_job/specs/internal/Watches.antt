@@ -1,7 +1,7 @@
 -- When what was read of files that others change stands yet (own).
 use Rattle.std.specs.Prelude.{◌≡◌, ◌≤◌, Option, None, Some, pos}
-use Rattle.sqfacts.specs.declared.readings.Reading.{Reading}
-use Rattle.sqfacts.specs.declared.readings.Readings.{Readings}
+use Rattle.cli_facts.specs.declared.readings.Reading.{Reading}
+use Rattle.cli_facts.specs.declared.readings.Readings.{Readings}
 use Rattle.sqlocks.specs.declared.index.IndexHead.{IndexHead}
 
 -- What a file is, but for when it was changed.

@@ -7,9 +7,9 @@ use Rattle.sqwal.specs.Header.{HeaderRefused, IsHeader, named_size}
 use Rattle.sqwal.specs.Took.{TookWithin}
 use Rattle.sqwal.specs.declared.error.WalFormatError.TheVariants.{UnknownVersion}
 use Rattle.sqwal.specs.declared.scan.Scan.{Scan}
-use Rattle.sqfacts.specs.declared.outcome.Refusal.{Refusal}
-use Rattle.sqfacts.specs.declared.outcome.Refusal.TheVariants.{UnknownLogVersion, NoSuchCommit, PageSizesDiffer}
-use Rattle.sqshown.specs.Logs.{ScanFound}
+use Rattle.cli_facts.specs.declared.outcome.Refusal.{Refusal}
+use Rattle.cli_facts.specs.declared.outcome.Refusal.TheVariants.{UnknownLogVersion, NoSuchCommit, PageSizesDiffer}
+use Rattle.cli_show.specs.Logs.{ScanFound}
 use Rattle.cli_recover.specs.declared.plans.Recovery.{Recovery}
 use Rattle.cli_recover.specs.declared.plans.Recovery.TheVariants.{Fold}
 

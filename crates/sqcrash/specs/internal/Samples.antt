@@ -2,8 +2,8 @@
 use Rattle.std.specs.Prelude.{◌≡◌, ℕ, ◌+◌, true, false, nat_eq, List, length}
 use Rattle.std.specs.HashSet.{contains}
 use Rattle.std.specs.List.{All, AllPairs}
-use Rattle.sqimages.specs.Keys.{key_of}
-use Rattle.sqimages.specs.declared.image.Image.{Image}
+use Rattle.rig_images.specs.Keys.{key_of}
+use Rattle.rig_images.specs.declared.image.Image.{Image}
 use Rattle.sqcrash.specs.Runs.{RunState}
 use Rattle.sqcrash.specs.Surveys.{AreSame, Judged, Tells}
 use Rattle.sqcrash.specs.declared.sample.Sample.{Sample}

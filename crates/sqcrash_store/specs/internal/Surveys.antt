@@ -1,9 +1,9 @@
 -- Images that are drawn one after the other, as far as that has come (own).
 use Rattle.std.specs.Prelude.{◌≡◌, ℕ, Bool, nat_eq, List, length, map, drop, Option}
 use Rattle.std.specs.List.{All, list_any}
-use Rattle.sqstore.specs.Left.{MayLeave}
-use Rattle.sqstore.specs.Stores.{StoreState}
-use Rattle.sqstore.specs.Torn.{IsTornIfAny}
+use Rattle.rig_store.specs.Left.{MayLeave}
+use Rattle.rig_store.specs.Stores.{StoreState}
+use Rattle.rig_store.specs.Torn.{IsTornIfAny}
 use Rattle.sqcrash_store.specs.Keys.{key_of}
 use Rattle.sqcrash_store.specs.Surveys.{Judging, Judged, IsJudged, firsts}
 use Rattle.sqcrash_store.specs.declared.verdict.Answer.{Answer}

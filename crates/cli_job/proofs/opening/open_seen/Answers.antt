@@ -1,12 +1,12 @@
 use Rattle.std.proofs.Common.{◌≡◌, ◌≢◌, ◌⊎◌, ℕ, Option, Some, false, inl, inr, ⊎_elim, sym, subst}
 use Rattle.std.specs.Fs.{metadata_len}
-use Rattle.sqwords.specs.declared.requests.SuperJournal.{SuperJournal}
-use Rattle.sqwords.specs.declared.requests.SuperJournal.TheVariants.{Gone}
-use Rattle.sqopen.specs.Files.{AreRegular, IsMissing, IsOpenedAt, IsOpenedOf}
-use Rattle.sqopen.specs.declared.logs.Beheld.{Beheld}
-use Rattle.sqopen.specs.declared.opened_file.OpenedFile.{OpenedFile}
-use Rattle.sqopen.specs.declared.paths.Paths.{Paths}
-use Rattle.sqshown.specs.declared.contents.Contents.{Contents}
+use Rattle.cli_words.specs.declared.requests.SuperJournal.{SuperJournal}
+use Rattle.cli_words.specs.declared.requests.SuperJournal.TheVariants.{Gone}
+use Rattle.cli_files.specs.Files.{AreRegular, IsMissing, IsOpenedAt, IsOpenedOf}
+use Rattle.cli_files.specs.declared.logs.Beheld.{Beheld}
+use Rattle.cli_files.specs.declared.opened_file.OpenedFile.{OpenedFile}
+use Rattle.cli_files.specs.declared.paths.Paths.{Paths}
+use Rattle.cli_show.specs.declared.contents.Contents.{Contents}
 use Rattle.cli_job.specs.Opened.{AreLogsOf, AreOpened}
 use Rattle.cli_job.proofs.opening.open_seen.Goals as goal
 

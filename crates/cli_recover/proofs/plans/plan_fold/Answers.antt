@@ -1,7 +1,7 @@
 use Rattle.std.proofs.Common.{ℕ, Option, subst}
 use Rattle.std.specs.Prelude.{Ok}
 use Rattle.sqwal.specs.Header.{IsHeader}
-use Rattle.sqshown.specs.Limits.{limits_named}
+use Rattle.cli_show.specs.Limits.{limits_named}
 use Rattle.cli_recover.specs.internal.Scans.{NamesSize}
 use Rattle.cli_recover.proofs.FoldedLogs.{plan_of_parts}
 use Rattle.cli_recover.proofs.plans.plan_fold.Goals as goal

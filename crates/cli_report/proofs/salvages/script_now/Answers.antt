@@ -1,4 +1,4 @@
-use Rattle.sqopen.specs.Files.{opened_bytes}
+use Rattle.cli_files.specs.Files.{opened_bytes}
 use Rattle.cli_job.specs.Opened.{GivesBytes}
 use Rattle.cli_report.proofs.ScriptsOfFound.{scripts_of}
 use Rattle.cli_report.proofs.salvages.script_now.Goals as goal

@@ -2,7 +2,7 @@ use Rattle.std.proofs.Common.{List, subst}
 use Rattle.std.proofs.lemmas.List.{take_all}
 use Rattle.std.specs.List.{flat_map}
 use Rattle.std.specs.Io.KnownBytes.{Appends}
-use Rattle.sqmissing.specs.declared.missing.Missing.{Missing}
+use Rattle.rig_missing.specs.declared.missing.Missing.{Missing}
 use Rattle.sqcrash.specs.Lines.{missing_text}
 use Rattle.sqcrash.proofs.AppendedBytes.{appends_none, appends_next}
 use Rattle.sqcrash.proofs.explained.write_each.Goals as goal

@@ -1,7 +1,7 @@
 use Rattle.std.proofs.Common.{ℕ, List, [], ◌∷◌, ◌++◌, Bool, cond, sym, subst}
 use Rattle.std.specs.Io.KnownBytes.{Appends}
-use Rattle.sqjudge.specs.declared.judgment.Judgment.{Judgment}
-use Rattle.sqmissing.specs.declared.missing.Missing.{Missing}
+use Rattle.rig_judge.specs.declared.judgment.Judgment.{Judgment}
+use Rattle.rig_missing.specs.declared.missing.Missing.{Missing}
 use Rattle.sqcrash.specs.Lines.{line_text, why_text}
 use Rattle.sqcrash.proofs.AppendedBytes.{appends_more}
 use Rattle.sqcrash.proofs.explained.write_finding.Goals as goal

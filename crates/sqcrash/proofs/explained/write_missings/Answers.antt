@@ -1,7 +1,7 @@
 use Rattle.std.proofs.Common.{◌≡◌, ℕ, ◌-◌, List, length, take, subst, arith}
 use Rattle.std.specs.List.{flat_map}
 use Rattle.std.specs.Io.KnownBytes.{Appends}
-use Rattle.sqmissing.specs.declared.missing.Missing.{Missing}
+use Rattle.rig_missing.specs.declared.missing.Missing.{Missing}
 use Rattle.sqcrash.specs.Lines.{missing_text, more_text}
 use Rattle.sqcrash.proofs.AppendedBytes.{appends_more}
 use Rattle.sqcrash.proofs.explained.write_missings.Goals as goal

@@ -1,8 +1,8 @@
 use Rattle.std.proofs.Common.{◌+◌, List, [], take, drop, get_or, refl, sym, subst}
 use Rattle.std.proofs.lemmas.List.{take_more, take_all}
-use Rattle.sqplay.specs.declared.trace.Kind.TheVariants.{Base}
-use Rattle.sqplay.specs.declared.trace.Subject.TheVariants.{Db}
-use Rattle.sqplay.specs.declared.trace.Record.{Record}
+use Rattle.rig_play.specs.declared.trace.Kind.TheVariants.{Base}
+use Rattle.rig_play.specs.declared.trace.Subject.TheVariants.{Db}
+use Rattle.rig_play.specs.declared.trace.Record.{Record}
 use Rattle.sqcrash.specs.Runs.{no_run}
 use Rattle.sqcrash.specs.Marked.{MarkState, MarksAll}
 use Rattle.sqcrash.specs.Markings.{marking_of}

@@ -1,9 +1,9 @@
 use Rattle.std.proofs.Common.{◌≡◌, ℕ, ◌+◌, ◌<◌, ◌≤◌, Option, List, [], ◌∷◌, ◌++◌, length, length-append, take, drop, get_or, refl, sym, ◌∙◌, subst, arith}
 use Rattle.std.proofs.lemmas.List.{take_more, take_all}
 use Rattle.std.specs.Io.KnownBytes.{Appends}
-use Rattle.sqplay.specs.declared.trace.Kind.TheVariants.{Base}
-use Rattle.sqplay.specs.declared.trace.Subject.TheVariants.{Db}
-use Rattle.sqplay.specs.declared.trace.Record.{Record}
+use Rattle.rig_play.specs.declared.trace.Kind.TheVariants.{Base}
+use Rattle.rig_play.specs.declared.trace.Subject.TheVariants.{Db}
+use Rattle.rig_play.specs.declared.trace.Record.{Record}
 use Rattle.sqcrash.specs.Lines.{texts_of, joined, first_of, left_text}
 use Rattle.sqcrash.specs.Writes.{Writes}
 use Rattle.sqcrash.specs.Rigs.{RigState, rig_of, Judges, JudgesAll, BeginsRig, texts_at}
@@ -13,8 +13,8 @@ use Rattle.sqcrash.specs.declared.stopped.Stopped.{Stopped}
 use Rattle.sqcrash.proofs.JudgedRecords.{judges_more}
 use Rattle.sqcrash.proofs.AppendedBytes.{appends_more}
 use Rattle.sqcrash.proofs.WrittenTexts.{writes_none, writes_more, behind_none}
-use Rattle.sqplay.specs.Trace.{IsTrace}
-use Rattle.sqplay.specs.declared.trace.Trace.{Trace}
+use Rattle.rig_play.specs.Trace.{IsTrace}
+use Rattle.rig_play.specs.declared.trace.Trace.{Trace}
 use Rattle.sqcrash.specs.Marked.{are_at_marks}
 use Rattle.sqcrash.specs.Refusals.{WriteRefused}
 use Rattle.sqcrash.specs.Refused.{RigRefused, BeginRefused}

@@ -1,7 +1,7 @@
 use Rattle.std.proofs.Common.{◌≡◌, ◌≢◌, ◌<◌, true, false, refl, subst, arith}
-use Rattle.sqimages.specs.Left.{MayLeave}
-use Rattle.sqplay.specs.Plays.{Files}
-use Rattle.sqimages.specs.declared.image.Image.{Image}
+use Rattle.rig_images.specs.Left.{MayLeave}
+use Rattle.rig_play.specs.Plays.{Files}
+use Rattle.rig_images.specs.declared.image.Image.{Image}
 use Rattle.sqcrash.specs.Runs.{run_of}
 use Rattle.sqcrash.proofs.SampledImages.{sampled_none, sampled_on, sample_done}
 use Rattle.sqcrash.proofs.RefusedImages.{judging_sampled}

@@ -1,10 +1,10 @@
 use Rattle.std.proofs.Common.{◌≡◌, ◌≢◌, ◌<◌, true, false, refl, subst, arith}
-use Rattle.sqplay.specs.Plays.{epoch_now}
-use Rattle.sqimages.specs.Left.{MayLeave, MayLeaveIn}
-use Rattle.sqimages.proofs.ImagesOfCurrentEpoch.{now_may_leave}
+use Rattle.rig_play.specs.Plays.{epoch_now}
+use Rattle.rig_images.specs.Left.{MayLeave, MayLeaveIn}
+use Rattle.rig_images.proofs.ImagesOfCurrentEpoch.{now_may_leave}
 use Rattle.sqcrash.proofs.TallyOfJudgedImages.{scan_stays, scan_is}
-use Rattle.sqplay.specs.Plays.{Files}
-use Rattle.sqimages.specs.declared.image.Image.{Image}
+use Rattle.rig_play.specs.Plays.{Files}
+use Rattle.rig_images.specs.declared.image.Image.{Image}
 use Rattle.sqcrash.specs.Runs.{run_of}
 use Rattle.sqcrash.proofs.SampledImages.{sampled_none, sampled_on, sample_done}
 use Rattle.sqcrash.proofs.RefusedImages.{judging_sampled}

@@ -1,6 +1,6 @@
 use Rattle.std.proofs.Common.{◌<◌, length}
-use Rattle.sqplay.specs.Plays.{epoch_now}
-use Rattle.sqimages.specs.Left.{MayLeave, MayLeaveIn}
+use Rattle.rig_play.specs.Plays.{epoch_now}
+use Rattle.rig_images.specs.Left.{MayLeave, MayLeaveIn}
 use Rattle.sqcrash.specs.Surveys.{IsFixedScan}
 use Rattle.sqcrash.specs.Runs.{run_of}
 use Rattle.sqcrash.specs.internal.Samples.{IsSampled}

@@ -1,11 +1,11 @@
 use Rattle.std.proofs.Common.{◌≡◌, ◌≢◌, ◌<◌, true, false, refl, subst, arith}
 use Rattle.std.specs.Prelude.{Bool, MatchBool}
 use Rattle.std.proofs.Common.{inl, inr}
-use Rattle.sqplay.specs.Plays.{files_of}
-use Rattle.sqimages.specs.Torn.{MayLeaveTorn, NoneTears}
+use Rattle.rig_play.specs.Plays.{files_of}
+use Rattle.rig_images.specs.Torn.{MayLeaveTorn, NoneTears}
 use Rattle.sqcrash.proofs.SampledImages.{still_torn}
-use Rattle.sqplay.specs.Plays.{Files}
-use Rattle.sqimages.specs.declared.image.Image.{Image}
+use Rattle.rig_play.specs.Plays.{Files}
+use Rattle.rig_images.specs.declared.image.Image.{Image}
 use Rattle.sqcrash.specs.Runs.{run_of}
 use Rattle.sqcrash.proofs.SampledImages.{sampled_none, sampled_on, sample_done}
 use Rattle.sqcrash.proofs.RefusedImages.{judging_sampled}

@@ -1,5 +1,5 @@
 use Rattle.std.proofs.Common.{◌<◌, length}
-use Rattle.sqimages.specs.Torn.{MayLeaveTorn}
+use Rattle.rig_images.specs.Torn.{MayLeaveTorn}
 use Rattle.sqcrash.specs.Runs.{run_of}
 use Rattle.sqcrash.specs.internal.Samples.{IsSampled}
 use Rattle.sqcrash.proofs.sample.survey_torn.Given as goal

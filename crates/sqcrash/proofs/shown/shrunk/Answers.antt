@@ -1,6 +1,6 @@
 use Rattle.std.proofs.Common.{subst}
-use Rattle.sqplay.specs.Plays.{Files}
-use Rattle.sqshrink.specs.Shrunk.{IsShrunk}
+use Rattle.rig_play.specs.Plays.{Files}
+use Rattle.rig_shrink.specs.Shrunk.{IsShrunk}
 use Rattle.sqcrash.specs.Runs.{run_of}
 use Rattle.sqcrash.specs.Surveys.{IsFoundAs}
 use Rattle.sqcrash.proofs.shown.shrunk.Goals as goal

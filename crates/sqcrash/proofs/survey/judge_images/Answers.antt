@@ -1,5 +1,5 @@
 use Rattle.std.proofs.Common.{ℕ, ◌+◌, subst, arith}
-use Rattle.sqimages.specs.declared.torn.Which.TheVariants.{Db, Wal, Journal}
+use Rattle.rig_images.specs.declared.torn.Which.TheVariants.{Db, Wal, Journal}
 use Rattle.sqcrash.specs.Runs.{run_of}
 use Rattle.sqcrash.specs.Surveys.{IsTornSurvey}
 use Rattle.sqcrash.proofs.CountedPoints.{grows_untorn, grows_torn, grows_more, grows_none}

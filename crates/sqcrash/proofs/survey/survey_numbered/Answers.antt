@@ -1,6 +1,6 @@
 use Rattle.std.proofs.Common.{◌≡◌, ℕ, ◌+◌, ◌≤◌, [], ◌∷◌, ◌++◌, length, length-append, refl, ◌∙◌, subst, arith}
-use Rattle.sqplay.specs.Plays.{Files}
-use Rattle.sqimages.specs.Images.{IsNumbered}
+use Rattle.rig_play.specs.Plays.{Files}
+use Rattle.rig_images.specs.Images.{IsNumbered}
 use Rattle.sqcrash.specs.Runs.{run_of}
 use Rattle.sqcrash.specs.Surveys.{Judged}
 use Rattle.sqcrash.specs.Samples.{TakesOne}

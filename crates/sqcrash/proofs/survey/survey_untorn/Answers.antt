@@ -1,8 +1,8 @@
 use Rattle.std.proofs.Common.{inl, inr, subst, Option, Ok, arith}
 use Rattle.std.proofs.lemmas.Result.{MatchResult-weaker}
-use Rattle.sqplay.specs.Plays.{Files}
-use Rattle.sqimages.specs.Images.{CountsAnswer}
-use Rattle.sqimages.specs.declared.counts.Counts.{Counts}
+use Rattle.rig_play.specs.Plays.{Files}
+use Rattle.rig_images.specs.Images.{CountsAnswer}
+use Rattle.rig_images.specs.declared.counts.Counts.{Counts}
 use Rattle.sqcrash.specs.Runs.{run_of}
 use Rattle.sqcrash.proofs.RefusedImages.{judging_within}
 use Rattle.sqcrash.proofs.survey.survey_untorn.Goals as goal

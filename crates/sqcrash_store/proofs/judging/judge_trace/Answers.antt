@@ -1,7 +1,7 @@
 use Rattle.std.proofs.Common.{List, [], ◌++◌, take, get_or, refl, sym, ◌∙◌, subst}
 use Rattle.std.proofs.lemmas.List.{take_more, take_all}
-use Rattle.sqstore.specs.declared.call.Action.TheVariants.{Base}
-use Rattle.sqstore.specs.declared.call.Call.{Call}
+use Rattle.rig_store.specs.declared.call.Action.TheVariants.{Base}
+use Rattle.rig_store.specs.declared.call.Call.{Call}
 use Rattle.sqcrash_store.specs.Surveys.{Judging}
 use Rattle.sqcrash_store.specs.Rigs.{PlaysAll, rig_of, no_rig}
 use Rattle.sqcrash_store.specs.States.{AreStates}

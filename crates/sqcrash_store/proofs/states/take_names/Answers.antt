@@ -1,8 +1,8 @@
 use Rattle.std.proofs.Common.{◌≡◌, ℕ, List, [], ◌∷◌, ◌++◌, get_or, map, sym, ◌∙◌, ap, subst}
 use Rattle.std.proofs.lemmas.List.{take_all}
 use Rattle.std.specs.String.{string_bytes}
-use Rattle.sqstore.specs.declared.call.Action.TheVariants.{Base}
-use Rattle.sqstore.specs.declared.call.Call.{Call}
+use Rattle.rig_store.specs.declared.call.Action.TheVariants.{Base}
+use Rattle.rig_store.specs.declared.call.Call.{Call}
 use Rattle.sqcrash_store.specs.States.{names_told}
 use Rattle.sqcrash_store.proofs.NamesTold.{told_more}
 use Rattle.sqcrash_store.proofs.states.take_names.Goals as goal

@@ -1,8 +1,8 @@
 use Rattle.std.proofs.Common.{Bool, List, take, get_or, refl, sym, ◌∙◌, ap, subst}
 use Rattle.std.proofs.lemmas.List.{take_more, take_all}
-use Rattle.sqstore.specs.Stores.{StoreState, store_of, no_store}
-use Rattle.sqstore.specs.declared.call.Action.TheVariants.{Base}
-use Rattle.sqstore.specs.declared.call.Call.{Call}
+use Rattle.rig_store.specs.Stores.{StoreState, store_of, no_store}
+use Rattle.rig_store.specs.declared.call.Action.TheVariants.{Base}
+use Rattle.rig_store.specs.declared.call.Call.{Call}
 use Rattle.sqcrash_store.specs.States.{TakeState, Takes, TakesAll, SaysWhere, is_first, is_mark, none_taken}
 use Rattle.sqcrash_store.specs.declared.verdict.Answer.{Answer}
 use Rattle.sqcrash_store.proofs.PlayedRecords.{takes_more}

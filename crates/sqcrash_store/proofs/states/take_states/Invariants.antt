@@ -1,5 +1,5 @@
 use Rattle.std.proofs.Common.{take}
-use Rattle.sqstore.specs.Stores.{store_of}
+use Rattle.rig_store.specs.Stores.{store_of}
 use Rattle.sqcrash_store.specs.States.{TakesAll, none_taken}
 use Rattle.sqcrash_store.proofs.states.take_states.Given as goal
 

@@ -1,6 +1,6 @@
 use Rattle.std.proofs.Common.{Bool, sym, subst}
-use Rattle.sqstore.specs.Left.{image_of}
-use Rattle.sqstore.specs.Stores.{store_of}
+use Rattle.rig_store.specs.Left.{image_of}
+use Rattle.rig_store.specs.Stores.{store_of}
 use Rattle.sqcrash_store.specs.States.{SaysWhere}
 use Rattle.sqcrash_store.proofs.states.take_where.Goals as goal
 

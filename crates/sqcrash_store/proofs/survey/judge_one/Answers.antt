@@ -1,6 +1,6 @@
 use Rattle.std.proofs.Common.{ℕ, List, refl, subst}
 use Rattle.std.specs.Io.KnownBytes.{Appends}
-use Rattle.sqstore.specs.Left.{image_of}
+use Rattle.rig_store.specs.Left.{image_of}
 use Rattle.sqcrash_store.specs.Lines.{finding_text}
 use Rattle.sqcrash_store.specs.Surveys.{Judged}
 use Rattle.sqcrash_store.proofs.survey.judge_one.Goals as goal

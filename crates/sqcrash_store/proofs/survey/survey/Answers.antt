@@ -4,8 +4,8 @@ use Rattle.std.specs.Bool.{OnFalse}
 use Rattle.std.specs.HashSet.{contains, IsUnchanged}
 use Rattle.std.specs.Io.KnownBytes.{Appends}
 use Rattle.std.specs.List.{list_any}
-use Rattle.sqstore.specs.Left.{image_of}
-use Rattle.sqstore.specs.Stores.{store_of}
+use Rattle.rig_store.specs.Left.{image_of}
+use Rattle.rig_store.specs.Stores.{store_of}
 use Rattle.sqcrash_store.specs.Keys.{key_of}
 use Rattle.sqcrash_store.specs.Surveys.{IsJudged, drawn_count, judging_of, place_of, line_of, lines_from}
 use Rattle.sqcrash_store.specs.Tallies.{with_image}

@@ -1,7 +1,7 @@
 use Rattle.std.proofs.Common.{◌≡◌, nat_eq, List, length}
 use Rattle.std.specs.HashSet.{contains}
 use Rattle.std.specs.Io.KnownBytes.{Appends}
-use Rattle.sqstore.specs.Stores.{store_of}
+use Rattle.rig_store.specs.Stores.{store_of}
 use Rattle.sqcrash_store.specs.Surveys.{Judged, judging_of, with_images, lines_from, place_of}
 use Rattle.sqcrash_store.specs.internal.Surveys.{IsSurveyed}
 use Rattle.sqcrash_store.proofs.survey.survey.Given as goal

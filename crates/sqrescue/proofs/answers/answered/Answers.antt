@@ -1,4 +1,4 @@
-use Rattle.sqopen.specs.Files.{opened_bytes}
+use Rattle.cli_files.specs.Files.{opened_bytes}
 use Rattle.cli_job.specs.Opened.{GivesBytes}
 use Rattle.sqrescue.proofs.ComesOfFound.{comes_of_found, comes_of_refusal}
 use Rattle.sqrescue.proofs.answers.answered.Goals as goal

@@ -1,8 +1,8 @@
 use Rattle.std.proofs.Common.{ℕ, List, Bor, sym, subst}
-use Rattle.sqfacts.specs.declared.outcome.Refusal.{Refusal}
-use Rattle.sqheld.specs.Todo.{texts}
-use Rattle.sqheld.specs.declared.todo.Todo.{Todo}
-use Rattle.sqopen.specs.Files.{opened_bytes}
+use Rattle.cli_facts.specs.declared.outcome.Refusal.{Refusal}
+use Rattle.cli_held.specs.Todo.{texts}
+use Rattle.cli_held.specs.declared.todo.Todo.{Todo}
+use Rattle.cli_files.specs.Files.{opened_bytes}
 use Rattle.sqrescue.specs.Locking.{refusal_of}
 use Rattle.cli_job.specs.Opened.{GivesBytes}
 use Rattle.sqrescue.specs.Runs.{DoesTodo, Ends}

@@ -1,5 +1,5 @@
 use Rattle.std.proofs.Common.{inl}
-use Rattle.sqopen.specs.Files.{opened_bytes}
+use Rattle.cli_files.specs.Files.{opened_bytes}
 use Rattle.cli_job.specs.Opened.{GivesBytes}
 use Rattle.cli_job.proofs.OpenedLooks.{look_of}
 use Rattle.cli_job.proofs.jobs.Job.found.Goals as goal

@@ -1,7 +1,7 @@
 use Rattle.std.proofs.Common.{sym, subst}
 use Rattle.std.specs.Prelude.{Err}
-use Rattle.sqfacts.specs.declared.outcome.Refusal.{Refusal}
-use Rattle.sqopen.specs.Files.{opened_bytes}
+use Rattle.cli_facts.specs.declared.outcome.Refusal.{Refusal}
+use Rattle.cli_files.specs.Files.{opened_bytes}
 use Rattle.cli_job.specs.Opened.{GivesBytes, Settles}
 use Rattle.cli_job.proofs.jobs.Job.settled.Goals as goal
 

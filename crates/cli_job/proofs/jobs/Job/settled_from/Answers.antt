@@ -1,5 +1,5 @@
 use Rattle.std.specs.Prelude.{Ok}
-use Rattle.sqopen.specs.Files.{opened_bytes}
+use Rattle.cli_files.specs.Files.{opened_bytes}
 use Rattle.cli_job.specs.Opened.{GivesBytes}
 use Rattle.cli_job.proofs.OpenedLooks.{looked_again, stands}
 use Rattle.cli_job.proofs.jobs.Job.settled_from.Goals as goal

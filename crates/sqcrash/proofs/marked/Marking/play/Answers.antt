@@ -1,6 +1,6 @@
 use Rattle.std.proofs.Common.{inl, sym, subst}
 use Rattle.std.proofs.lemmas.Result.{MatchResult-weaker}
-use Rattle.sqplay.specs.declared.trace.Kind.{Kind}
+use Rattle.rig_play.specs.declared.trace.Kind.{Kind}
 use Rattle.sqcrash.specs.Marked.{MarksBy}
 use Rattle.sqcrash.specs.Markings.{marking_of}
 use Rattle.sqcrash.specs.Runs.{run_of}

@@ -1,5 +1,5 @@
 use Rattle.std.proofs.Common.{◌≡◌, List, ℕ, length, ◌∙◌, ap}
-use Rattle.sqplay.specs.Trace.{bytes_of}
+use Rattle.rig_play.specs.Trace.{bytes_of}
 use Rattle.sqcrash.specs.Runs.{run_of}
 use Rattle.sqcrash.proofs.KeptCalls.{goes_kept}
 use Rattle.sqcrash.proofs.run.Run.go_kept.Goals as goal

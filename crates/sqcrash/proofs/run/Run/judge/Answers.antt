@@ -1,4 +1,4 @@
-use Rattle.sqjudge.specs.Shown.{commits_of}
+use Rattle.rig_judge.specs.Shown.{commits_of}
 use Rattle.sqcrash.proofs.JudgedFiles.{judged_of}
 use Rattle.sqcrash.proofs.run.Run.judge.Goals as goal
 

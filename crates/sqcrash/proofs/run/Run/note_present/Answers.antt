@@ -1,5 +1,5 @@
 use Rattle.std.proofs.Common.{true, false, refl, ap, List, ℕ}
-use Rattle.sqjudge.specs.Shown.{commits_of}
+use Rattle.rig_judge.specs.Shown.{commits_of}
 use Rattle.sqcrash.specs.Runs.{run_of}
 use Rattle.sqcrash.proofs.NotedFiles.{noted_of, notes_image}
 use Rattle.sqcrash.proofs.run.Run.note_present.Goals as goal

@@ -1,8 +1,8 @@
 use Rattle.std.proofs.Common.{◌≢◌, ℕ, List, refl}
 use Rattle.std.proofs.lemmas.Result.{MatchResult-weaker}
-use Rattle.sqplay.specs.declared.trace.Kind.{Kind}
-use Rattle.sqplay.specs.declared.trace.Kind.TheVariants as kinds
-use Rattle.sqplay.specs.declared.trace.Record.{Record}
+use Rattle.rig_play.specs.declared.trace.Kind.{Kind}
+use Rattle.rig_play.specs.declared.trace.Kind.TheVariants as kinds
+use Rattle.rig_play.specs.declared.trace.Record.{Record}
 use Rattle.sqcrash.specs.Runs.{RunState, run_of, Calls, PlaysBy}
 use Rattle.sqcrash.proofs.run.Run.play.Goals as goal
 

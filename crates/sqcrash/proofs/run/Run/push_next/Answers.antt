@@ -1,5 +1,5 @@
 use Rattle.std.proofs.Common.{ℕ, List, [], ◌∷◌, ◌++◌, reverse, map, ◌∙◌, ap}
-use Rattle.sqjudge.specs.Shown.{Commit, commit_of, commits_of}
+use Rattle.rig_judge.specs.Shown.{Commit, commit_of, commits_of}
 use Rattle.sqcrash.specs.Runs.{run_of}
 use Rattle.sqcrash.proofs.WaitingCommits.{took_last}
 use Rattle.sqcrash.proofs.run.Run.push_next.Goals as goal

@@ -1,6 +1,6 @@
 use Rattle.std.proofs.Common.{inl, inr, Bool, refl, subst}
 use Rattle.std.proofs.lemmas.Result.{IfOk-weaker}
-use Rattle.sqimages.specs.Keys.{key_of}
+use Rattle.rig_images.specs.Keys.{key_of}
 use Rattle.sqcrash.specs.Samples.{Takes}
 use Rattle.sqcrash.proofs.sample.Sample.judge.Goals as goal
 

@@ -3,7 +3,7 @@ use Rattle.std.specs.Prelude.{not}
 use Rattle.std.specs.Bool.{OnFalse}
 use Rattle.std.specs.HashSet.{contains, IsUnchanged}
 use Rattle.std.specs.List.{list_any}
-use Rattle.sqimages.specs.Keys.{key_of}
+use Rattle.rig_images.specs.Keys.{key_of}
 use Rattle.sqcrash.proofs.sample.Sample.takes.Goals as goal
 
 not_false : (b : Bool) → false ≡ not b → b ≡ true

@@ -1,5 +1,5 @@
 use Rattle.std.proofs.Common.{sym, subst}
-use Rattle.sqimages.specs.declared.image.Image.{Image}
+use Rattle.rig_images.specs.declared.image.Image.{Image}
 use Rattle.sqcrash.specs.Runs.{run_of}
 use Rattle.sqcrash.specs.Surveys.{Shows}
 use Rattle.sqcrash.proofs.survey.Survey.judge.Goals as goal

@@ -1,6 +1,6 @@
 use Rattle.std.proofs.Common.{◌≡◌, ℕ, ◌+◌, List, sym, ap, subst}
-use Rattle.sqstore.specs.Calls.{bytes_of}
-use Rattle.sqstore.specs.declared.call.Action.{Action}
+use Rattle.rig_store.specs.Calls.{bytes_of}
+use Rattle.rig_store.specs.declared.call.Action.{Action}
 use Rattle.sqcrash_store.specs.Points.{IsKnown}
 use Rattle.sqcrash_store.specs.Rigs.{RigState, rig_of, NotesBy}
 use Rattle.sqcrash_store.proofs.rig.Rig.note.Goals as goal

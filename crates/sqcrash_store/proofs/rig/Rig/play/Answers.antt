@@ -1,6 +1,6 @@
 use Rattle.std.proofs.Common.{Bool, [], refl, subst}
 use Rattle.std.proofs.lemmas.Result.{IfOk-weaker}
-use Rattle.sqstore.specs.Stores.{store_of}
+use Rattle.rig_store.specs.Stores.{store_of}
 use Rattle.sqcrash_store.specs.Rigs.{rig_of, JudgesWhere}
 use Rattle.sqcrash_store.specs.Surveys.{judging_of}
 use Rattle.sqcrash_store.proofs.AppendedBytes.{appends_none}

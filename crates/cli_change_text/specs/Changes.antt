@@ -1,0 +1,121 @@
+-- How a change of a table's rows is written (own).
+use Rattle.std.specs.Prelude.{◌≡◌, ◌≢◌, ◌⊎◌, ℕ, suc, zero, ◌<◌, max, Bool, true, false, List, [], ◌∷◌, ◌++◌, length, map, codes, slice_get, Option, Some, None, ℤ}
+use Rattle.std.specs.Fmt.{decimal}
+use Rattle.sqval.specs.Datum.{Datum}
+use Rattle.sqrows.specs.Rows.{Row}
+use Rattle.sqtables.specs.declared.columns.Columns.{Columns}
+use Rattle.sqtables.specs.Columns.{shown, shown_at}
+use Rattle.cli_row_text.specs.declared.form.Form.{Form}
+use Rattle.cli_row_text.specs.declared.form.Form.TheVariants.{Json, Sql}
+use Rattle.cli_row_text.specs.Lines.{AreTexts, IsLine, IsText, between_marks, integer_text}
+use Rattle.cli_row_text.specs.Printed.{led_by}
+use Rattle.sqdiff.specs.Changes.{Change, inserted, deleted, changed}
+use Rattle.cli_change_text.specs.declared.style.Writing.{Writing}
+use Rattle.cli_change_text.specs.declared.style.Writing.TheVariants.{Line, Object, Removal, Arrival}
+use Rattle.cli_change_text.specs.declared.style.Style.{Style}
+
+abbrev pub names_of : Columns → List (List ℕ)
+names_of columns = map (λ n. n.items) columns.names.items
+
+abbrev pub rowid_text : Form → (rowid : Option ℤ) → List ℕ
+rowid_text form (Some id) = integer_text form id
+rowid_text form None = []
+
+-- what the line of a row begins with that came, or went
+abbrev pub sign_of : (comes : Bool) → List ℕ
+sign_of true = codes "+ "
+sign_of false = codes "- "
+
+-- A line: the sign, the rowid, and the values as they stand in SQL.
+abbrev pub IsLineOf : (sign : List ℕ) → List (List ℕ) → (rowid : Option ℤ) → List Datum → List ℕ → Type 0
+IsLineOf sign names rowid values t =
+    (all : List ℕ) × AreTexts Sql names 0 values all × (t ≡ sign ++ (rowid_text Sql rowid ++ (codes ": " ++ (all ++ codes "\n"))))
+
+-- the word for it in an object, and what the member begins with that has the row
+abbrev pub word_of : (comes : Bool) → List ℕ
+word_of true = codes "insert"
+word_of false = codes "delete"
+
+abbrev pub member_of : (comes : Bool) → List ℕ
+member_of true = codes ",\"new\":{"
+member_of false = codes ",\"old\":{"
+
+-- A member of an object: the columns of a row under their names.
+abbrev pub IsMember : (member : List ℕ) → List (List ℕ) → List Datum → List ℕ → Type 0
+IsMember member names values t = (all : List ℕ) × AreTexts Json names 0 values all × (t ≡ member ++ (all ++ codes "}"))
+
+-- what stands in an object before its rows
+abbrev pub object_start : (head word : List ℕ) → (rowid : Option ℤ) → List ℕ
+object_start head word rowid = head ++ (word ++ (codes "\",\"rowid\":" ++ rowid_text Json rowid))
+
+-- An object: the table, what happened, the rowid and the row.
+abbrev pub IsObjectOf : (head : List ℕ) → (comes : Bool) → List (List ℕ) → (rowid : Option ℤ) → List Datum → List ℕ → Type 0
+IsObjectOf head comes names rowid values t =
+    (one : List ℕ) × IsMember (member_of comes) names values one × (t ≡ object_start head (word_of comes) rowid ++ (one ++ codes "}\n"))
+
+-- the DELETE of the row of a rowid
+abbrev pub removal_text : (head : List ℕ) → (rowid : Option ℤ) → List ℕ
+removal_text head rowid = head ++ (rowid_text Sql rowid ++ codes ";\n")
+
+-- the INSERT of a row
+abbrev pub IsArrival : (head : List ℕ) → List (List ℕ) → (leads : Bool) → (rowid : Option ℤ) → List Datum → List ℕ → Type 0
+IsArrival head names leads rowid values t = IsLine Sql head names (led_by leads rowid) values t
+
+-- The text of a row that came or went. In a script the DELETEs stand before the INSERTs, each in a text of its own.
+abbrev pub IsOneText : Writing → (head : List ℕ) → List (List ℕ) → (leads comes : Bool) → (rowid : Option ℤ) → List Datum → List ℕ → Type 0
+IsOneText Line head names leads comes rowid values t = IsLineOf (sign_of comes) names rowid values t
+IsOneText (Object commit) head names leads comes rowid values t = IsObjectOf head comes names rowid values t
+IsOneText Removal head names leads true rowid values t = t ≡ []
+IsOneText Removal head names leads false rowid values t = t ≡ removal_text head rowid
+IsOneText Arrival head names leads true rowid values t = IsArrival head names leads rowid values t
+IsOneText Arrival head names leads false rowid values t = t ≡ []
+
+-- a column's name in quotes, or c1, c2 and so on where none is known
+abbrev pub column_text : Option (List ℕ) → (j : ℕ) → List ℕ
+column_text (Some name) j = between_marks 34 name
+column_text None j = codes "c" ++ decimal (suc j)
+
+-- what stands before a column's change
+abbrev pub mark_of : (begun : Bool) → List ℕ
+mark_of true = codes ", "
+mark_of false = []
+
+-- A column's change: its name, what it was and what it is.
+abbrev pub IsDifference : Columns → (begun : Bool) → (j : ℕ) → (old new : Datum) → List ℕ → Type 0
+IsDifference columns begun j old new t =
+    (was is : List ℕ) × IsText Sql old was × IsText Sql new is
+    × (t ≡ mark_of begun ++ (column_text (slice_get (names_of columns) j) j ++ (codes " " ++ (was ++ (codes " -> " ++ is)))))
+
+-- The changes of the columns from j on, so many: of each that shows another value in both rows.
+abbrev pub AreDifferences : Columns → (old new : Row) → (begun : Bool) → (j n : ℕ) → List ℕ → Type 0
+AreDifferences columns old new begun j zero t = t ≡ []
+AreDifferences columns old new begun j (suc n) t =
+    ((shown_at columns old j ≡ shown_at columns new j) × AreDifferences columns old new begun (suc j) n t)
+    ⊎ ((shown_at columns old j ≢ shown_at columns new j) × ((own more : List ℕ) × IsDifference columns begun j (shown_at columns old j) (shown_at columns new j) own
+    × AreDifferences columns old new true (suc j) n more × (t ≡ own ++ more)))
+
+-- the columns of two rows: as many as one of them stores, or are defined
+abbrev pub column_count : Columns → (old new : Row) → ℕ
+column_count columns old new = max (max (length old.values) (length new.values)) (length columns.names.items)
+
+-- The text of a row that has other values now.
+abbrev pub IsChangedText : Writing → (head : List ℕ) → Columns → (leads : Bool) → (old new : Row) → List ℕ → Type 0
+IsChangedText Line head columns leads old new t =
+    (all : List ℕ) × AreDifferences columns old new false 0 (column_count columns old new) all
+    × (t ≡ codes "~ " ++ (rowid_text Sql new.rowid ++ (codes ": " ++ (all ++ codes "\n"))))
+IsChangedText (Object commit) head columns leads old new t =
+    (was is : List ℕ) × IsMember (member_of false) (names_of columns) (shown columns old) was × IsMember (member_of true) (names_of columns) (shown columns new) is
+    × (t ≡ object_start head (codes "update") new.rowid ++ (was ++ (is ++ codes "}\n")))
+IsChangedText Removal head columns leads old new t = t ≡ removal_text head old.rowid
+IsChangedText Arrival head columns leads old new t = IsArrival head (names_of columns) leads new.rowid (shown columns new) t
+
+-- The text of a change.
+abbrev pub IsChangeText : Writing → (head : List ℕ) → Columns → (leads : Bool) → Change → List ℕ → Type 0
+IsChangeText writing head columns leads (inserted row) t = IsOneText writing head (names_of columns) leads true row.rowid (shown columns row) t
+IsChangeText writing head columns leads (deleted row) t = IsOneText writing head (names_of columns) leads false row.rowid (shown columns row) t
+IsChangeText writing head columns leads (changed old new) t = IsChangedText writing head columns leads old new t
+
+-- the same behind what stands before the first one
+abbrev pub IsTextIn : Style → Change → List ℕ → Type 0
+IsTextIn style c t =
+    (own : List ℕ) × IsChangeText style.writing style.head.now style.columns.now style.leads c own × (t ≡ style.before.now ++ own)

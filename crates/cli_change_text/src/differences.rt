@@ -1,0 +1,119 @@
+//! What changed in a row, column by column.
+ghost use Rattle.std.specs.Prelude.{◌≡◌, ◌↔◌, ℕ, ◌+◌, ◌<◌, ◌^◌, List, OnOk, IfOk, IsTrue, false, map, option_map};
+ghost use Rattle.std.specs.Prelude.{slice_get};
+ghost use Rattle.std.specs.Io.KnownBytes.{Appends};
+ghost use Rattle.sqval.specs.Datum.{datum_of};
+ghost use Rattle.cli_change_text.specs.Changes.{AreDifferences, IsDifference, column_count, column_text, mark_of};
+ghost use Rattle.cli_change_text.specs.internal.Steps.{TakesColumn};
+
+use cli_row_text::{Form, write_between, write_value};
+use sqrows::Row;
+use sqtables::Columns;
+use sqval::Value;
+use std::io::{self, Write};
+
+/// Whether two values are the same as they are stored: an integer is no real number.
+fn is_same(old: Value<'_>, new: Value<'_>) -> bool
+    ensures { IsTrue result ↔ (datum_of old.entry ≡ datum_of new.entry) }
+{
+    old == new
+}
+
+/// What stands before a column's change.
+fn write_mark<W: Write>(out: &mut W, begun: bool) -> io::Result<()>
+    ensures { OnOk result (Appends (W.contents out.old) (W.contents out.new) (mark_of begun)) }
+{
+    if begun { out.write_all(b", ") } else { Ok(()) }
+}
+
+/// The name of column `j`, if it has one.
+fn write_name<W: Write>(out: &mut W, name: Option<&Vec<u8>>, j: usize) -> io::Result<()>
+    requires { j + 1 < 2 ^ 64 }
+    ensures { OnOk result (Appends (W.contents out.old) (W.contents out.new)
+        (column_text (option_map (λ n. n.now.items) name.entry) j)) }
+{
+    match name {
+        Some(name) => write_between(out, b'"', name),
+        None => {
+            let number = j + 1;
+            write!(out, "c{number}")
+        }
+    }
+}
+
+/// The name of column `j`.
+fn write_column<W: Write>(out: &mut W, names: &[Vec<u8>], j: usize) -> io::Result<()>
+    requires { j + 1 < 2 ^ 64 }
+    ensures { OnOk result (Appends (W.contents out.old) (W.contents out.new)
+        (column_text (slice_get (map (λ n. n.items) names.now) j) j)) }
+{
+    write_name(out, names.get(j), j)
+}
+
+/// A column's change.
+fn write_difference<W: Write>(
+    out: &mut W,
+    columns: &Columns,
+    j: usize,
+    begun: bool,
+    old: Value<'_>,
+    new: Value<'_>,
+) -> io::Result<()>
+    requires { j + 1 < 2 ^ 64 }
+    ensures { OnOk result ((t : List ℕ) × IsDifference columns.now begun j (datum_of old.entry) (datum_of new.entry) t
+        × Appends (W.contents out.old) (W.contents out.new) t) }
+{
+    write_mark(out, begun)?;
+    write_column(out, &columns.names, j)?;
+    out.write_all(b" ")?;
+    write_value(out, Form::Sql, old)?;
+    out.write_all(b" -> ")?;
+    write_value(out, Form::Sql, new)
+}
+
+/// A column's change, where it shows another value. Whether some change is written then.
+fn write_column_change<W: Write>(
+    out: &mut W,
+    columns: &Columns,
+    old: &Row<'_>,
+    new: &Row<'_>,
+    j: usize,
+    begun: bool,
+) -> io::Result<bool>
+    requires { j + 1 < 2 ^ 64 }
+    ensures { IfOk result (λ written. (t : List ℕ) × TakesColumn columns.now
+        (record { rowid = old.now.rowid; values = old.now.values })
+        (record { rowid = new.now.rowid; values = new.now.values }) j begun written t
+        × Appends (W.contents out.old) (W.contents out.new) t) }
+{
+    let was = columns.value_at(old, j);
+    let is = columns.value_at(new, j);
+    if is_same(was, is) {
+        return Ok(begun);
+    }
+    write_difference(out, columns, j, begun, was, is)?;
+    Ok(true)
+}
+
+/// The changes of the columns of a row.
+pub(crate) fn write_differences<W: Write>(
+    out: &mut W,
+    columns: &Columns,
+    old: &Row<'_>,
+    new: &Row<'_>,
+) -> io::Result<()>
+    ensures { OnOk result ((t : List ℕ) × AreDifferences columns.now
+        (record { rowid = old.now.rowid; values = old.now.values })
+        (record { rowid = new.now.rowid; values = new.now.values }) false 0
+        (column_count columns.now (record { rowid = old.now.rowid; values = old.now.values })
+        (record { rowid = new.now.rowid; values = new.now.values })) t
+        × Appends (W.contents out.old) (W.contents out.new) t) }
+{
+    let stored = old.values.len().max(new.values.len());
+    let count = stored.max(columns.names.len());
+    let mut begun = false;
+    for j in 0..count {
+        begun = write_column_change(out, columns, old, new, j, begun)?;
+    }
+    Ok(())
+}

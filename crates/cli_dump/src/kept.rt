@@ -1,0 +1,213 @@
+//! What each commit of a log changed, as a text that a page holds.
+ghost use Rattle.std.specs.Prelude.{◌≡◌, IfErr, IfOk, IsOk, Some, []};
+ghost use Rattle.sqwal.specs.Took.{TookWithin};
+ghost use Rattle.sqjournal.specs.Journal.{IsHot};
+ghost use Rattle.cli_show.specs.Limits.{limits_named};
+ghost use Rattle.cli_show.specs.Logs.{IsUnreadLog};
+ghost use Rattle.cli_show_diff.specs.Changes.{texts_of};
+ghost use Rattle.cli_history.specs.History.{AreGiven, bytes_of};
+ghost use Rattle.cli_dump.specs.Kept.{AreCommitsKept, IsCommitUntold, IsHistoryKept, IsRangeKept, IsTextOfCommit};
+
+use crate::history::found_of;
+use cli_facts::Refusal;
+use cli_history::{CommitForm, Files, HistoryError, Told, commits_between, print_commits};
+use cli_show::{LogFound, limits_of};
+use cli_show_diff::Selected;
+use cli_words::Options;
+use sqval::Limits;
+use sqview::FileBytes;
+use sqwal::Scan;
+use std::alloc::{AllocError, Global};
+use std::io::{self, ErrorKind, Write};
+
+/// Why no more commits are kept.
+#[derive(Debug, Drop)]
+pub enum Ended {
+    /// Each one is.
+    Whole,
+    /// What the commit that ends with this frame changed has no room behind what is kept.
+    Full(u32),
+    /// What the commit that ends with this frame changed isn't printed to its end, for this.
+    Stopped(u32, HistoryError),
+}
+
+/// What commits of a log changed.
+#[derive(Debug, Drop)]
+pub struct Kept {
+    /// What `diff --commits --json` prints of the first of them.
+    pub text: Vec<u8>,
+    pub ended: Ended,
+}
+
+/// A text of at most so many bytes.
+#[derive(Drop)]
+struct Bounded {
+    text: Vec<u8>,
+    most: usize,
+}
+
+impl Write for Bounded {
+    ghost contents = { λ b. Some b.text.items };
+
+    fn write(&mut self, bytes: &[u8]) -> io::Result<usize> {
+        if bytes.len() > self.most.saturating_sub(self.text.len()) {
+            return Err(io::Error::from(ErrorKind::StorageFull));
+        }
+        self.text.write(bytes)
+    }
+
+    fn flush(&mut self) -> io::Result<()> {
+        Ok(())
+    }
+}
+
+/// What a commit changed against another one, if that has at most so many bytes.
+fn commit_told<F: FileBytes + Copy + Drop>(
+    alloc: Global,
+    files: Files<F>,
+    told: &Told<'_>,
+    step: (u32, u32),
+    most: usize,
+) -> Result<Vec<u8>, HistoryError>
+    ensures ok { AreGiven F.gives_bytes files → TookWithin told.now.limits.frames (F.bytes files.wal) told.now.scan.now
+        → ¬ IsHot (F.bytes files.journal) → IfOk result (λ text. IsTextOfCommit (bytes_of F.bytes files)
+        (texts_of told.now.selected.names.now) told.now.form step.0 step.1 text.items) }
+    ensures err { AreGiven F.gives_bytes files → TookWithin told.now.limits.frames (F.bytes files.wal) told.now.scan.now
+        → ¬ IsHot (F.bytes files.journal) → IfErr result (IsCommitUntold told.now.limits (bytes_of F.bytes files)
+        (texts_of told.now.selected.names.now) told.now.form step.0 step.1) }
+{
+    let (before, frame) = step;
+    let mut out = Bounded {
+        text: Vec::new(alloc),
+        most,
+    };
+    match print_commits(alloc, files, told, before, &[frame], &mut out) {
+        Ok(()) => {
+            let Bounded { text, most: _ } = out;
+            Ok(text)
+        }
+        Err(error) => Err(error),
+    }
+}
+
+/// What the first of these commits changed, in at most so many bytes. None is told in part, and none behind one that
+/// isn't told.
+fn kept_of<F: FileBytes + Copy + Drop>(
+    alloc: Global,
+    files: Files<F>,
+    told: &Told<'_>,
+    frames: &[u32],
+    most: usize,
+) -> Result<Kept, AllocError>
+    ensures { AreGiven F.gives_bytes files → TookWithin told.now.limits.frames (F.bytes files.wal) told.now.scan.now
+        → ¬ IsHot (F.bytes files.journal) → IfOk result (AreCommitsKept told.now.limits (bytes_of F.bytes files)
+        (texts_of told.now.selected.names.now) told.now.form most frames.entry.now) }
+{
+    let mut text = Vec::new(alloc);
+    let mut before = 0;
+    for frame in frames {
+        let part = match commit_told(alloc, files, told, (before, *frame), most) {
+            Ok(part) => part,
+            Err(error) => {
+                return Ok(Kept {
+                    text,
+                    ended: Ended::Stopped(*frame, error),
+                });
+            }
+        };
+        let left = most - text.len();
+        if part.len() > left {
+            return Ok(Kept {
+                text,
+                ended: Ended::Full(*frame),
+            });
+        }
+        text.extend_from_slice(&part)?;
+        before = *frame;
+    }
+    Ok(Kept {
+        text,
+        ended: Ended::Whole,
+    })
+}
+
+/// What the commits of a log of this scan changed, up to the one that ends with a frame.
+fn kept_in<F: FileBytes + Copy + Drop>(
+    alloc: Global,
+    files: Files<F>,
+    of: (Limits, Option<u32>),
+    selected: Selected<'_>,
+    scan: &Scan,
+    most: usize,
+) -> Result<Kept, Refusal>
+    ensures kept { AreGiven F.gives_bytes files → TookWithin of.0.frames (F.bytes files.wal) scan.now
+        → ¬ IsHot (F.bytes files.journal) → IfOk result (IsRangeKept of.0 (bytes_of F.bytes files)
+        (texts_of selected.entry.names.now) most of.1) }
+    ensures refused { IfErr result (λ refusal. refusal ≡ Refusal.NoMemory) }
+{
+    let (limits, to) = of;
+    let frames = match commits_between(alloc, scan, 0, to) {
+        Ok(frames) => frames,
+        Err(_) => return Err(Refusal::NoMemory),
+    };
+    let told = Told {
+        limits,
+        scan,
+        selected,
+        form: CommitForm::Json,
+    };
+    match kept_of(alloc, files, &told, &frames, most) {
+        Ok(kept) => Ok(kept),
+        Err(_) => Err(Refusal::NoMemory),
+    }
+}
+
+/// What each commit of a database's log changed against the one before it, up to the commit `at`, in at most so many
+/// bytes of JSON: of the first commits, and why not of the next one. Of the tables of these names, or of each where
+/// there is none. No commit is told in part. Nothing where no write-ahead log counts. Refused as the log is. The files
+/// are read anew for each commit.
+pub fn keep_history<F: FileBytes + Copy + Drop>(
+    alloc: Global,
+    files: Files<F>,
+    options: Options,
+    names: &[&str],
+    most: usize,
+) -> Result<Kept, Refusal>
+    ensures kept { AreGiven F.gives_bytes files → IfOk result (IsHistoryKept (limits_named options.large)
+        (bytes_of F.bytes files) (texts_of names.entry.now) most options.at) }
+    ensures refused { AreGiven F.gives_bytes files → IfErr result (IsUnreadLog
+        (limits_named options.large) (F.bytes files.wal) (F.bytes files.journal)) }
+    // Without its log the database is shown whatever the logs are.
+    ensures without { options.at ≡ Some 0 → IsOk result }
+{
+    if options.at == Some(0) {
+        return Ok(none_kept(alloc));
+    }
+    let limits = limits_of(options);
+    let found = match found_of(alloc, limits, &files) {
+        Ok(found) => found,
+        Err(refusal) => return Err(refusal),
+    };
+    let selected = Selected {
+        names,
+        needed: false,
+    };
+    match &found {
+        LogFound::Wal { scan, .. } => {
+            kept_in(alloc, files, (limits, options.at), selected, scan, most)
+        }
+        LogFound::None => Ok(none_kept(alloc)),
+        LogFound::Journal(_) => Ok(none_kept(alloc)),
+    }
+}
+
+/// What no commit changed.
+fn none_kept(alloc: Global) -> Kept
+    ensures text { result.text.items ≡ [] }
+    ensures ended { result.ended ≡ Ended.Whole }
+{
+    Kept {
+        text: Vec::new(alloc),
+        ended: Ended::Whole,
+    }
+}

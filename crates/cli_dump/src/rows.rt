@@ -1,0 +1,126 @@
+//! The rows of a database as its log has them.
+ghost use Rattle.std.specs.Prelude.{◌≡◌, IfErr, IfOk, None, OnOk, Some};
+ghost use Rattle.cli_show.specs.Contents.{AreGiven};
+ghost use Rattle.cli_show.specs.Fronts.{IsAskedFront};
+ghost use Rattle.cli_dump.specs.Rows.{ArePrinted, AreRowsShown, AreStopped, form_named};
+ghost use Rattle.cli_show.specs.Views.{IsUnasked};
+
+use cli_facts::{Front, Refusal};
+use cli_row_text::Form;
+use cli_show::{Contents, limits_of, view_of};
+use cli_show_rows::{Stop, print_named, print_tables};
+use cli_words::{Options, RowForm};
+use sqpage::PageSource;
+use sqview::FileBytes;
+use std::alloc::Global;
+use std::io::Write;
+
+/// Which rows are printed, and how.
+#[derive(Clone, Copy, Debug)]
+pub struct Wanted<'a> {
+    /// The name of the table. None: each table.
+    pub table: Option<&'a str>,
+    pub form: RowForm,
+}
+
+/// The front of the log that was read, if a frame of one counts, and why not all rows were printed.
+#[derive(Debug, Drop)]
+pub struct Printed {
+    pub front: Option<Front>,
+    pub ended: Result<(), Stop>,
+}
+
+/// The form of lines that is asked for.
+fn form_of(form: RowForm) -> Form
+    ensures { result ≡ form_named form }
+{
+    match form {
+        RowForm::Json => Form::Json,
+        RowForm::Csv => Form::Csv,
+        RowForm::Sql => Form::Sql,
+    }
+}
+
+/// Prints the rows of a table of this name. A database without pages has none.
+fn print_table<S: PageSource, W: Write>(
+    alloc: Global,
+    source: &mut S,
+    name: &str,
+    form: Form,
+    out: &mut W,
+) -> Result<(), Stop>
+    ensures ok { S.gives_pages source.old → OnOk result (ArePrinted (S.pages source.old) (Some name.entry) form
+        (W.contents out.old) (W.contents out.new)) }
+    ensures err { S.gives_pages source.old → IfErr result (λ stop. AreStopped (S.pages source.old) (Some name.entry)
+        form stop (W.contents out.old) (W.contents out.new)) }
+{
+    if source.count() == 0 {
+        return Err(Stop::NoSuchTable);
+    }
+    print_named(alloc, source, name.as_bytes(), form, out)
+}
+
+/// Prints the rows of each table.
+fn print_all<S: PageSource, W: Write>(
+    alloc: Global,
+    source: &mut S,
+    form: Form,
+    out: &mut W,
+) -> Result<(), Stop>
+    ensures ok { S.gives_pages source.old → OnOk result (ArePrinted (S.pages source.old) None form
+        (W.contents out.old) (W.contents out.new)) }
+    ensures err { S.gives_pages source.old → IfErr result (λ stop. AreStopped (S.pages source.old) None form stop
+        (W.contents out.old) (W.contents out.new)) }
+{
+    if source.count() == 0 {
+        return Ok(());
+    }
+    print_tables(alloc, source, form, out)
+}
+
+/// Prints the rows that are wanted.
+fn print_wanted<S: PageSource, W: Write>(
+    alloc: Global,
+    source: &mut S,
+    wanted: Wanted<'_>,
+    out: &mut W,
+) -> Result<(), Stop>
+    ensures ok { S.gives_pages source.old → OnOk result (ArePrinted (S.pages source.old) wanted.entry.table
+        (form_named wanted.entry.form) (W.contents out.old) (W.contents out.new)) }
+    ensures err { S.gives_pages source.old → IfErr result (λ stop. AreStopped (S.pages source.old) wanted.entry.table
+        (form_named wanted.entry.form) stop (W.contents out.old) (W.contents out.new)) }
+{
+    let form = form_of(wanted.form);
+    match wanted.table {
+        Some(name) => print_table(alloc, source, name, form, out),
+        None => print_all(alloc, source, form, out),
+    }
+}
+
+/// Prints the rows of a database as its log has them. Refused as the view is; where the rows aren't printed to their
+/// end, those before stand.
+pub fn show_rows<F: FileBytes + Drop, W: Write>(
+    alloc: Global,
+    files: Contents<F>,
+    options: Options,
+    wanted: Wanted<'_>,
+    out: &mut W,
+) -> Result<Printed, Refusal>
+    ensures front { AreGiven F.gives_bytes files → IfOk result (λ printed.
+        IsAskedFront options.at (F.bytes files.wal) (F.bytes files.journal) printed.front) }
+    ensures shown { AreGiven F.gives_bytes files → IfOk result (λ printed. AreRowsShown options wanted.entry
+        (F.bytes files.db) (F.bytes files.wal) (F.bytes files.journal) (W.contents out.old) (W.contents out.new)
+        printed.ended) }
+    ensures refused { AreGiven F.gives_bytes files → IfErr result
+        (IsUnasked options (F.bytes files.db) (F.bytes files.wal) (F.bytes files.journal)) }
+{
+    let Contents { db, wal, journal } = files;
+    match view_of(alloc, limits_of(options), db, wal, journal, options.at) {
+        Ok(mut view) => {
+            let front = Front::of_view(&view);
+            let ended = print_wanted(alloc, &mut view, wanted, out);
+            Ok(Printed { front, ended })
+        }
+        Err(error) => Err(Refusal::from(error)),
+    }
+}

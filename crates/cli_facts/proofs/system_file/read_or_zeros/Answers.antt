@@ -1,0 +1,14 @@
+use Rattle.std.proofs.Common.{refl, ◌∙◌, ap, length, ℕ, replicate, arith}
+use Rattle.sqview.specs.Laid.{part_or_zeros}
+use Rattle.cli_facts.proofs.ZerosBehind.{filled_part, rest_long}
+use Rattle.cli_facts.proofs.system_file.read_or_zeros.Goals as goal
+
+pub returns-clause-read : goal.returns-clause-read
+returns-clause-read g c word =
+    let file = g.F.SystemFile.bytes c.args.file.now in
+    let out = c.read_up_to.new.out in
+    let read = c.in_ok-count.ensures in
+    let long = c.read_up_to.auto.out in
+    filled_part file out c.fill.new.self c.args.at c.in_ok-count.count (length out) refl (omega (arith, read.bound, long)) (read.read word)
+    (λ lt. read.end word (omega (arith, lt, long))) (c.fill.ensures.after (λ y e. e) ∙ ap (λ (n : ℕ). replicate n 0) (rest_long out c.in_ok-count.count))
+    ∙ ap (λ (n : ℕ). part_or_zeros n c.args.at file) long

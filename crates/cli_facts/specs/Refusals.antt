@@ -1,0 +1,13 @@
+-- Which refusal each error becomes.
+use Rattle.cli_facts.specs.declared.outcome.Refusal.{Refusal}
+use Rattle.cli_facts.specs.declared.outcome.Refusal.TheVariants.{FileFailed, TooLarge, TwoLogs, NotADatabase, NoSuchCommit, NoMemory}
+use Rattle.sqview.specs.declared.view_error.ViewError.{ViewError}
+use Rattle.sqview.specs.declared.view_error.ViewError.TheVariants as views
+
+abbrev pub refusal_of : ViewError → Refusal
+refusal_of views.TwoLogs = TwoLogs
+refusal_of views.TooLarge = TooLarge
+refusal_of (views.Header fault) = NotADatabase
+refusal_of views.Unread = FileFailed
+refusal_of views.NoMemory = NoMemory
+refusal_of views.NoSuchCommit = NoSuchCommit

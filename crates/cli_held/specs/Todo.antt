@@ -1,0 +1,42 @@
+-- What is to be done with a command line (own).
+use Rattle.std.specs.Prelude.{◌≡◌, ◌≢◌, ◌⊎◌, ℕ, Bool, true, false, IsTrue, List, map, codes, slice_get, Option, Some, None, suc, ◌++◌}
+use Rattle.std.specs.Borrow.{Bor}
+use Rattle.std.specs.List.{Contains}
+use Rattle.cli_words.specs.Line.{IsNamed, IsNumber}
+use Rattle.cli_held.specs.declared.fdinfo.Held.{Held}
+use Rattle.cli_held.specs.declared.fdinfo.Held.TheVariants as held
+use Rattle.cli_held.specs.declared.line.Hidden.{Hidden}
+use Rattle.cli_held.specs.declared.line.Hidden.TheVariants as hidden
+use Rattle.cli_held.specs.declared.line.Line.{Line}
+use Rattle.cli_held.specs.declared.todo.Locks.{Locks}
+use Rattle.cli_held.specs.declared.todo.Locks.TheVariants as locks
+use Rattle.cli_held.specs.declared.todo.Todo.{Todo}
+use Rattle.cli_held.specs.declared.todo.Todo.TheVariants.{Run, Tell, Refuse}
+
+abbrev pub texts : List (Bor (List ℕ)) → List (List ℕ)
+texts words = map (λ w. w.now) words
+
+-- none of the words is one that says how locks are taken
+abbrev pub SaysNothing : (words : List (List ℕ)) → Type 0
+SaysNothing words = (word : List ℕ) → Contains words word → (word ≢ codes "--no-lock") × (¬ IsNamed (codes "--wait") word)
+
+-- what the second and the third word say of whoever starts the program
+abbrev pub IsHidden : (words : List (List ℕ)) → Option Hidden → Type 0
+IsHidden words None = (word : List ℕ) → slice_get words 2 ≡ Some word → (slice_get words 1 ≢ Some (codes "--locks")) × (slice_get words 1 ≢ Some (codes "--held")) × (slice_get words 1 ≢ Some (codes "--refused"))
+IsHidden words (Some hidden.Locks) = slice_get words 1 ≡ Some (codes "--locks")
+IsHidden words (Some (hidden.Held numbers)) = (slice_get words 1 ≡ Some (codes "--held")) × (slice_get words 2 ≡ Some numbers.now)
+IsHidden words (Some (hidden.Refused why)) = (slice_get words 1 ≡ Some (codes "--refused")) × (slice_get words 2 ≡ Some why.now)
+
+-- words that say nothing of locks, nor anything before the command, are left as they are
+abbrev pub IsPlainLine : (words : List (List ℕ)) → Line → Type 0
+IsPlainLine words line = line.hidden ≡ None → SaysNothing words → (texts line.words.items ≡ words) × (line.wait ≡ None) × (line.is_unlocked ≡ false)
+
+-- a recovery asks nobody: that was said, or no locks were wanted, or SQLite's own are held that keep all others off
+abbrev pub MayAskNobody : (words : List (List ℕ)) → Locks → Type 0
+MayAskNobody words under = Contains words (codes "--force") ⊎ Contains words (codes "--no-lock") ⊎ (under ≡ locks.Held held.Everything)
+
+-- Words are carried out as ones that ask nobody only where they may be; locks are held only where some are.
+abbrev pub IsPrepared : (words : List (List ℕ)) → Todo → Type 0
+IsPrepared words (Run done under wait) = (Contains (texts done.items) (codes "--force") → MayAskNobody words under) × (under ≢ locks.Held held.Nothing)
+IsPrepared words (Tell line) = slice_get words 1 ≡ Some (codes "--locks")
+IsPrepared words (Refuse done why) = slice_get words 1 ≡ Some (codes "--refused")

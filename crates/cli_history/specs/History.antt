@@ -1,0 +1,72 @@
+-- The changes of commits, one behind the other, as they are printed (own).
+use Rattle.std.specs.Prelude.{◌≡◌, ◌⊎◌, ℕ, List, [], ◌∷◌, ◌++◌, codes, take, slice_get, Option, Some}
+use Rattle.std.specs.Fmt.{decimal}
+use Rattle.std.specs.Io.KnownBytes.{Appends}
+use Rattle.sqval.specs.Database.{Database}
+use Rattle.sqval.specs.Limits.{Bounds}
+use Rattle.sqview.specs.At.{AtRefusedWithin, ViewsAt}
+use Rattle.cli_show_rows.specs.Stops.{IsWriteError}
+use Rattle.cli_show_diff.specs.declared.form.ChangeForm.{ChangeForm}
+use Rattle.cli_show_diff.specs.declared.form.ChangeForm.TheVariants as changes
+use Rattle.cli_show_diff.specs.Changes.{AreChangesPrinted, AreChangesStopped}
+use Rattle.cli_history.specs.declared.commits.CommitForm.{CommitForm}
+use Rattle.cli_history.specs.declared.commits.CommitForm.TheVariants.{Lines, Json}
+use Rattle.cli_history.specs.declared.error.HistoryError.{HistoryError}
+use Rattle.cli_history.specs.declared.error.HistoryError.TheVariants.{View, Stop}
+use Rattle.cli_history.specs.declared.files.Files.{Files}
+
+-- each of the three files is given, and their bytes
+abbrev pub AreGiven : {F : Type 0} → (gives : F → Type 0) → Files F → Type 0
+AreGiven gives files = gives files.db × gives files.wal × gives files.journal
+
+abbrev pub bytes_of : {F : Type 0} → (bytes : F → List ℕ) → Files F → Files (List ℕ)
+bytes_of bytes files = record { db = bytes files.db; wal = bytes files.wal; journal = bytes files.journal }
+
+-- the database at a commit, of pages of this size
+abbrev pub ShowsAt : Files (List ℕ) → (frame size : ℕ) → Database → Type 0
+ShowsAt files frame size d = ViewsAt frame size files.db files.wal files.journal d
+
+-- the line of a commit, and the form of its changes
+abbrev pub mark_text : CommitForm → (frame : ℕ) → List ℕ
+mark_text Lines frame = codes "commit frame " ++ (decimal frame ++ codes "\n")
+mark_text Json frame = []
+
+abbrev pub form_named : CommitForm → (frame : ℕ) → ChangeForm
+form_named Lines frame = changes.Lines
+form_named Json frame = changes.Json (Some frame)
+
+-- The changes of a commit were printed: those between the database at the commit before it and its own.
+abbrev pub IsCommitPrinted : Files (List ℕ) → (names : List (List ℕ)) → CommitForm → (before frame : ℕ) → (old new : Option (List ℕ)) → Type 0
+IsCommitPrinted files names form before frame old new =
+    (d_size e_size : ℕ) × (d e : Database) × ShowsAt files before d_size d × ShowsAt files frame e_size e
+    × ((mid : Option (List ℕ)) × Appends old mid (mark_text form frame) × AreChangesPrinted d e names (form_named form frame) mid new)
+
+-- They weren't: one of both databases isn't shown, the writer failed, or the printing stopped.
+abbrev pub IsCommitStopped : (limits : Bounds) → Files (List ℕ) → (names : List (List ℕ)) → CommitForm → (before frame : ℕ) → HistoryError
+    → (old new : Option (List ℕ)) → Type 0
+IsCommitStopped limits files names form before frame (View error) old new =
+    (AtRefusedWithin limits before files.db files.wal files.journal error ⊎ AtRefusedWithin limits frame files.db files.wal files.journal error)
+    × (old ≡ new)
+IsCommitStopped limits files names form before frame (Stop stop) old new =
+    IsWriteError stop
+    ⊎ ((d_size e_size : ℕ) × (d e : Database) × ShowsAt files before d_size d × ShowsAt files frame e_size e
+    × ((mid : Option (List ℕ)) × Appends old mid (mark_text form frame) × AreChangesStopped d e names (form_named form frame) stop mid new))
+
+-- The changes of these commits were, each against the one before it.
+abbrev pub AreCommitsPrinted : Files (List ℕ) → (names : List (List ℕ)) → CommitForm → (from : ℕ) → (frames : List ℕ) → (old new : Option (List ℕ)) → Type 0
+AreCommitsPrinted files names form from [] old new = old ≡ new
+AreCommitsPrinted files names form from (frame ∷ frames) old new =
+    (mid : Option (List ℕ)) × IsCommitPrinted files names form from frame old mid × AreCommitsPrinted files names form frame frames mid new
+
+-- the last of these commits, or the one before all
+abbrev pub last_of : (from : ℕ) → (frames : List ℕ) → ℕ
+last_of from [] = from
+last_of from (frame ∷ frames) = last_of frame frames
+
+-- They were up to commit i, at which the printing stopped.
+abbrev pub AreCommitsStopped : (limits : Bounds) → Files (List ℕ) → (names : List (List ℕ)) → CommitForm → (from : ℕ) → (frames : List ℕ) → HistoryError
+    → (old new : Option (List ℕ)) → Type 0
+AreCommitsStopped limits files names form from frames error old new =
+    (i : ℕ) × (frame : ℕ) × (mid : Option (List ℕ)) × (slice_get frames i ≡ Some frame)
+    × AreCommitsPrinted files names form from (take i frames) old mid
+    × IsCommitStopped limits files names form (last_of from (take i frames)) frame error mid new

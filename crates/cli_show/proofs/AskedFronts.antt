@@ -1,0 +1,100 @@
+-- The front of a view that is asked for, and of a log.
+use Rattle.std.proofs.Common.{◌≡◌, ◌⊎◌, ⊎_elim, ℕ, List, [], length, sym, ◌∙◌, ap, subst, arith}
+use Rattle.std.specs.Prelude.{Option, None, Some, Ok}
+use Rattle.sqval.specs.Limits.{Bounds}
+use Rattle.sqwal.specs.Frames.{IsFront}
+use Rattle.sqwal.specs.Header.{named_size, IsHeader, HeaderRefused}
+use Rattle.sqwal.specs.declared.error.WalFormatError.{WalFormatError}
+use Rattle.sqwal.specs.declared.error.WalFormatError.TheVariants.{NotAWal, PageSize, HeaderSum, UnknownVersion, TooLong, NoMemory}
+use Rattle.sqjournal.specs.Journal.{IsHot}
+use Rattle.sqjournal.specs.declared.replay.Replay.{Replay}
+use Rattle.sqview.specs.LogView.{IsLogged, pages_of}
+use Rattle.sqview.specs.declared.view.View.{View}
+use Rattle.cli_facts.specs.Fronts.{IsFrontOf, IsLogFront}
+use Rattle.cli_facts.specs.declared.fronts.Front.{Front}
+use Rattle.cli_show.specs.Fronts.{IsShownFront, IsAskedFront}
+use Rattle.cli_show.specs.internal.LogsShown.{IsShownLog}
+use Rattle.sqview.specs.declared.view_error.ViewError.TheVariants.{Unread}
+use Rattle.cli_show.specs.Views.{AskedAnswer, AskedRefused, AskedShows}
+use Rattle.cli_show.specs.declared.logs.Shown.{Shown}
+use Rattle.cli_show.specs.declared.logs.Shown.TheVariants.{Neither, Refused, Journal}
+
+-- no frame counts beside a front of 0
+unlogged : (wal journal : List ℕ) → IsFront (named_size wal) wal 0 → (m : ℕ) → ¬ IsLogged wal journal m
+unlogged wal journal none m logged = ⊎_elim
+    (λ zero. omega (arith, logged.some, zero))
+    (λ front. omega (arith, logged.some, none.greatest m front.0 front.1)) logged.is.is
+
+-- the front of a log that counts
+pub log_shown : (wal journal : List ℕ) (o : Option Front) → (¬ IsHot journal) → IsLogFront wal o → IsShownFront wal journal o
+log_shown wal journal None cold none = (unlogged wal journal none, λ two. cold two.0)
+log_shown wal journal (Some front) cold found = (record { cold = cold; some = omega (arith, found.0); is = found.1 }, found.2)
+
+-- beside a hot journal
+pub hot_shown : (wal journal : List ℕ) → IsHot journal → wal ≡ [] → IsShownFront wal journal None
+hot_shown wal journal hot bare = (λ m logged. logged.cold hot, λ two. two.1 bare)
+
+-- a log with a front has a header
+logged_header : (wal journal : List ℕ) (m : ℕ) → IsLogged wal journal m → IsHeader (named_size wal) wal
+logged_header wal journal m logged = ⊎_elim
+    (λ zero. absurd (omega (arith, logged.some, zero)))
+    (λ front. (front.0.each m front.0.first (omega arith)).header) logged.is.is
+
+-- where there is none
+pub headless_shown : (wal journal : List ℕ) → (¬ IsHot journal) → (¬ IsHeader (named_size wal) wal) → IsShownFront wal journal None
+headless_shown wal journal cold none = (λ m logged. none (logged_header wal journal m logged), λ two. cold two.0)
+
+pub empty_headless : (wal : List ℕ) → wal ≡ [] → ¬ IsHeader (named_size wal) wal
+empty_headless wal empty header = omega (arith, header.whole, ap length empty)
+
+pub refused_headless : (wal : List ℕ) (error : WalFormatError) → HeaderRefused wal error → ¬ IsHeader (named_size wal) wal
+refused_headless wal NotAWal refused header = refused header.magic
+refused_headless wal PageSize refused header = refused.1 header.is_size
+refused_headless wal HeaderSum refused header = refused.2 header.sums
+refused_headless wal UnknownVersion refused header = refused.3 header.version
+refused_headless wal TooLong refused header = refused
+refused_headless wal NoMemory refused header = refused
+
+-- where no scan was shown
+pub none_shown : (limits : Bounds) (wal journal : List ℕ) (shown : Shown) → (shown ≡ Neither) ⊎ ((shown ≡ Refused) ⊎ ((replay : Replay) × (shown ≡ Journal replay))) → IsShownLog limits wal journal shown → IsShownFront wal journal None
+none_shown limits wal journal shown which is = ⊎_elim
+    (λ neither. let s = subst (λ (x : Shown). IsShownLog limits wal journal x) neither is in headless_shown wal journal s.0 (empty_headless wal s.1))
+    (λ rest. ⊎_elim
+    (λ refused. let s = subst (λ (x : Shown). IsShownLog limits wal journal x) refused is in headless_shown wal journal s.0 (refused_headless wal s.1.0 s.1.1.1))
+    (λ hot. let s = subst (λ (x : Shown). IsShownLog limits wal journal x) hot.1 is in hot_shown wal journal s.0 s.2) rest) which
+
+-- files that are given are read
+pub asked_read : (limits : Bounds) (at : Option ℕ) (db wal journal : List ℕ) → AskedRefused limits at db wal journal Unread → ⊥
+asked_read limits None db wal journal unread = unread
+asked_read limits (Some m) db wal journal unread = unread
+
+module _ {F : Type 0} (limits : Bounds) (bytes : F → List ℕ) (db wal journal : List ℕ) (v : View F) where
+  shown_front : (o : Option Front) → AskedAnswer limits bytes None db wal journal (Ok v) → IsFrontOf v.front v.page_size o → IsShownFront wal journal o
+  shown_front None answer zero = (
+    λ m logged. ⊎_elim
+        (λ (here : IsLogged wal journal v.front). omega (arith, here.some, zero))
+        (λ none. none.1 m logged) answer.stands,
+    answer.one,
+  )
+  shown_front (Some front) answer at = ⊎_elim
+      (λ (here : IsLogged wal journal v.front). (
+        subst (λ (n : ℕ). IsLogged wal journal n) (sym at.1) here,
+        at.2 ∙ ⊎_elim
+            (λ hot. absurd (here.cold hot.0))
+            (λ rest. ⊎_elim
+            (λ logged. logged.2)
+            (λ alone. absurd (omega (arith, here.some, unlogged wal journal alone.0.none v.front here))) rest) answer.shows,
+      ))
+      (λ none. absurd (at.0 none.0)) answer.stands
+
+  pub front_asked : (at : Option ℕ) (o : Option Front) → AskedAnswer limits bytes at db wal journal (Ok v) → IsFrontOf v.front v.page_size o → IsAskedFront at wal journal o
+  front_asked None o answer is = shown_front o answer is
+  front_asked (Some m) None answer zero = sym answer.stands ∙ zero
+  front_asked (Some m) (Some front) answer at = ⊎_elim
+      (λ own. absurd (at.0 (answer.stands ∙ own.0)))
+      (λ commit. (at.1 ∙ answer.stands, commit.0, at.2 ∙ commit.1)) answer.shows
+
+  -- its pages are those of the database that is asked for
+  pub shows_asked : (at : Option ℕ) → AskedAnswer limits bytes at db wal journal (Ok v) → AskedShows at v.page_size db wal journal (pages_of bytes v)
+  shows_asked None answer = answer.shows
+  shows_asked (Some m) answer = answer.shows

@@ -1,0 +1,135 @@
+-- What is found of the view that is asked for is found of the files.
+use Rattle.std.proofs.Common.{◌≡◌, ◌⊎◌, ℕ, List, Bool, inl, inr, refl, sym, ap, subst}
+use Rattle.std.specs.Prelude.{Option, None, Some, Result, Ok, Err, IfOk, IfErr}
+use Rattle.sqval.specs.Limits.{Bounds}
+use Rattle.sqview.specs.LogView.{pages_of}
+use Rattle.sqview.specs.Verdicts.{IsVerdictWith, IsUnjudgedWith, verdict_without}
+use Rattle.sqview.specs.declared.judge_error.JudgeError.{JudgeError}
+use Rattle.sqview.specs.declared.judge_error.JudgeError.TheVariants as judgments
+use Rattle.sqview.specs.declared.verdict.Verdict.{Verdict}
+use Rattle.sqview.specs.declared.verdict.Verdict.TheVariants.{Damaged}
+use Rattle.sqview.specs.declared.view.View.{View}
+use Rattle.sqview.specs.declared.view_error.ViewError.{ViewError}
+use Rattle.sqview.specs.declared.view_error.ViewError.TheVariants as views
+use Rattle.sqview.proofs.judgments.VerdictOnFiles.{of_files, of_files_at}
+use Rattle.cli_facts.specs.Fronts.{IsFrontOf}
+use Rattle.cli_facts.specs.internal.Refusals.{refusal_of_judge}
+use Rattle.cli_facts.specs.declared.fronts.Front.{Front}
+use Rattle.cli_facts.specs.declared.outcome.Refusal.{Refusal}
+use Rattle.cli_show.specs.Fronts.{IsAskedFront}
+use Rattle.cli_show.specs.Views.{AskedAnswer, AskedRefused, IsFound, IsHeadless, IsNotFound}
+use Rattle.cli_show.specs.declared.views.Finding.{Finding}
+use Rattle.cli_show.proofs.AskedFronts.{asked_read, front_asked, shows_asked}
+
+-- what was found, beside this front
+IsFinding : (front : Option Front) → Result Verdict JudgeError → Finding → Type 0
+IsFinding front q finding = (q ≡ Ok finding.verdict) × (finding.front ≡ front)
+
+-- or why nothing was
+IsNoFinding : Result Verdict JudgeError → Refusal → Type 0
+IsNoFinding q refusal = (error : JudgeError) × (q ≡ Err error) × (refusal ≡ refusal_of_judge error)
+
+found_by : (P : Verdict → Type 0) (front : Option Front) (q : Result Verdict JudgeError) (r : Result Finding Refusal)
+    → IfOk r (λ x. (q ≡ Ok x.verdict) × (x.front ≡ front)) → IfOk q P → IfOk r (λ x. P x.verdict)
+found_by P front q (Ok x) is found = subst (λ (o : Result Verdict JudgeError). IfOk o P) is.0 found
+found_by P front q (Err e) is found = tt
+
+front_by : (Q : Option Front → Verdict → Type 0) (front : Option Front) (q : Result Verdict JudgeError) (r : Result Finding Refusal)
+    → IfOk r (λ x. (q ≡ Ok x.verdict) × (x.front ≡ front)) → IfOk q (Q front) → IfOk r (λ x. Q x.front x.verdict)
+front_by Q front q (Ok x) is found =
+    subst (λ (f : Option Front). Q f x.verdict) (sym is.1) (subst (λ (o : Result Verdict JudgeError). IfOk o (Q front)) is.0 found)
+front_by Q front q (Err e) is found = tt
+
+refused_by : (P : Refusal → Type 0) (q : Result Verdict JudgeError) (r : Result Finding Refusal)
+    → IfErr r (λ x. (error : JudgeError) × (q ≡ Err error) × (x ≡ refusal_of_judge error)) → IfErr q (λ e. P (refusal_of_judge e)) → IfErr r P
+refused_by P q (Ok x) is refused = tt
+refused_by P q (Err e) is refused =
+    subst P (sym is.2) (subst (λ (o : Result Verdict JudgeError). IfErr o (λ e. P (refusal_of_judge e))) is.1 refused)
+
+all_ok : (P : Verdict → Type 0) (q : Result Verdict JudgeError) → ((x : Verdict) → P x) → IfOk q P
+all_ok P (Ok x) all = all x
+all_ok P (Err e) all = tt
+
+module _ {F : Type 0} (maps : Bool) (limits : Bounds) (bytes : F → List ℕ) (db wal journal : List ℕ) where
+  found_of : (at : Option ℕ) (v : View F) (r : Result Verdict JudgeError) → AskedAnswer limits bytes at db wal journal (Ok v) → IfOk r (IsVerdictWith maps bytes v) → IfOk r (IsFound maps limits at db wal journal)
+  found_of None v r shown finds = of_files limits bytes db wal journal v maps r shown finds
+  found_of (Some m) v r shown finds = of_files_at limits bytes db wal journal v maps m r shown finds
+
+  unjudged_of : (at : Option ℕ) (v : View F) (q : Result Verdict JudgeError) → AskedAnswer limits bytes at db wal journal (Ok v) → IfErr q (IsUnjudgedWith maps (pages_of bytes v))
+      → IfErr q (λ e. IsNotFound maps limits at db wal journal (refusal_of_judge e))
+  unjudged_of at v (Ok verdict) shown refused = tt
+  unjudged_of at v (Err judgments.AutoVacuum) shown refused = (v.page_size, pages_of bytes v, shows_asked limits bytes db wal journal v at shown, refused)
+  unjudged_of at v (Err judgments.NoMemory) shown refused = tt
+  unjudged_of at v (Err judgments.TwoLogs) shown refused = absurd refused
+  unjudged_of at v (Err judgments.TooLarge) shown refused = absurd refused
+  unjudged_of at v (Err judgments.Unread) shown refused = absurd refused
+  unjudged_of at v (Err judgments.NoSuchCommit) shown refused = absurd refused
+
+  -- of a view
+  module _ (at : Option ℕ) (v : View F) (front : Option Front) (q : Result Verdict JudgeError) (r : Result Finding Refusal) (shown : AskedAnswer limits bytes at db wal journal (Ok v)) where
+    pub view_found : IfOk r (λ x. (q ≡ Ok x.verdict) × (x.front ≡ front)) → IfOk q (IsVerdictWith maps bytes v) → IfOk r (λ x. IsFound maps limits at db wal journal x.verdict)
+    view_found is finds = found_by (IsFound maps limits at db wal journal) front q r is (found_of at v q shown finds)
+
+    pub view_front : IfOk r (λ x. (q ≡ Ok x.verdict) × (x.front ≡ front)) → IsFrontOf v.front v.page_size front
+        → IfOk r (λ x. IsAskedFront at wal journal x.front ⊎ ((x.front ≡ None) × IsHeadless limits at db wal journal x.verdict))
+    view_front is stands =
+        front_by (λ f verdict. IsAskedFront at wal journal f ⊎ ((f ≡ None) × IsHeadless limits at db wal journal verdict)) front q r is
+        (all_ok (λ verdict. IsAskedFront at wal journal front ⊎ ((front ≡ None) × IsHeadless limits at db wal journal verdict)) q
+        (λ verdict. inl (front_asked limits bytes db wal journal v at front shown stands)))
+
+    pub view_refused : IfErr r (λ x. (error : JudgeError) × (q ≡ Err error) × (x ≡ refusal_of_judge error)) → IfErr q (IsUnjudgedWith maps (pages_of bytes v))
+        → IfErr r (IsNotFound maps limits at db wal journal)
+    view_refused is refused = refused_by (IsNotFound maps limits at db wal journal) q r is (unjudged_of at v q shown refused)
+
+-- where there is no view
+module _ (maps : Bool) (limits : Bounds) (at : Option ℕ) (db wal journal : List ℕ) where
+  headed : (fault : _) → AskedRefused limits at db wal journal (views.Header fault) → IsHeadless limits at db wal journal (Damaged (record { page = 1; fault = fault }))
+  headed fault refused = elim at as (λ (o : Option ℕ). AskedRefused limits o db wal journal (views.Header fault) → IsHeadless limits o db wal journal (Damaged (record { page = 1; fault = fault }))) [
+    | None ↦ (λ is. (refl, is))
+    | Some m ↦ (λ is. (refl, is))
+  ] refused
+
+  headless : (error : ViewError) → AskedRefused limits at db wal journal error → IfOk (verdict_without error) (IsHeadless limits at db wal journal)
+  headless (views.Header fault) refused = headed fault refused
+  headless views.TwoLogs refused = tt
+  headless views.TooLarge refused = tt
+  headless views.Unread refused = tt
+  headless views.NoMemory refused = tt
+  headless views.NoSuchCommit refused = tt
+
+  unviewed : (error : ViewError) → AskedRefused limits at db wal journal error → IfErr (verdict_without error) (λ e. IsNotFound maps limits at db wal journal (refusal_of_judge e))
+  unviewed (views.Header fault) refused = tt
+  unviewed views.TwoLogs refused = refused
+  unviewed views.TooLarge refused = refused
+  unviewed views.Unread refused = absurd (asked_read limits at db wal journal refused)
+  unviewed views.NoMemory refused = tt
+  unviewed views.NoSuchCommit refused = refused
+
+  of_headless : (o : Option ℕ) (verdict : Verdict) → IsHeadless limits o db wal journal verdict → IsFound maps limits o db wal journal verdict
+  of_headless None verdict is = inr is
+  of_headless (Some m) verdict is = inr is
+
+  weaker : (q : Result Verdict JudgeError) → IfOk q (IsHeadless limits at db wal journal) → IfOk q (IsFound maps limits at db wal journal)
+  weaker (Ok verdict) is = of_headless at verdict is
+  weaker (Err e) is = tt
+
+  beside : (q : Result Verdict JudgeError) → IfOk q (IsHeadless limits at db wal journal)
+      → IfOk q (λ verdict. IsAskedFront at wal journal None ⊎ (Rattle.std.proofs.Common.◌≡◌ {A = Option Front} None None × IsHeadless limits at db wal journal verdict))
+  beside (Ok verdict) is = inr (refl, is)
+  beside (Err e) is = tt
+
+  module _ (error : ViewError) (q : Result Verdict JudgeError) (r : Result Finding Refusal) (refused : AskedRefused limits at db wal journal error) (same : q ≡ verdict_without error) where
+    here : IfOk q (IsHeadless limits at db wal journal)
+    here = subst (λ (o : Result Verdict JudgeError). IfOk o (IsHeadless limits at db wal journal)) (sym same) (headless error refused)
+
+    pub none_found : IfOk r (λ x. (q ≡ Ok x.verdict) × (x.front ≡ None)) → IfOk r (λ x. IsFound maps limits at db wal journal x.verdict)
+    none_found is = found_by (IsFound maps limits at db wal journal) None q r is (weaker q here)
+
+    pub none_front : IfOk r (λ x. (q ≡ Ok x.verdict) × (x.front ≡ None))
+        → IfOk r (λ x. IsAskedFront at wal journal x.front ⊎ ((x.front ≡ None) × IsHeadless limits at db wal journal x.verdict))
+    none_front is =
+        front_by (λ f verdict. IsAskedFront at wal journal f ⊎ ((f ≡ None) × IsHeadless limits at db wal journal verdict)) None q r is (beside q here)
+
+    pub none_refused : IfErr r (λ x. (error : JudgeError) × (q ≡ Err error) × (x ≡ refusal_of_judge error)) → IfErr r (IsNotFound maps limits at db wal journal)
+    none_refused is = refused_by (IsNotFound maps limits at db wal journal) q r is
+        (subst (λ (o : Result Verdict JudgeError). IfErr o (λ e. IsNotFound maps limits at db wal journal (refusal_of_judge e))) (sym same) (unviewed error refused))

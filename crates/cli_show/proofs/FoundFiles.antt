@@ -1,0 +1,90 @@
+-- What is found of files, by what is found in their view.
+use Rattle.std.proofs.Common.{◌≡◌, Bool, ℕ, ◌≤◌, List, [], length, refl, sym, subst, inl, inr}
+use Rattle.std.specs.Prelude.{Option, None, Some, Result, Ok, Err, IfOk, IfErr}
+use Rattle.sqval.specs.Limits.{Bounds}
+use Rattle.sqjournal.specs.Journal.{IsHot}
+use Rattle.sqview.specs.At.{ViewsAt}
+use Rattle.sqview.specs.LogView.{Views, StandsAt, IsAlone, pages_of}
+use Rattle.sqview.specs.Origins.{AreFramePlaces, AreJournalPlaces}
+use Rattle.sqview.specs.Shapes.{Shape, shape_of}
+use Rattle.sqview.specs.declared.view.View.{View}
+use Rattle.sqview.specs.declared.view_error.ViewError.{ViewError}
+use Rattle.sqview.specs.declared.view_error.ViewError.TheVariants as views
+use Rattle.cli_facts.specs.declared.outcome.Refusal.{Refusal}
+use Rattle.cli_facts.specs.declared.outcome.Refusal.TheVariants.{AutoVacuum, NoSuchPage, NoMemory}
+use Rattle.cli_show.specs.Found.{IsFoundOf, IsUnfound}
+use Rattle.cli_show.specs.internal.Found.{found_without, pages_in, IsFoundIn, IsUnfoundIn}
+use Rattle.cli_show.specs.Pages.{IsSurveyed}
+use Rattle.cli_show.specs.Records.{AreRecordsOf}
+use Rattle.cli_show.specs.Views.{AskedAnswer, AskedRefused}
+use Rattle.cli_show.specs.declared.contents.Contents.{Contents}
+use Rattle.cli_show.specs.declared.records.Records.{Records}
+use Rattle.cli_show.specs.declared.surveys.Found.{Found}
+use Rattle.cli_show.specs.declared.surveys.Found.TheVariants.{Pages, Nothing}
+use Rattle.cli_show.proofs.AskedFronts.{asked_read, shows_asked}
+
+module _ {F : Type 0} (limits : Bounds) (bytes : F → List ℕ) (db wal journal : List ℕ) (v now : View F) (same : shape_of bytes now ≡ shape_of bytes v) where
+  -- a view that shows the same is the one that is asked for, too
+  same_view : (at : Option ℕ) → AskedAnswer limits bytes at db wal journal (Ok v) → AskedAnswer limits bytes at db wal journal (Ok now)
+  same_view None is = record {
+    shows = subst (λ (s : Shape). Views s.page_size db wal journal (pages_in s)) (sym same) is.shows;
+    one = is.one;
+    short = is.short;
+    within = is.within;
+    headed = is.headed;
+    stands = subst (λ (s : Shape). StandsAt wal journal s.front) (sym same) is.stands;
+    unplaced = subst (λ (s : Shape). IsAlone wal journal → s.places ≡ []) (sym same) is.unplaced;
+    placed = subst (λ (s : Shape). (¬ IsAlone wal journal) → length s.places ≡ s.count) (sym same) is.placed;
+    framed = subst (λ (s : Shape). 1 ≤ s.front → AreFramePlaces s.page_size wal s.front s.count s.places) (sym same) is.framed;
+    recorded = subst (λ (s : Shape). IsHot journal → AreJournalPlaces journal s.count s.places) (sym same) is.recorded;
+  }
+  same_view (Some m) is = record {
+    shows = subst (λ (s : Shape). ViewsAt m s.page_size db wal journal (pages_in s)) (sym same) is.shows;
+    stands = subst (λ (s : Shape). s.front ≡ m) (sym same) is.stands;
+    one = is.one;
+    short = is.short;
+    within = is.within;
+    headed = is.headed;
+    unplaced = subst (λ (s : Shape). m ≡ 0 → s.places ≡ []) (sym same) is.unplaced;
+    placed = subst (λ (s : Shape). 1 ≤ m → length s.places ≡ s.count) (sym same) is.placed;
+    framed = subst (λ (s : Shape). 1 ≤ m → AreFramePlaces s.page_size wal m s.count s.places) (sym same) is.framed;
+  }
+
+-- what is found without a view
+module _ {F : Type 0} (maps : Bool) (limits : Bounds) (bytes : F → List ℕ) (at : Option ℕ) (files : Contents (List ℕ)) where
+  pub found_of_none : (error : ViewError) → AskedRefused limits at files.db files.wal files.journal error → IfOk (found_without {F = F} error) (IsFoundOf maps limits bytes at files)
+  found_of_none (views.Header fault) refused = inl (refl, refused)
+  found_of_none views.TwoLogs refused = tt
+  found_of_none views.TooLarge refused = tt
+  found_of_none views.Unread refused = tt
+  found_of_none views.NoMemory refused = tt
+  found_of_none views.NoSuchCommit refused = tt
+
+  pub refused_of_none : (error : ViewError) → AskedRefused limits at files.db files.wal files.journal error → IfErr (found_without {F = F} error) (IsUnfound maps limits at files)
+  refused_of_none (views.Header fault) refused = tt
+  refused_of_none views.TwoLogs refused = refused
+  refused_of_none views.TooLarge refused = inr refused
+  refused_of_none views.Unread refused = absurd (asked_read limits at files.db files.wal files.journal refused)
+  refused_of_none views.NoMemory refused = tt
+  refused_of_none views.NoSuchCommit refused = refused
+
+module _ {F : Type 0} (maps : Bool) (limits : Bounds) (bytes : F → List ℕ) (at : Option ℕ) (files : Contents (List ℕ)) (v : View F) (records : Records) (asked : AskedAnswer limits bytes at files.db files.wal files.journal (Ok v)) where
+  pub found_of_view : (r : Result (Found F) Refusal) → AreRecordsOf files.journal records → IfOk r (IsFoundIn maps bytes (shape_of bytes v) records) → IfOk r (IsFoundOf maps limits bytes at files)
+  found_of_view (Ok (Pages found)) are is = record {
+    view = same_view limits bytes files.db files.wal files.journal v found.view is.0 at asked;
+    survey = subst (λ (s : Shape). IsSurveyed maps (pages_in s) s.page_size (Ok found.survey)) (sym is.0) is.1;
+    ordered = is.2;
+    records = subst (λ (x : Records). AreRecordsOf files.journal x) (sym is.3) are;
+  }
+  found_of_view (Ok (Nothing error)) are is = inr (v.page_size, pages_of bytes v, shows_asked limits bytes files.db files.wal files.journal v at asked, is)
+  found_of_view (Err refusal) are is = tt
+
+  unfound_of_view : (refusal : Refusal) → IsUnfoundIn maps (shape_of bytes v) refusal → IsUnfound maps limits at files refusal
+  unfound_of_view NoSuchPage none = (v.page_size, pages_of bytes v, shows_asked limits bytes files.db files.wal files.journal v at asked, none)
+  unfound_of_view AutoVacuum vacuum = (v.page_size, pages_of bytes v, shows_asked limits bytes files.db files.wal files.journal v at asked, vacuum)
+  unfound_of_view NoMemory memory = tt
+  unfound_of_view _ never = absurd never
+
+  pub refused_of_view : (r : Result (Found F) Refusal) → IfErr r (IsUnfoundIn maps (shape_of bytes v)) → IfErr r (IsUnfound maps limits at files)
+  refused_of_view (Ok found) is = tt
+  refused_of_view (Err refusal) is = unfound_of_view refusal is

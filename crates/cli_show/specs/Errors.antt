@@ -1,0 +1,9 @@
+-- Why not all was shown.
+use Rattle.cli_facts.specs.declared.outcome.Refusal.{Refusal}
+use Rattle.cli_show.specs.declared.error.ShowError.{ShowError}
+use Rattle.cli_show.specs.declared.error.ShowError.TheVariants.{Refused, Unwritten}
+
+-- the fact holds of the refusal, where it is one; of a line that could not be written nothing is said
+abbrev pub IfRefused : (Refusal → Type 0) → ShowError → Type 0
+IfRefused P (Refused refusal) = P refusal
+IfRefused P Unwritten = Unit {0}

@@ -1,0 +1,91 @@
+-- How it is printed what a deep check finds (own).
+use Rattle.std.specs.Prelude.{ℕ, ◌+◌, Option, None, Some, List, [], ◌∷◌, ◌++◌, codes}
+use Rattle.std.specs.Fmt.{decimal}
+use Rattle.sqcheck.specs.declared.report.Report.{Report}
+use Rattle.sqdeep.specs.Faults as inside
+use Rattle.sqdeep.specs.declared.fault.InnerError.{InnerError}
+use Rattle.sqschema.specs.SchemaFaults as schemas
+use Rattle.sqschema.specs.declared.error.ObjectError.{ObjectError}
+use Rattle.sqindex.specs.IndexFaults as indexes
+use Rattle.sqindex.specs.RowFaults as rows
+use Rattle.sqcontents.specs.declared.error.ContentError.{ContentError}
+use Rattle.sqcontents.specs.declared.error.TableRowError.{TableRowError}
+use Rattle.cli_words.specs.declared.requests.Style.{Style}
+use Rattle.cli_words.specs.declared.requests.Style.TheVariants.{Lines, Json}
+use Rattle.cli_text.specs.Facts.{number_text, object_text, word_text}
+use Rattle.cli_text.specs.Verdicts.{fault_text, report_text}
+use Rattle.sqdeepjudge.specs.declared.verdict.Damage.TheVariants.{Check, Inner, Schema, Content, Row}
+use Rattle.sqdeepjudge.specs.declared.verdict.DeepVerdict.{DeepVerdict}
+use Rattle.sqdeepjudge.specs.declared.verdict.DeepVerdict.TheVariants.{Clean, Sound, Damaged}
+
+-- a database that is sound inside, and its schema and indexes, too: its pages by their use
+abbrev pub sound_text : Style → Report → List ℕ
+sound_text Lines r =
+    codes "clean: " ++ (decimal r.pages ++ (codes " pages, " ++ (decimal r.trees ++ (codes " trees, "
+    ++ (decimal r.btree ++ (codes " b-tree, " ++ (decimal r.overflow ++ (codes " overflow, " ++ (decimal r.free ++ codes " free; records, schema and indexes sound\n")))))))))
+sound_text Json r = object_text Json (
+    word_text Json (codes "check") (codes "clean")
+    ∷ word_text Json (codes "records") (codes "sound")
+    ∷ word_text Json (codes "schema") (codes "sound")
+    ∷ word_text Json (codes "indexes") (codes "sound")
+    ∷ number_text Json (codes "pages") r.pages
+    ∷ number_text Json (codes "trees") r.trees
+    ∷ number_text Json (codes "b-tree") r.btree
+    ∷ number_text Json (codes "overflow") r.overflow
+    ∷ number_text Json (codes "free") r.free ∷ [])
+
+-- what stands behind the page of a fault: the cell, where it is one of a cell
+abbrev pub cell_text : Option ℕ → List ℕ
+cell_text None = []
+cell_text (Some i) = codes " cell " ++ decimal i
+
+-- the numbers of a fault's page and cell
+abbrev pub place_texts : (p : ℕ) → (cell : Option ℕ) → (texts : List (List ℕ)) → List (List ℕ)
+place_texts p None texts = number_text Json (codes "page") p ∷ texts
+place_texts p (Some i) texts = number_text Json (codes "page") p ∷ number_text Json (codes "cell") i ∷ texts
+
+-- a fault inside, at a page, or at a cell of it
+abbrev pub inner_text : Style → InnerError → List ℕ
+inner_text Lines e =
+    codes "page " ++ (decimal e.page ++ (cell_text e.cell ++ (codes ": fault " ++ (decimal (inside.number_of e.fault) ++ (codes " " ++ (inside.name_of e.fault ++ codes "\n"))))))
+inner_text Json e = object_text Json (place_texts e.page e.cell (
+    number_text Json (codes "fault") (inside.number_of e.fault)
+    ∷ word_text Json (codes "name") (inside.name_of e.fault) ∷ []))
+
+-- a fault of a row of the schema, counted from 1 in the order of rowids
+abbrev pub schema_text : Style → ObjectError → List ℕ
+schema_text Lines e = codes "schema row " ++ (decimal (e.row + 1) ++ (codes ": fault " ++ (decimal (schemas.number_of e.fault) ++ (codes " " ++ (schemas.name_of e.fault ++ codes "\n")))))
+schema_text Json e = object_text Json (
+    number_text Json (codes "row") (e.row + 1)
+    ∷ number_text Json (codes "fault") (schemas.number_of e.fault)
+    ∷ word_text Json (codes "name") (schemas.name_of e.fault) ∷ [])
+
+-- a fault at a cell of a page, of what this row of the schema names
+abbrev pub place_text : Style → (row page cell fault : ℕ) → (name : List ℕ) → List ℕ
+place_text Lines row page cell fault name =
+    codes "schema row " ++ (decimal (row + 1) ++ (codes ": page " ++ (decimal page ++ (codes " cell " ++ (decimal cell
+    ++ (codes ": fault " ++ (decimal fault ++ (codes " " ++ (name ++ codes "\n")))))))))
+place_text Json row page cell fault name = object_text Json (
+    number_text Json (codes "row") (row + 1)
+    ∷ number_text Json (codes "page") page
+    ∷ number_text Json (codes "cell") cell
+    ∷ number_text Json (codes "fault") fault
+    ∷ word_text Json (codes "name") name ∷ [])
+
+-- a fault of the index in this row of the schema
+abbrev pub content_text : Style → ContentError → List ℕ
+content_text style e = place_text style e.row e.error.page e.error.cell (indexes.number_of e.error.fault) (indexes.name_of e.error.fault)
+
+-- a fault of a row of the table in this row of the schema
+abbrev pub table_row_text : Style → TableRowError → List ℕ
+table_row_text style e = place_text style e.row e.error.page e.error.cell (rows.number_of e.error.fault) (rows.name_of e.error.fault)
+
+-- what a check finds, or a deep one
+abbrev pub found_text : Style → DeepVerdict → List ℕ
+found_text style (Clean report) = report_text style report
+found_text style (Sound report schema unjudged) = sound_text style report
+found_text style (Damaged (Check e)) = fault_text style e
+found_text style (Damaged (Inner e)) = inner_text style e
+found_text style (Damaged (Schema e)) = schema_text style e
+found_text style (Damaged (Content e)) = content_text style e
+found_text style (Damaged (Row e)) = table_row_text style e

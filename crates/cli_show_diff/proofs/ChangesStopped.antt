@@ -1,0 +1,93 @@
+-- Why the next change isn't told.
+use Rattle.std.proofs.Common.{◌≡◌, ◌⊎◌, ℕ, Bool, true, false, List, ◌∷◌, Option, inl, inr, subst}
+use Rattle.std.specs.Prelude.{ℤ}
+use Rattle.sqval.specs.Database.{Database}
+use Rattle.sqval.specs.Record.{most_bytes}
+use Rattle.sqval.specs.declared.error.RecordError.TheVariants as records
+use Rattle.sqrows.specs.Trees.{Entry}
+use Rattle.sqrows.specs.Rows.{Row, IsRowIn}
+use Rattle.sqrows.specs.RowCursor.{IsAbove}
+use Rattle.sqrows.specs.declared.payload.PayloadError.TheVariants.{TooLong as PayloadTooLong, Chain}
+use Rattle.sqrows.specs.declared.rows.RowsError.TheVariants.{Tree, Payload}
+use Rattle.sqtables.specs.declared.columns.Columns.{Columns}
+use Rattle.cli_show_rows.specs.declared.stop.Stop.{Stop}
+use Rattle.cli_show_rows.specs.declared.stop.Stop.TheVariants.{Fault, Record, TooLong, NotUnderstood, Default, Behind, Encoding, NoSuchTable, NoMemory, Write}
+use Rattle.sqdiff.specs.Changes.{Change, inserted, deleted, changed, Rise, rowids, HasChanges}
+use Rattle.sqdiff.specs.DiffCursor.{AreRefused, ChangesLeft, DiffRefused, IsAtChange, AreNotBegun}
+use Rattle.sqdiff.specs.declared.diff.Diff.{Diff}
+use Rattle.sqdiff.specs.declared.diff.Kind.{Kind}
+use Rattle.sqdiff.specs.declared.error.SideError.{SideError}
+use Rattle.sqdiff.specs.declared.error.SideError.TheVariants.{Rows as Unread, Record as NoRecord, Unordered}
+use Rattle.sqdiff.specs.declared.error.DiffError.{DiffError}
+use Rattle.sqdiff.specs.declared.error.DiffError.TheVariants.{Old, New}
+use Rattle.cli_change_text.specs.declared.style.Writing.{Writing}
+use Rattle.cli_change_text.specs.Refusals.{IsUnwritable, IsUnwritableChange}
+use Rattle.cli_show_diff.specs.Stops.{StopsBefore}
+use Rattle.cli_show_diff.specs.internal.Stopping.{stop_of_diff, stop_of_side}
+use Rattle.cli_show_diff.specs.internal.Walks.{FoundRefused}
+
+module _ (d e : Database) (writing : Writing) (columns : Columns) (all : List Change) where
+  -- the rows of one of both tables aren't read
+  side_stops : (own : Database) → ((row : Row) (cell : Entry) → IsRowIn own cell row → IsRowIn d cell row ⊎ IsRowIn e cell row)
+      → (limit : ℕ) (last : Option ℤ) (error : SideError) (root : ℕ) (has_rowids : Bool) (rows : List Row) → limit ≡ most_bytes
+      → AreRefused own limit last error rows → Rise last (rowids rows) → StopsBefore d e writing columns all (stop_of_side error root has_rowids)
+  side_stops own which limit last (Unread (Tree f)) root has_rowids rows same h rise = h
+  side_stops own which limit last (Unread (Payload (Chain f))) root has_rowids rows same h rise = h
+  side_stops own which limit last (Unread (Payload PayloadTooLong)) root has_rowids rows same h rise =
+      (h.0, h.1, which h.0 h.1 h.3, subst (λ (l : ℕ). IsAbove l h.1) same h.4)
+  side_stops own which limit last (NoRecord records.TooLarge) root has_rowids rows same h rise = (h.0, h.1, h.3, h.4)
+  side_stops own which limit last (NoRecord records.HeaderSize) root has_rowids rows same h rise = absurd h
+  side_stops own which limit last (NoRecord records.TypeCut) root has_rowids rows same h rise = absurd h
+  side_stops own which limit last (NoRecord records.InternalType) root has_rowids rows same h rise = absurd h
+  side_stops own which limit last (NoRecord records.BodyCut) root has_rowids rows same h rise = absurd h
+  side_stops own which limit last (NoRecord records.TrailingBytes) root has_rowids rows same h rise = absurd h
+  side_stops own which limit last (NoRecord records.NoMemory) root has_rowids rows same h rise = absurd h
+  side_stops own which limit last Unordered root true rows same h rise = absurd (h rise)
+  side_stops own which limit last Unordered root false rows same h rise = absurd (h rise)
+
+  pub diff_stops : (diff : Diff) (error : DiffError) (roots : ℕ × ℕ) (has_rowids : Bool) → diff.old_side.rows.limit ≡ most_bytes
+      → diff.new_side.rows.limit ≡ most_bytes → DiffRefused d e diff error → ChangesLeft d e diff all
+      → StopsBefore d e writing columns all (stop_of_diff error roots has_rowids)
+  diff_stops diff (Old error) roots has_rowids old_limit new_limit refused left =
+      side_stops d (λ row cell is. inl is) diff.old_side.rows.limit diff.old_side.last error roots.0 has_rowids left.0 old_limit (refused left.0 left.2) left.4
+  diff_stops diff (New error) roots has_rowids old_limit new_limit refused left =
+      side_stops e (λ row cell is. inr is) diff.new_side.rows.limit diff.new_side.last error roots.1 has_rowids left.1 new_limit (refused left.1 left.3) left.5
+
+  -- one of both isn't begun
+  pub begin_stops : (old_root new_root : ℕ) (error : DiffError) (roots : ℕ × ℕ) (has_rowids : Bool) → AreNotBegun d old_root e new_root error
+      → HasChanges d old_root e new_root all → StopsBefore d e writing columns all (stop_of_diff error roots has_rowids)
+  begin_stops old_root new_root (Old (Unread (Tree f))) roots has_rowids h has = λ other. h.1 other has.0 has.2
+  begin_stops old_root new_root (New (Unread (Tree f))) roots has_rowids h has = λ other. h.1 other has.1 has.3
+  begin_stops old_root new_root (Old (Unread (Payload p))) roots has_rowids h has = absurd h
+  begin_stops old_root new_root (New (Unread (Payload p))) roots has_rowids h has = absurd h
+  begin_stops old_root new_root (Old (NoRecord error)) roots has_rowids h has = absurd h
+  begin_stops old_root new_root (New (NoRecord error)) roots has_rowids h has = absurd h
+  begin_stops old_root new_root (Old Unordered) roots has_rowids h has = absurd h
+  begin_stops old_root new_root (New Unordered) roots has_rowids h has = absurd h
+
+  -- a row is never told to be what it can't be
+  no_fault : (c : Change) (stop : Stop) → ((row : Row) → ¬ IsUnwritable writing columns row stop) → ¬ IsUnwritableChange writing columns c stop
+  no_fault (inserted row) stop not h = not row h
+  no_fault (deleted row) stop not h = not row h
+  no_fault (changed old new) stop not (inl h) = not old h
+  no_fault (changed old new) stop not (inr h) = not new h
+
+  -- the change that comes next can't be written
+  pub found_stops : (diff : Diff) (kind : Kind) (stop : Stop) (c : Change) (rest : List Change) → all ≡ c ∷ rest → IsAtChange diff kind c
+      → FoundRefused diff kind writing columns stop → StopsBefore d e writing columns all stop
+  found_stops diff kind (Fault f) c rest same at h = absurd (no_fault c (Fault f) (λ row no. no) (h c at))
+  found_stops diff kind (Record records.TooLarge) c rest same at h = h c at
+  found_stops diff kind (Record records.HeaderSize) c rest same at h = absurd (h c at)
+  found_stops diff kind (Record records.TypeCut) c rest same at h = absurd (h c at)
+  found_stops diff kind (Record records.InternalType) c rest same at h = absurd (h c at)
+  found_stops diff kind (Record records.BodyCut) c rest same at h = absurd (h c at)
+  found_stops diff kind (Record records.TrailingBytes) c rest same at h = absurd (h c at)
+  found_stops diff kind (Record records.NoMemory) c rest same at h = absurd (h c at)
+  found_stops diff kind TooLong c rest same at h = absurd (no_fault c TooLong (λ row no. no) (h c at))
+  found_stops diff kind NotUnderstood c rest same at h = (c, rest, same, h c at)
+  found_stops diff kind Default c rest same at h = (c, rest, same, h c at)
+  found_stops diff kind Behind c rest same at h = (c, rest, same, h c at)
+  found_stops diff kind Encoding c rest same at h = (c, rest, same, h c at)
+  found_stops diff kind NoSuchTable c rest same at h = (c, rest, same, h c at)
+  found_stops diff kind NoMemory c rest same at h = tt
+  found_stops diff kind (Write error) c rest same at h = tt

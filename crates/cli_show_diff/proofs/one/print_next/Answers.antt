@@ -1,0 +1,46 @@
+use Rattle.std.proofs.Common.{◌↔◌, Bool, List, ◌∷◌, [], subst, sym, refl}
+use Rattle.sqrows.specs.Trees.{Entry}
+use Rattle.sqrows.specs.Rows.{Row}
+use Rattle.sqrows.specs.Cursor.{IsLeft}
+use Rattle.sqrows.specs.RowCursor.{RowsLeft, RowsMove, CellsMove}
+use Rattle.sqrows.proofs.PassedRows.{passes, no_record}
+use Rattle.cli_show_diff.specs.internal.Walks.{RowStops}
+use Rattle.cli_show_diff.proofs.RowsTold.{read_stops, write_stops}
+use Rattle.cli_show_diff.proofs.one.print_next.Goals as goal
+
+pub returns-in-Ok-false-clause-ok : goal.returns-in-Ok-false-clause-ok
+returns-in-Ok-false-clause-ok g c = λ gives over.
+    let d = g.S.PageSource.pages c.args.source.now in
+    let moves = subst (λ (found : Bool). (rows : List Row) → RowsLeft d c.args.rows.now rows ↔ RowsMove d found rows c.advance.new.self) c.in-Ok-false.field-0-test (c.in-Ok-false.ensures.ok gives over) in
+    ((moves []).1 refl, refl)
+
+pub returns-in-Err-clause-err : goal.returns-in-Err-clause-err
+returns-in-Err-clause-err g c = λ gives over.
+    let d = g.S.PageSource.pages c.args.source.now in
+    subst (RowStops d c.args.style.writing c.args.style.columns.now c.args.rows.now) (sym c.from.ensures)
+    (read_stops d c.args.style.writing c.args.style.columns.now c.args.rows.now c.in-Err.refusal (c.in-Err.ensures.err gives))
+
+pub returns-in-Err-row-clause-err : goal.returns-in-Err-row-clause-err
+returns-in-Err-row-clause-err g c = λ gives over.
+    let d = g.S.PageSource.pages c.args.source.now in
+    let cells = subst (λ (found : Bool). (xs : List Entry) → IsLeft d c.args.rows.now.cells xs ↔ CellsMove d found xs c.advance.new.self) c.in-Ok-true.field-0-test (c.in-Ok-true.ensures.cells gives over) in
+    no_record d c.args.rows.now c.advance.new.self c.in-Err-row.error (λ xs left. (cells xs).0 left) c.in-Err-row.ensures.err
+
+pub returns-in-Ok-write_one_side-clause-ok : goal.returns-in-Ok-write_one_side-clause-ok
+returns-in-Ok-write_one_side-clause-ok g c = λ gives over.
+    let d = g.S.PageSource.pages c.args.source.now in
+    let moves = subst (λ (found : Bool). (rows : List Row) → RowsLeft d c.args.rows.now rows ↔ RowsMove d found rows c.advance.new.self) c.in-Ok-true.field-0-test (c.in-Ok-true.ensures.ok gives over) in
+    let cells = subst (λ (found : Bool). (xs : List Entry) → IsLeft d c.args.rows.now.cells xs ↔ CellsMove d found xs c.advance.new.self) c.in-Ok-true.field-0-test (c.in-Ok-true.ensures.cells gives over) in
+    let row : Row = record { rowid = c.in-Ok.row.rowid; values = c.in-Ok.row.values } in
+    let at = (c.in-Ok.ensures.ok row).1 refl in
+    let line = c.in-Ok-write_one_side.ensures.ok in
+    (row, line.0, λ rest left. (moves (row ∷ rest)).1 (row, rest, refl, at, left), line.1, line.2, passes d c.args.rows.now c.advance.new.self row (λ xs left. (cells xs).0 left) at)
+
+pub returns-in-Err-write_one_side-clause-err : goal.returns-in-Err-write_one_side-clause-err
+returns-in-Err-write_one_side-clause-err g c = λ gives over.
+    let d = g.S.PageSource.pages c.args.source.now in
+    let cells = subst (λ (found : Bool). (xs : List Entry) → IsLeft d c.args.rows.now.cells xs ↔ CellsMove d found xs c.advance.new.self) c.in-Ok-true.field-0-test (c.in-Ok-true.ensures.cells gives over) in
+    let row : Row = record { rowid = c.in-Ok.row.rowid; values = c.in-Ok.row.values } in
+    let at = (c.in-Ok.ensures.ok row).1 refl in
+    write_stops d c.args.style.writing c.args.style.columns.now c.args.comes c.args.rows.now c.advance.new.self row c.in-Err-write_one_side.stop
+    (passes d c.args.rows.now c.advance.new.self row (λ xs left. (cells xs).0 left) at) c.in-Err-write_one_side.ensures.err

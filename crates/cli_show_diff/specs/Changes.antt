@@ -1,0 +1,115 @@
+-- The changes between two databases as they are printed, and why they aren't (own).
+use Rattle.std.specs.Prelude.{◌≡◌, ◌⊎◌, ◌≤◌, ℕ, Bool, true, false, List, [], ◌∷◌, length, map, take, slice_get, Option, Some, All}
+use Rattle.std.specs.Borrow.{Bor}
+use Rattle.std.specs.Io.KnownBytes.{Appends}
+use Rattle.std.specs.List.{Contains}
+use Rattle.sqval.specs.Bytes.{word}
+use Rattle.sqval.specs.Database.{Database, page}
+use Rattle.sqtables.specs.declared.list.Object.{Object}
+use Rattle.sqtables.specs.Objects.{HasObjects, IsTableNamed}
+use Rattle.cli_show_rows.specs.declared.stop.Stop.{Stop}
+use Rattle.cli_show_rows.specs.declared.stop.Stop.TheVariants.{NotUnderstood, NoSuchTable}
+use Rattle.cli_show_rows.specs.Stops.{IsWriteError, SchemaRefused}
+use Rattle.cli_show_diff.specs.declared.changes.Schemas.{Schemas}
+use Rattle.cli_show_diff.specs.declared.form.ChangeForm.{ChangeForm}
+use Rattle.cli_show_diff.specs.declared.pair.Pair.{Pair}
+use Rattle.cli_show_diff.specs.declared.turn.Turn.{Turn}
+use Rattle.cli_show_diff.specs.declared.turn.Side.TheVariants.{Old, New}
+use Rattle.cli_show_diff.specs.Frames.{IsWritten, closing_text, opening_text}
+use Rattle.cli_show_diff.specs.Pairs.{IsPairPrinted, IsPairStopped}
+use Rattle.cli_show_diff.specs.Turns.{AreTurnsPrinted, AreTurnsStopped, IsFound}
+
+-- the objects of a database, whose texts are UTF-8; one without pages has none
+abbrev pub HasObjectsOf : Database → List Object → Type 0
+HasObjectsOf d objects = ((length d ≡ 0) × (objects ≡ [])) ⊎ (HasObjects d objects × (word (page d 1) 56 ≤ 1))
+
+-- the tables of the old database in their turn, and those of the new one that it lacks
+abbrev pub turn_old : Schemas → (internal : Bool) → Turn
+turn_old schemas internal = record { side = Old; internal = internal; objects = schemas.old; others = schemas.new }
+
+abbrev pub turn_new : Schemas → (internal : Bool) → Turn
+turn_new schemas internal = record { side = New; internal = internal; objects = schemas.new; others = schemas.old }
+
+-- The changes of the user's tables were printed, or of SQLite's own: first of those that the old database has.
+abbrev pub AreTablesPrinted : Database → Database → Schemas → (internal : Bool) → ChangeForm → (before after : Option (List ℕ)) → Type 0
+AreTablesPrinted d e schemas internal form before after =
+    (mid : Option (List ℕ)) × AreTurnsPrinted d e (turn_old schemas internal) form schemas.old.now before mid
+    × AreTurnsPrinted d e (turn_new schemas internal) form schemas.new.now mid after
+
+abbrev pub AreTablesStopped : Database → Database → Schemas → (internal : Bool) → ChangeForm → Stop → (before after : Option (List ℕ)) → Type 0
+AreTablesStopped d e schemas internal form stop before after =
+    AreTurnsStopped d e (turn_old schemas internal) form schemas.old.now stop before after
+    ⊎ ((mid : Option (List ℕ)) × AreTurnsPrinted d e (turn_old schemas internal) form schemas.old.now before mid
+    × AreTurnsStopped d e (turn_new schemas internal) form schemas.new.now stop mid after)
+
+-- Those of all tables were, SQLite's own last.
+abbrev pub AreAllPrinted : Database → Database → Schemas → ChangeForm → (before after : Option (List ℕ)) → Type 0
+AreAllPrinted d e schemas form before after =
+    (mid : Option (List ℕ)) × AreTablesPrinted d e schemas false form before mid × AreTablesPrinted d e schemas true form mid after
+
+abbrev pub AreAllStopped : Database → Database → Schemas → ChangeForm → Stop → (before after : Option (List ℕ)) → Type 0
+AreAllStopped d e schemas form stop before after =
+    AreTablesStopped d e schemas false form stop before after
+    ⊎ ((mid : Option (List ℕ)) × AreTablesPrinted d e schemas false form before mid × AreTablesStopped d e schemas true form stop mid after)
+
+-- the tables of this name in both databases
+abbrev pub IsPairNamed : Schemas → (name : List ℕ) → Pair → Type 0
+IsPairNamed schemas name pair = IsFound name schemas.old.now pair.old × IsFound name schemas.new.now pair.new
+
+-- The changes of the table of this name were printed.
+abbrev pub IsNamedPrinted : Database → Database → Schemas → (name : List ℕ) → ChangeForm → (before after : Option (List ℕ)) → Type 0
+IsNamedPrinted d e schemas name form before after = (pair : Pair) × IsPairNamed schemas name pair × IsPairPrinted d e pair form before after
+
+abbrev pub IsNamedStopped : Database → Database → Schemas → (name : List ℕ) → ChangeForm → Stop → (before after : Option (List ℕ)) → Type 0
+IsNamedStopped d e schemas name form stop before after =
+    (All (λ o. ¬ IsTableNamed name o) schemas.old.now × All (λ o. ¬ IsTableNamed name o) schemas.new.now × (stop ≡ NoSuchTable) × (before ≡ after))
+    ⊎ ((pair : Pair) × IsPairNamed schemas name pair × IsPairStopped d e pair form stop before after)
+
+-- Those of the tables of these names were, in their order.
+abbrev pub AreNamedPrinted : Database → Database → Schemas → (names : List (List ℕ)) → ChangeForm → (before after : Option (List ℕ)) → Type 0
+AreNamedPrinted d e schemas [] form before after = before ≡ after
+AreNamedPrinted d e schemas (name ∷ names) form before after =
+    (mid : Option (List ℕ)) × IsNamedPrinted d e schemas name form before mid × AreNamedPrinted d e schemas names form mid after
+
+-- They were up to name i, at which the printing stopped.
+abbrev pub AreNamedStopped : Database → Database → Schemas → (names : List (List ℕ)) → ChangeForm → Stop → (before after : Option (List ℕ)) → Type 0
+AreNamedStopped d e schemas names form stop before after =
+    (i : ℕ) × (name : List ℕ) × (mid : Option (List ℕ)) × (slice_get names i ≡ Some name) × AreNamedPrinted d e schemas (take i names) form before mid
+    × IsNamedStopped d e schemas name form stop mid after
+
+-- the bytes of names
+abbrev pub texts_of : List (Bor (List ℕ)) → List (List ℕ)
+texts_of names = map (λ n. n.now) names
+
+-- Those of the tables that are asked for were, or of all where none is.
+abbrev pub AreAskedPrinted : Database → Database → Schemas → (names : List (List ℕ)) → ChangeForm → (before after : Option (List ℕ)) → Type 0
+AreAskedPrinted d e schemas [] form before after = AreAllPrinted d e schemas form before after
+AreAskedPrinted d e schemas (name ∷ names) form before after = AreNamedPrinted d e schemas (name ∷ names) form before after
+
+abbrev pub AreAskedStopped : Database → Database → Schemas → (names : List (List ℕ)) → ChangeForm → Stop → (before after : Option (List ℕ)) → Type 0
+AreAskedStopped d e schemas [] form stop before after = AreAllStopped d e schemas form stop before after
+AreAskedStopped d e schemas (name ∷ names) form stop before after = AreNamedStopped d e schemas (name ∷ names) form stop before after
+
+-- They were printed between what stands before and behind them.
+abbrev pub AreFramedPrinted : Database → Database → Schemas → (names : List (List ℕ)) → ChangeForm → (before after : Option (List ℕ)) → Type 0
+AreFramedPrinted d e schemas names form before after =
+    (begun ended : Option (List ℕ)) × Appends before begun (opening_text form schemas.old.now) × AreAskedPrinted d e schemas names form begun ended
+    × Appends ended after (closing_text form schemas.new.now)
+
+-- They weren't: the writer failed, an object can't be written, or the printing stopped behind what stands before.
+abbrev pub AreFramedStopped : Database → Database → Schemas → (names : List (List ℕ)) → ChangeForm → Stop → (before after : Option (List ℕ)) → Type 0
+AreFramedStopped d e schemas names form stop before after =
+    IsWriteError stop
+    ⊎ ((o : Object) × (Contains schemas.old.now o ⊎ Contains schemas.new.now o) × (¬ IsWritten form o) × (stop ≡ NotUnderstood) × (before ≡ after))
+    ⊎ ((begun : Option (List ℕ)) × Appends before begun (opening_text form schemas.old.now) × AreAskedStopped d e schemas names form stop begun after)
+
+-- The changes between two databases were printed.
+abbrev pub AreChangesPrinted : Database → Database → (names : List (List ℕ)) → ChangeForm → (before after : Option (List ℕ)) → Type 0
+AreChangesPrinted d e names form before after =
+    (schemas : Schemas) × HasObjectsOf d schemas.old.now × HasObjectsOf e schemas.new.now × AreFramedPrinted d e schemas names form before after
+
+-- They weren't to their end: the objects of one of both aren't listed, or the printing stopped.
+abbrev pub AreChangesStopped : Database → Database → (names : List (List ℕ)) → ChangeForm → Stop → (before after : Option (List ℕ)) → Type 0
+AreChangesStopped d e names form stop before after =
+    ((SchemaRefused d stop ⊎ SchemaRefused e stop) × (before ≡ after))
+    ⊎ ((schemas : Schemas) × HasObjectsOf d schemas.old.now × HasObjectsOf e schemas.new.now × AreFramedStopped d e schemas names form stop before after)

@@ -1,0 +1,76 @@
+-- The changes of one table as they are printed (own).
+use Rattle.std.specs.Prelude.{◌≡◌, ◌⊎◌, ℕ, Bool, List, [], Option, None, is_some}
+use Rattle.std.specs.Io.KnownBytes.{Appends}
+use Rattle.sqval.specs.Database.{Database}
+use Rattle.sqtables.specs.declared.columns.Columns.{Columns}
+use Rattle.sqtables.specs.declared.list.Object.{Object}
+use Rattle.sqtables.specs.Named.{AreColumns}
+use Rattle.cli_row_text.specs.Inserts.{insert_text}
+use Rattle.cli_show_rows.specs.declared.stop.Stop.{Stop}
+use Rattle.cli_show_rows.specs.declared.stop.Stop.TheVariants.{NoMemory, NotUnderstood}
+use Rattle.cli_show_rows.specs.Tables.{IsNameFor}
+use Rattle.cli_change_text.specs.declared.style.Style.{Style}
+use Rattle.cli_change_text.specs.declared.style.Writing.{Writing}
+use Rattle.cli_change_text.specs.declared.style.Writing.TheVariants.{Line, Object as AsObject, Removal, Arrival}
+use Rattle.cli_change_text.specs.Changes.{names_of}
+use Rattle.cli_change_text.specs.Heads.{object_head, removal_head, title_text}
+use Rattle.cli_show_diff.specs.Told.{AreBothTold, IsOneTold}
+use Rattle.cli_show_diff.specs.Stops.{AreBothToldUntil, IsOneToldUntil}
+
+-- what stands before the first change of a table
+abbrev pub before_text : Writing → (table : List ℕ) → List ℕ
+before_text Line table = title_text table
+before_text (AsObject commit) table = []
+before_text Removal table = []
+before_text Arrival table = []
+
+-- and what each of them begins with
+abbrev pub head_text : Writing → (table : List ℕ) → Columns → (rowid : Option (List ℕ)) → List ℕ
+head_text Line table columns rowid = []
+head_text (AsObject commit) table columns rowid = object_head commit table
+head_text Removal table columns rowid = removal_head table columns rowid
+head_text Arrival table columns rowid = insert_text table rowid (names_of columns)
+
+-- How the changes of a table are written: under the names that its text gives to its columns, and in SQL with its rowids.
+pub record IsStyleOf (table : Object) (writing : Writing) (style : Style) : Type 0 where
+  pub rowid : Option (List ℕ)
+  pub known : AreColumns table.sql.items style.columns.now
+  pub named : IsNameFor style.columns.now rowid
+  pub written : style.writing ≡ writing
+  pub begins : style.before.now ≡ before_text writing table.name.items
+  pub heads : style.head.now ≡ head_text writing table.name.items style.columns.now rowid
+  pub leads : style.leads ≡ is_some rowid
+
+-- The changes between a table in the old database and in the new one were printed, each once.
+abbrev pub IsKeptPrinted : Database → Database → (old new : Object) → Writing → (before after : Option (List ℕ)) → Type 0
+IsKeptPrinted d e old new writing before after =
+    (style : Style) × (t : List ℕ) × IsStyleOf old writing style × AreBothTold d old.root e new.root style t × Appends before after t
+
+-- All rows of a table were printed as ones that came, or that went.
+abbrev pub IsSidePrinted : Database → Object → (comes : Bool) → Writing → (before after : Option (List ℕ)) → Type 0
+IsSidePrinted d table comes writing before after =
+    (style : Style) × (t : List ℕ) × IsStyleOf table writing style × IsOneTold d table.root comes style t × Appends before after t
+
+-- A script can't name the columns of a table, or its rows: no column is known, or each name of the rowid is a column's.
+abbrev pub IsUnnamed : Writing → Columns → (rowid : Option (List ℕ)) → Type 0
+IsUnnamed Line columns rowid = ⊥
+IsUnnamed (AsObject commit) columns rowid = ⊥
+IsUnnamed _ columns rowid = (columns.names.items ≡ []) ⊎ ((rowid ≡ None) × (columns.alias ≡ None))
+
+-- Nothing was printed of a table that a script can't name, or for want of memory.
+abbrev pub IsUnbegun : Object → Writing → Stop → (before after : Option (List ℕ)) → Type 0
+IsUnbegun table writing NoMemory before after = before ≡ after
+IsUnbegun table writing NotUnderstood before after =
+    (columns : Columns) × (rowid : Option (List ℕ)) × AreColumns table.sql.items columns × IsNameFor columns rowid × IsUnnamed writing columns rowid × (before ≡ after)
+IsUnbegun table writing _ before after = ⊥
+
+-- The printing of a table's changes stopped, or that of its rows.
+abbrev pub IsKeptStopped : Database → Database → (old new : Object) → Writing → Stop → (before after : Option (List ℕ)) → Type 0
+IsKeptStopped d e old new writing stop before after =
+    IsUnbegun old writing stop before after
+    ⊎ ((style : Style) × IsStyleOf old writing style × AreBothToldUntil d old.root e new.root style stop before after)
+
+abbrev pub IsSideStopped : Database → Object → (comes : Bool) → Writing → Stop → (before after : Option (List ℕ)) → Type 0
+IsSideStopped d table comes writing stop before after =
+    IsUnbegun table writing stop before after
+    ⊎ ((style : Style) × IsStyleOf table writing style × IsOneToldUntil d table.root comes style stop before after)

@@ -1,0 +1,277 @@
+//! The changes of all tables of a database, or of one of a name.
+ghost use Rattle.std.specs.Prelude.{◌≡◌, OnOk, IfOk, IfErr};
+ghost use Rattle.sqpage.specs.Source.{KeepsPages};
+ghost use Rattle.cli_show_rows.specs.Stops.{SchemaRefused};
+ghost use Rattle.cli_show_diff.specs.Changes.{AreAllPrinted, AreAllStopped, AreAskedPrinted, AreAskedStopped};
+ghost use Rattle.cli_show_diff.specs.Changes.{AreChangesPrinted, AreChangesStopped, AreFramedPrinted, AreFramedStopped};
+ghost use Rattle.cli_show_diff.specs.Changes.{AreTablesPrinted, AreTablesStopped, HasObjectsOf, IsNamedPrinted};
+ghost use Rattle.cli_show_diff.specs.Changes.{AreNamedPrinted, AreNamedStopped, IsNamedStopped, texts_of};
+
+use crate::form::ChangeForm;
+use crate::frame::{are_written, write_closing, write_opening};
+use crate::pair::{Pair, print_pair};
+use crate::turn::{Side, Turn, print_turn};
+use cli_show_rows::{Stop, listed};
+use sqpage::PageSource;
+use sqtables::{Object, table_named};
+use std::alloc::Global;
+use std::io::Write;
+
+/// The objects of both databases.
+#[derive(Clone, Copy)]
+pub(crate) struct Schemas<'a> {
+    pub(crate) old: &'a [Object],
+    pub(crate) new: &'a [Object],
+}
+
+/// The objects of a database. One without pages has none.
+fn objects_of<S: PageSource>(alloc: Global, source: &mut S) -> Result<Vec<Object>, Stop>
+    ensures ok { S.gives_pages source.old → IfOk result (λ objects. HasObjectsOf (S.pages source.old) objects.items) }
+    ensures err { S.gives_pages source.old → IfErr result (SchemaRefused (S.pages source.old)) }
+    ensures keeps { KeepsPages S.pages S.size S.reads_right S.gives_pages source.old source.new }
+{
+    if source.count() == 0 {
+        return Ok(Vec::new(alloc));
+    }
+    listed(alloc, source)
+}
+
+/// Prints the changes of the user's tables, or of SQLite's own: first of those that the old database has.
+fn print_tables<S: PageSource, T: PageSource, W: Write>(
+    alloc: Global,
+    old: &mut S,
+    new: &mut T,
+    of: (Schemas<'_>, bool),
+    form: ChangeForm,
+    out: &mut W,
+) -> Result<(), Stop>
+    ensures ok { S.gives_pages old.old → T.gives_pages new.old → OnOk result (AreTablesPrinted (S.pages old.old)
+        (T.pages new.old) of.entry.0 of.entry.1 form (W.contents out.old) (W.contents out.new)) }
+    ensures err { S.gives_pages old.old → T.gives_pages new.old → IfErr result (λ stop. AreTablesStopped
+        (S.pages old.old) (T.pages new.old) of.entry.0 of.entry.1 form stop (W.contents out.old) (W.contents out.new)) }
+    ensures keeps { KeepsPages S.pages S.size S.reads_right S.gives_pages old.old old.new
+        × KeepsPages T.pages T.size T.reads_right T.gives_pages new.old new.new }
+{
+    let (schemas, internal) = of;
+    let there = Turn {
+        side: Side::Old,
+        internal,
+        objects: schemas.old,
+        others: schemas.new,
+    };
+    match print_turn(alloc, old, new, there, form, out) {
+        Ok(()) => {}
+        Err(stop) => return Err(stop),
+    }
+    let lacking = Turn {
+        side: Side::New,
+        internal,
+        objects: schemas.new,
+        others: schemas.old,
+    };
+    print_turn(alloc, old, new, lacking, form, out)
+}
+
+/// Prints the changes of all tables, SQLite's own last.
+fn print_all<S: PageSource, T: PageSource, W: Write>(
+    alloc: Global,
+    old: &mut S,
+    new: &mut T,
+    schemas: Schemas<'_>,
+    form: ChangeForm,
+    out: &mut W,
+) -> Result<(), Stop>
+    ensures ok { S.gives_pages old.old → T.gives_pages new.old → OnOk result (AreAllPrinted (S.pages old.old)
+        (T.pages new.old) schemas.entry form (W.contents out.old) (W.contents out.new)) }
+    ensures err { S.gives_pages old.old → T.gives_pages new.old → IfErr result (λ stop. AreAllStopped (S.pages old.old)
+        (T.pages new.old) schemas.entry form stop (W.contents out.old) (W.contents out.new)) }
+    ensures keeps { KeepsPages S.pages S.size S.reads_right S.gives_pages old.old old.new
+        × KeepsPages T.pages T.size T.reads_right T.gives_pages new.old new.new }
+{
+    match print_tables(alloc, old, new, (schemas, false), form, out) {
+        Ok(()) => print_tables(alloc, old, new, (schemas, true), form, out),
+        Err(stop) => Err(stop),
+    }
+}
+
+/// Of which tables the changes are printed.
+#[derive(Clone, Copy, Debug)]
+pub struct Selected<'a> {
+    /// Of those of these names, as SQLite compares them; where there is none: of each table.
+    pub names: &'a [&'a str],
+    /// Whether one of both databases is to have each of them.
+    pub needed: bool,
+}
+
+/// Prints the changes of the table of a name, as SQLite compares names. Refused by `NoSuchTable` where neither database
+/// has one and it is needed.
+fn print_named<S: PageSource, T: PageSource, W: Write>(
+    alloc: Global,
+    old: &mut S,
+    new: &mut T,
+    of: (Schemas<'_>, &[u8], bool),
+    form: ChangeForm,
+    out: &mut W,
+) -> Result<(), Stop>
+    ensures ok { S.gives_pages old.old → T.gives_pages new.old → OnOk result (IsNamedPrinted (S.pages old.old)
+        (T.pages new.old) of.entry.0 of.entry.1.now form (W.contents out.old) (W.contents out.new)) }
+    ensures err { S.gives_pages old.old → T.gives_pages new.old → IfErr result (λ stop. IsNamedStopped (S.pages old.old)
+        (T.pages new.old) of.entry.0 of.entry.1.now form stop (W.contents out.old) (W.contents out.new)) }
+    ensures keeps { KeepsPages S.pages S.size S.reads_right S.gives_pages old.old old.new
+        × KeepsPages T.pages T.size T.reads_right T.gives_pages new.old new.new }
+{
+    let (schemas, name, needed) = of;
+    let pair = Pair {
+        old: table_named(schemas.old, name),
+        new: table_named(schemas.new, name),
+    };
+    if needed && pair.old.is_none() && pair.new.is_none() {
+        return Err(Stop::NoSuchTable);
+    }
+    print_pair(alloc, old, new, pair, form, out)
+}
+
+/// Prints the changes of the tables of these names, in their order.
+fn print_each<S: PageSource, T: PageSource, W: Write>(
+    alloc: Global,
+    old: &mut S,
+    new: &mut T,
+    of: (Schemas<'_>, Selected<'_>),
+    form: ChangeForm,
+    out: &mut W,
+) -> Result<(), Stop>
+    ensures ok { S.gives_pages old.old → T.gives_pages new.old → OnOk result (AreNamedPrinted (S.pages old.old)
+        (T.pages new.old) of.entry.0 (texts_of of.entry.1.names.now) form (W.contents out.old) (W.contents out.new)) }
+    ensures err { S.gives_pages old.old → T.gives_pages new.old → IfErr result (λ stop. AreNamedStopped
+        (S.pages old.old) (T.pages new.old) of.entry.0 (texts_of of.entry.1.names.now) form stop
+        (W.contents out.old) (W.contents out.new)) }
+    ensures keeps { KeepsPages S.pages S.size S.reads_right S.gives_pages old.old old.new
+        × KeepsPages T.pages T.size T.reads_right T.gives_pages new.old new.new }
+{
+    let (schemas, selected) = of;
+    for name in selected.names {
+        let of = (schemas, name.as_bytes(), selected.needed);
+        match print_named(alloc, old, new, of, form, out) {
+            Ok(()) => {}
+            Err(stop) => return Err(stop),
+        }
+    }
+    Ok(())
+}
+
+/// What is printed of which databases.
+#[derive(Clone, Copy)]
+pub(crate) struct Asked<'a> {
+    pub(crate) schemas: Schemas<'a>,
+    pub(crate) selected: Selected<'a>,
+    pub(crate) form: ChangeForm,
+}
+
+/// Prints the changes of the tables that are asked for.
+fn print_asked<S: PageSource, T: PageSource, W: Write>(
+    alloc: Global,
+    old: &mut S,
+    new: &mut T,
+    asked: Asked<'_>,
+    out: &mut W,
+) -> Result<(), Stop>
+    ensures ok { S.gives_pages old.old → T.gives_pages new.old → OnOk result (AreAskedPrinted (S.pages old.old)
+        (T.pages new.old) asked.entry.schemas (texts_of asked.entry.selected.names.now) asked.entry.form
+        (W.contents out.old) (W.contents out.new)) }
+    ensures err { S.gives_pages old.old → T.gives_pages new.old → IfErr result (λ stop. AreAskedStopped
+        (S.pages old.old)
+        (T.pages new.old) asked.entry.schemas (texts_of asked.entry.selected.names.now) asked.entry.form stop
+        (W.contents out.old) (W.contents out.new)) }
+    ensures keeps { KeepsPages S.pages S.size S.reads_right S.gives_pages old.old old.new
+        × KeepsPages T.pages T.size T.reads_right T.gives_pages new.old new.new }
+{
+    if asked.selected.names.is_empty() {
+        return print_all(alloc, old, new, asked.schemas, asked.form, out);
+    }
+    let of = (asked.schemas, asked.selected);
+    print_each(alloc, old, new, of, asked.form, out)
+}
+
+/// The same between what stands before and behind it.
+fn print_framed<S: PageSource, T: PageSource, W: Write>(
+    alloc: Global,
+    old: &mut S,
+    new: &mut T,
+    asked: Asked<'_>,
+    out: &mut W,
+) -> Result<(), Stop>
+    ensures ok { S.gives_pages old.old → T.gives_pages new.old → OnOk result (AreFramedPrinted (S.pages old.old)
+        (T.pages new.old) asked.entry.schemas (texts_of asked.entry.selected.names.now) asked.entry.form
+        (W.contents out.old) (W.contents out.new)) }
+    ensures err { S.gives_pages old.old → T.gives_pages new.old → IfErr result (λ stop. AreFramedStopped
+        (S.pages old.old) (T.pages new.old) asked.entry.schemas (texts_of asked.entry.selected.names.now)
+        asked.entry.form stop
+        (W.contents out.old) (W.contents out.new)) }
+    ensures keeps { KeepsPages S.pages S.size S.reads_right S.gives_pages old.old old.new
+        × KeepsPages T.pages T.size T.reads_right T.gives_pages new.old new.new }
+{
+    let Schemas {
+        old: olds,
+        new: news,
+    } = asked.schemas;
+    if !are_written(asked.form, olds) || !are_written(asked.form, news) {
+        return Err(Stop::NotUnderstood);
+    }
+    match write_opening(out, asked.form, olds) {
+        Ok(()) => {}
+        Err(error) => return Err(Stop::Write(error)),
+    }
+    match print_asked(alloc, old, new, asked, out) {
+        Ok(()) => {}
+        Err(stop) => return Err(stop),
+    }
+    match write_closing(out, asked.form, news) {
+        Ok(()) => Ok(()),
+        Err(error) => Err(Stop::Write(error)),
+    }
+}
+
+/// Prints which rows differ between an old database and a new one, of the tables that are named, in that order, or of
+/// each: the user's before SQLite's own, those that the old database has before those that it lacks, and each by rowid.
+/// Tables are matched by name; where only one has a table, or their texts differ, all rows went and all came.
+/// In SQL all of it is a script in one transaction. Refused by the faults of both schemas, by `Encoding` where texts
+/// aren't UTF-8, by `NoSuchTable`, by `NotUnderstood` where a table WITHOUT ROWID has rows and in SQL where there is a
+/// virtual table or the text of a table with changes isn't understood, and by faults of trees and rows behind what
+/// stands before them.
+pub fn print_changes<S: PageSource, T: PageSource, W: Write>(
+    alloc: Global,
+    old: &mut S,
+    new: &mut T,
+    selected: Selected<'_>,
+    form: ChangeForm,
+    out: &mut W,
+) -> Result<(), Stop>
+    // What is printed are the changes of the tables, each once.
+    ensures ok { S.gives_pages old.old → T.gives_pages new.old → OnOk result (AreChangesPrinted (S.pages old.old)
+        (T.pages new.old) (texts_of selected.entry.names.now) form (W.contents out.old) (W.contents out.new)) }
+    // The first of them are, and this is why the next one isn't.
+    ensures err { S.gives_pages old.old → T.gives_pages new.old → IfErr result (λ stop. AreChangesStopped
+        (S.pages old.old) (T.pages new.old) (texts_of selected.entry.names.now) form stop
+        (W.contents out.old) (W.contents out.new)) }
+    ensures keeps { KeepsPages S.pages S.size S.reads_right S.gives_pages old.old old.new
+        × KeepsPages T.pages T.size T.reads_right T.gives_pages new.old new.new }
+{
+    let olds = match objects_of(alloc, old) {
+        Ok(objects) => objects,
+        Err(stop) => return Err(stop),
+    };
+    let news = match objects_of(alloc, new) {
+        Ok(objects) => objects,
+        Err(stop) => return Err(stop),
+    };
+    let schemas = Schemas {
+        old: &olds,
+        new: &news,
+    };
+    let asked = Asked {
+        schemas,
+        selected,
+        form,
+    };
+    print_framed(alloc, old, new, asked, out)
+}

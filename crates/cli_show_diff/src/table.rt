@@ -1,0 +1,197 @@
+//! The changes of one table.
+ghost use Rattle.std.specs.Prelude.{◌≡◌, ◌++◌, OnOk, IfOk, IfErr, IsTrue};
+ghost use Rattle.sqpage.specs.Source.{KeepsPages};
+ghost use Rattle.cli_row_text.specs.Inserts.{rowid_name as rowid_named};
+ghost use Rattle.cli_show_diff.specs.Tables.{IsKeptPrinted, IsSidePrinted, IsUnnamed, before_text, head_text};
+ghost use Rattle.cli_show_diff.specs.Tables.{IsKeptStopped, IsSideStopped, IsStyleOf};
+ghost use Rattle.cli_show_rows.specs.declared.stop.Stop.{Stop};
+
+use crate::both::print_both;
+use crate::one::print_one;
+use cli_change_text::{Style, Writing, write_object_head, write_removal_head, write_title};
+use cli_row_text::write_insert;
+use cli_show_rows::{Stop, known_columns, rowid_name};
+use sqpage::PageSource;
+use sqtables::{Columns, Object};
+use std::alloc::Global;
+use std::io::{self, Write};
+
+/// What stands before the first change of a table.
+fn write_before(out: &mut Vec<u8>, writing: Writing, table: &[u8]) -> io::Result<()>
+    ensures { OnOk result (out.new.items ≡ out.old.items ++ before_text writing table.now) }
+{
+    match writing {
+        Writing::Line => write_title(out, table),
+        Writing::Object(_) | Writing::Removal | Writing::Arrival => Ok(()),
+    }
+}
+
+/// What each of them begins with.
+fn write_head(
+    out: &mut Vec<u8>,
+    writing: Writing,
+    table: &[u8],
+    columns: &Columns,
+    rowid: Option<&str>,
+) -> io::Result<()>
+    ensures { OnOk result (out.new.items ≡ out.old.items ++ head_text writing table.now columns.now
+        (rowid_named rowid.entry)) }
+{
+    match writing {
+        Writing::Line => Ok(()),
+        Writing::Object(commit) => write_object_head(out, commit, table),
+        Writing::Removal => write_removal_head(out, table, columns, rowid),
+        Writing::Arrival => write_insert(out, table, rowid, &columns.names),
+    }
+}
+
+/// Both texts.
+fn texts_of(
+    alloc: Global,
+    writing: Writing,
+    table: &[u8],
+    columns: &Columns,
+    rowid: Option<&str>,
+) -> Result<(Vec<u8>, Vec<u8>), Stop>
+    ensures ok { IfOk result (λ texts. (texts.0.items ≡ before_text writing table.now)
+        × (texts.1.items ≡ head_text writing table.now columns.now (rowid_named rowid.entry))) }
+    ensures err { IfErr result (λ stop. stop ≡ Stop.NoMemory) }
+{
+    let mut before = Vec::new(alloc);
+    let mut head = Vec::new(alloc);
+    match write_before(&mut before, writing, table) {
+        Ok(()) => {}
+        Err(_) => return Err(Stop::NoMemory),
+    }
+    match write_head(&mut head, writing, table, columns, rowid) {
+        Ok(()) => Ok((before, head)),
+        Err(_) => Err(Stop::NoMemory),
+    }
+}
+
+/// Whether a script can't name the rows of a table, or its columns.
+fn is_unnamed(writing: Writing, columns: &Columns, rowid: Option<&str>) -> bool
+    ensures { IsTrue result → IsUnnamed writing columns.now (rowid_named rowid.entry) }
+{
+    match writing {
+        Writing::Line | Writing::Object(_) => false,
+        Writing::Removal | Writing::Arrival => {
+            columns.names.is_empty() || (rowid.is_none() && columns.alias.is_none())
+        }
+    }
+}
+
+/// Writes the changes of a table that both databases have, in this style.
+fn print_kept_in<S: PageSource, T: PageSource, W: Write>(
+    alloc: Global,
+    old: &mut S,
+    new: &mut T,
+    tables: (&Object, &Object),
+    style: Style<'_>,
+    out: &mut W,
+) -> Result<(), Stop>
+    requires of { IsStyleOf tables.0.now style.writing style }
+    ensures ok { S.gives_pages old.old → T.gives_pages new.old → OnOk result (IsKeptPrinted (S.pages old.old)
+        (T.pages new.old) tables.entry.0.now tables.entry.1.now style.entry.writing
+        (W.contents out.old) (W.contents out.new)) }
+    ensures err { S.gives_pages old.old → T.gives_pages new.old → IfErr result (λ stop. IsKeptStopped (S.pages old.old)
+        (T.pages new.old) tables.entry.0.now tables.entry.1.now style.entry.writing stop
+        (W.contents out.old) (W.contents out.new)) }
+    ensures keeps { KeepsPages S.pages S.size S.reads_right S.gives_pages old.old old.new
+        × KeepsPages T.pages T.size T.reads_right T.gives_pages new.old new.new }
+{
+    print_both(alloc, old, new, (tables.0.root, tables.1.root), style, out)
+}
+
+/// Writes the changes of a table that both databases have.
+pub(crate) fn print_kept<S: PageSource, T: PageSource, W: Write>(
+    alloc: Global,
+    old: &mut S,
+    new: &mut T,
+    tables: (&Object, &Object),
+    writing: Writing,
+    out: &mut W,
+) -> Result<(), Stop>
+    ensures ok { S.gives_pages old.old → T.gives_pages new.old → OnOk result (IsKeptPrinted (S.pages old.old)
+        (T.pages new.old) tables.entry.0.now tables.entry.1.now writing (W.contents out.old) (W.contents out.new)) }
+    ensures err { S.gives_pages old.old → T.gives_pages new.old → IfErr result (λ stop. IsKeptStopped (S.pages old.old)
+        (T.pages new.old) tables.entry.0.now tables.entry.1.now writing stop (W.contents out.old)
+        (W.contents out.new)) }
+    ensures keeps { KeepsPages S.pages S.size S.reads_right S.gives_pages old.old old.new
+        × KeepsPages T.pages T.size T.reads_right T.gives_pages new.old new.new }
+{
+    let table = tables.0;
+    let columns = match known_columns(alloc, table) {
+        Ok(columns) => columns,
+        Err(stop) => return Err(stop),
+    };
+    let rowid = rowid_name(&columns);
+    if is_unnamed(writing, &columns, rowid) {
+        return Err(Stop::NotUnderstood);
+    }
+    let (before, head) = match texts_of(alloc, writing, &table.name, &columns, rowid) {
+        Ok(texts) => texts,
+        Err(stop) => return Err(stop),
+    };
+    let style = Style {
+        writing,
+        columns: &columns,
+        before: &before,
+        head: &head,
+        leads: rowid.is_some(),
+    };
+    print_kept_in(alloc, old, new, tables, style, out)
+}
+
+/// Writes all rows of a table as ones that came, or that went, in this style.
+fn print_side_in<S: PageSource, W: Write>(
+    alloc: Global,
+    source: &mut S,
+    table: &Object,
+    comes: bool,
+    style: Style<'_>,
+    out: &mut W,
+) -> Result<(), Stop>
+    requires of { IsStyleOf table.now style.writing style }
+    ensures ok { S.gives_pages source.old → OnOk result (IsSidePrinted (S.pages source.old) table.now comes
+        style.entry.writing (W.contents out.old) (W.contents out.new)) }
+    ensures err { S.gives_pages source.old → IfErr result (λ stop. IsSideStopped (S.pages source.old) table.now comes
+        style.entry.writing stop (W.contents out.old) (W.contents out.new)) }
+    ensures keeps { KeepsPages S.pages S.size S.reads_right S.gives_pages source.old source.new }
+{
+    print_one(alloc, source, table.root, comes, style, out)
+}
+
+/// Writes all rows of a table as ones that came, or that went.
+pub(crate) fn print_side<S: PageSource, W: Write>(
+    alloc: Global,
+    source: &mut S,
+    table: &Object,
+    comes: bool,
+    writing: Writing,
+    out: &mut W,
+) -> Result<(), Stop>
+    ensures ok { S.gives_pages source.old → OnOk result (IsSidePrinted (S.pages source.old) table.now comes writing
+        (W.contents out.old) (W.contents out.new)) }
+    ensures err { S.gives_pages source.old → IfErr result (λ stop. IsSideStopped (S.pages source.old) table.now comes
+        writing stop (W.contents out.old) (W.contents out.new)) }
+    ensures keeps { KeepsPages S.pages S.size S.reads_right S.gives_pages source.old source.new }
+{
+    let columns = match known_columns(alloc, table) {
+        Ok(columns) => columns,
+        Err(stop) => return Err(stop),
+    };
+    let rowid = rowid_name(&columns);
+    let (before, head) = match texts_of(alloc, writing, &table.name, &columns, rowid) {
+        Ok(texts) => texts,
+        Err(stop) => return Err(stop),
+    };
+    let style = Style {
+        writing,
+        columns: &columns,
+        before: &before,
+        head: &head,
+        leads: rowid.is_some(),
+    };
+    print_side_in(alloc, source, table, comes, style, out)
+}

@@ -1,0 +1,93 @@
+-- What a stop says of a table, and of what was written.
+use Rattle.std.proofs.Common.{◌≡◌, ℕ, Bool, List, Option, Result, Ok, Err, OnOk, length, subst, sym}
+use Rattle.std.specs.Prelude.{IfErr}
+use Rattle.sqval.specs.Database.{Database}
+use Rattle.sqval.specs.Record.{most_bytes}
+use Rattle.sqrows.specs.declared.rows.RowsError.{RowsError}
+use Rattle.sqrows.specs.declared.rows.RowsError.TheVariants as row_errors
+use Rattle.sqrows.specs.declared.payload.PayloadError.TheVariants as payload_errors
+use Rattle.sqrows.specs.Stops.{RowRefused}
+use Rattle.sqrows.proofs.PassedRows.{tree_fault}
+use Rattle.sqtables.specs.declared.columns.Columns.{Columns}
+use Rattle.sqtables.specs.declared.list.ListError.{ListError}
+use Rattle.sqtables.specs.declared.list.ListError.TheVariants as list_errors
+use Rattle.sqtables.specs.declared.list.Object.{Object}
+use Rattle.sqtables.specs.Named.{AreColumns}
+use Rattle.sqtables.specs.Objects.{ListRefused}
+use Rattle.cli_row_text.specs.declared.form.Form.{Form}
+use Rattle.cli_row_text.specs.declared.print.PrintError.{PrintError}
+use Rattle.cli_row_text.specs.declared.print.PrintError.TheVariants as print_errors
+use Rattle.cli_row_text.specs.Printed.{IsPrintedUntil, PrintRefused, WrittenUntil}
+use Rattle.cli_show_rows.specs.declared.stop.Stop.{Stop}
+use Rattle.cli_show_rows.specs.Tables.{IsInsert, IsNameFor, leads_in}
+use Rattle.cli_show_rows.specs.Stops.{IsBegun, StopsAt, SchemaRefused, WrittenUntil as StoppedUntil}
+use Rattle.cli_show_rows.specs.internal.Stopping.{stop_of_row, stop_of_print, stop_of_list}
+
+-- what follows of an answer
+pub on_ok : {T E : Type 0} (answer : Result T E) (P Q : Type 0) → (P → Q) → OnOk answer P → OnOk answer Q
+on_ok (Ok _) P Q follows p = follows p
+on_ok (Err _) P Q follows p = tt
+
+pub on_err : {T E : Type 0} (answer : Result T E) (P Q : E → Type 0) → ((e : E) → P e → Q e) → IfErr answer P → IfErr answer Q
+on_err (Ok _) P Q follows p = tt
+on_err (Err e) P Q follows p = follows e p
+
+row_stops : (d : Database) (root : ℕ) (form : Form) (columns : Columns) (k : ℕ) (e : RowsError) → RowRefused d root most_bytes k e → StopsAt d root form columns k (stop_of_row e)
+row_stops d root form columns k (row_errors.Tree e) h = tree_fault d root k e h
+row_stops d root form columns k (row_errors.Payload (payload_errors.Chain e)) h = h
+row_stops d root form columns k (row_errors.Payload payload_errors.TooLong) h = h
+
+print_stops : (d : Database) (root : ℕ) (form : Form) (columns : Columns) (k : ℕ) (e : PrintError) → PrintRefused d root form columns k e → StopsAt d root form columns k (stop_of_print e)
+print_stops d root form columns k (print_errors.Tree e) h = tree_fault d root k e h
+print_stops d root form columns k (print_errors.Row e) h = row_stops d root form columns k e h
+print_stops d root form columns k (print_errors.Record e) h = h
+print_stops d root form columns k print_errors.NoMemory h = tt
+print_stops d root form columns k print_errors.Default h = h
+print_stops d root form columns k print_errors.Behind h = h
+print_stops d root form columns k (print_errors.Write e) h = tt
+
+row_written : (e : RowsError) (before after : Option (List ℕ)) (t : List ℕ) → WrittenUntil (print_errors.Row e) before after t → StoppedUntil (stop_of_row e) before after t
+row_written (row_errors.Tree e) before after t h = h
+row_written (row_errors.Payload (payload_errors.Chain e)) before after t h = h
+row_written (row_errors.Payload payload_errors.TooLong) before after t h = h
+
+print_written : (e : PrintError) (before after : Option (List ℕ)) (t : List ℕ) → WrittenUntil e before after t → StoppedUntil (stop_of_print e) before after t
+print_written (print_errors.Tree e) before after t h = h
+print_written (print_errors.Row e) before after t h = row_written e before after t h
+print_written (print_errors.Record e) before after t h = h
+print_written print_errors.NoMemory before after t h = h
+print_written print_errors.Default before after t h = h
+print_written print_errors.Behind before after t h = h
+print_written (print_errors.Write e) before after t h = tt
+
+-- the rows of a table, printed until the stop
+pub begun : (d : Database) (table : Object) (form : Form) (columns : Columns) (rowid : Option (List ℕ)) (insert : List ℕ) (leads : Bool) (e : PrintError) (stop : Stop) (before after : Option (List ℕ))
+    → AreColumns table.sql.items columns → IsNameFor columns rowid → IsInsert form table columns rowid insert → leads ≡ leads_in form columns rowid → stop ≡ stop_of_print e
+    → IsPrintedUntil d table.root form insert columns leads e before after → IsBegun d table form stop before after
+begun d table form columns rowid insert leads e stop before after known named begins is told w =
+    let own : IsPrintedUntil d table.root form insert columns (leads_in form columns rowid) e before after = subst (λ (l : Bool). IsPrintedUntil d table.root form insert columns l e before after) is w in
+    subst (λ (s : Stop). IsBegun d table form s before after) (sym told) (record {
+      columns = columns;
+      known = known;
+      rowid = rowid;
+      named = named;
+      insert = insert;
+      begins = begins;
+      rows = own.rows;
+      first = own.first;
+      stops = print_stops d table.root form columns (length own.rows) e own.refused;
+      text = own.text;
+      lines = own.lines;
+      written = print_written e before after own.text own.written;
+    })
+
+schema_row : (d : Database) (k : ℕ) (e : RowsError) → RowRefused d 1 most_bytes k e → SchemaRefused d (stop_of_row e)
+schema_row d k (row_errors.Tree e) h = (k, tree_fault d 1 k e h)
+schema_row d k (row_errors.Payload (payload_errors.Chain e)) h = (k, h)
+schema_row d k (row_errors.Payload payload_errors.TooLong) h = (k, h)
+
+pub schema_refused : (d : Database) (e : ListError) → ListRefused d e → SchemaRefused d (stop_of_list e)
+schema_refused d (list_errors.Tree e) h = (0, tree_fault d 1 0 e h)
+schema_refused d (list_errors.Row e) h = schema_row d h.0 e h.1
+schema_refused d (list_errors.Record e) h = h
+schema_refused d list_errors.NoMemory h = tt

@@ -1,0 +1,167 @@
+//! The rows of one table.
+ghost use Rattle.std.specs.Prelude.{◌≡◌, OnOk, IfOk, IfErr, IsTrue, true};
+ghost use Rattle.std.specs.List.{list_any};
+ghost use Rattle.std.specs.Str.{str_eq_ignore_ascii_case};
+ghost use Rattle.sqpage.specs.Source.{KeepsPages};
+ghost use Rattle.sqtables.specs.Named.{AreColumns};
+ghost use Rattle.cli_row_text.specs.Inserts.{rowid_name as rowid_named};
+ghost use Rattle.cli_show_rows.specs.Tables.{IsInsert, IsNameFor, IsTablePrinted, has_column as has_named};
+ghost use Rattle.cli_show_rows.specs.Tables.{are_unnamed, has_rowids, leads_in};
+ghost use Rattle.cli_row_text.specs.declared.form.Form.{Form};
+ghost use Rattle.cli_show_rows.specs.Stops.{IsTableStopped};
+ghost use Rattle.cli_show_rows.specs.declared.stop.Stop.{Stop};
+
+use crate::stop::Stop;
+use cli_row_text::{Form, Style, print_rows, write_insert};
+use sqpage::PageSource;
+use sqtables::{Columns, Object, columns_of};
+use std::alloc::Global;
+use std::io::Write;
+
+/// Whether a column's name is this one. SQLite's names don't tell ASCII's small letters from its capitals.
+fn is_name(column: &[u8], name: &[u8]) -> bool
+    ensures { result ≡ str_eq_ignore_ascii_case column.now name.now }
+{
+    column.eq_ignore_ascii_case(name)
+}
+
+/// Whether a column has this name.
+fn is_among(names: &[Vec<u8>], name: &str) -> bool
+    ensures { result ≡ list_any (λ column. str_eq_ignore_ascii_case column.items name.now) names.now }
+{
+    for column in names {
+        if is_name(column.as_slice(), name.as_bytes()) {
+            return true;
+        }
+    }
+    false
+}
+
+/// The same of the columns of a table.
+fn has_column(columns: &Columns, name: &str) -> bool
+    ensures { result ≡ has_named columns.now name.now }
+{
+    is_among(&columns.names, name)
+}
+
+/// Whether a table has rowids, where its columns are known.
+fn has_rowids(columns: &Columns) -> bool
+    ensures { result ≡ has_rowids columns.now }
+{
+    columns.places.is_empty()
+}
+
+/// The name by which an INSERT gives a row its rowid; none where there is none, a column is another name for it, or no
+/// name is free.
+pub fn rowid_name(columns: &Columns) -> Option<&'static str>
+    ensures { IsNameFor columns.now (rowid_named result) }
+{
+    if !has_rowids(columns) || columns.alias.is_some() {
+        return None;
+    }
+    if !has_column(columns, "rowid") {
+        return Some("rowid");
+    }
+    if !has_column(columns, "_rowid_") {
+        return Some("_rowid_");
+    }
+    if !has_column(columns, "oid") {
+        return Some("oid");
+    }
+    None
+}
+
+/// Whether the rowid stands before the values.
+fn leads(form: Form, columns: &Columns, rowid: Option<&str>) -> bool
+    ensures { result ≡ leads_in form columns.now (rowid_named rowid.entry) }
+{
+    match form {
+        Form::Sql => rowid.is_some(),
+        Form::Json | Form::Csv => columns.names.is_empty(),
+    }
+}
+
+/// What is known of the columns of a table. Refused by `NoMemory` alone.
+pub fn known_columns(alloc: Global, table: &Object) -> Result<Columns, Stop>
+    ensures ok { IfOk result (AreColumns table.now.sql.items) }
+    ensures err { IfErr result (λ stop. stop ≡ Stop.NoMemory) }
+{
+    match columns_of(alloc, &table.sql) {
+        Ok(columns) => Ok(columns),
+        Err(_) => Err(Stop::NoMemory),
+    }
+}
+
+/// What stands before the values of a row of a table; nothing where the form is none of SQL.
+fn insert_of(
+    alloc: Global,
+    table: &Object,
+    columns: &Columns,
+    rowid: Option<&str>,
+    form: Form,
+) -> Result<Vec<u8>, Stop>
+    ensures ok { IfOk result (λ insert.
+        IsInsert form table.now columns.now (rowid_named rowid.entry) insert.items) }
+    ensures err { IfErr result (λ stop. stop ≡ Stop.NoMemory) }
+{
+    let mut insert = Vec::new(alloc);
+    match form {
+        Form::Json | Form::Csv => Ok(insert),
+        Form::Sql => match write_insert(&mut insert, &table.name, rowid, &columns.names) {
+            Ok(()) => Ok(insert),
+            Err(_) => Err(Stop::NoMemory),
+        },
+    }
+}
+
+/// Whether the columns of a table are to be named in SQL, and none is known.
+fn is_unknown(form: Form, columns: &Columns) -> bool
+    ensures { IsTrue result → (form ≡ Form.Sql) × (are_unnamed columns.now ≡ true) }
+{
+    match form {
+        Form::Json | Form::Csv => false,
+        Form::Sql => columns.names.is_empty(),
+    }
+}
+
+/// Writes a line for each row of a table, in order. The rowid stands before the values where the form is SQL and no
+/// column is another name for it, or where no column is known. Refused by `NotUnderstood` where the form is SQL and no
+/// column is known; by faults of its tree and rows behind the lines that stand before them.
+pub fn print_table<S: PageSource, W: Write>(
+    alloc: Global,
+    source: &mut S,
+    table: &Object,
+    form: Form,
+    out: &mut W,
+) -> Result<(), Stop>
+    // What is written are the lines of the table's rows in the database, each once and in order.
+    ensures ok { S.gives_pages source.old → OnOk result (IsTablePrinted (S.pages source.old) table.now form
+        (W.contents out.old) (W.contents out.new)) }
+    // The lines of the first rows were written, and this is why the next one's isn't; or why nothing was written.
+    ensures err { S.gives_pages source.old → IfErr result (λ stop. IsTableStopped (S.pages source.old) table.now form
+        stop (W.contents out.old) (W.contents out.new)) }
+    ensures keeps { KeepsPages S.pages S.size S.reads_right S.gives_pages source.old source.new }
+{
+    let columns = match known_columns(alloc, table) {
+        Ok(columns) => columns,
+        Err(stop) => return Err(stop),
+    };
+    if is_unknown(form, &columns) {
+        return Err(Stop::NotUnderstood);
+    }
+    let rowid = rowid_name(&columns);
+    let insert = match insert_of(alloc, table, &columns, rowid, form) {
+        Ok(insert) => insert,
+        Err(stop) => return Err(stop),
+    };
+    let style = Style {
+        form,
+        columns: &columns,
+        insert: &insert,
+        leads: leads(form, &columns, rowid),
+    };
+    match print_rows(alloc, source, table.root, style, out) {
+        Ok(()) => Ok(()),
+        Err(error) => Err(Stop::from(error)),
+    }
+}

@@ -1,0 +1,38 @@
+//! The rows of a table behind its heading.
+ghost use Rattle.std.specs.Prelude.{OnOk, IfErr};
+ghost use Rattle.sqpage.specs.Source.{KeepsPages};
+ghost use Rattle.cli_show_rows.specs.Tables.{IsHeadedPrinted};
+ghost use Rattle.cli_show_rows.specs.Stops.{IsHeadedStopped};
+
+use crate::stop::Stop;
+use crate::table::{known_columns, print_table};
+use cli_row_text::{Form, write_heading};
+use sqpage::PageSource;
+use sqtables::Object;
+use std::alloc::Global;
+use std::io::Write;
+
+/// Writes the heading of a table, as `write_heading` does, and behind it a line for each row, as `print_table` does and
+/// with its errors. In SQL no heading is written.
+pub fn print_headed<S: PageSource, W: Write>(
+    alloc: Global,
+    source: &mut S,
+    table: &Object,
+    form: Form,
+    out: &mut W,
+) -> Result<(), Stop>
+    ensures ok { S.gives_pages source.old → OnOk result (IsHeadedPrinted (S.pages source.old) table.now form
+        (W.contents out.old) (W.contents out.new)) }
+    ensures err { S.gives_pages source.old → IfErr result (λ stop. IsHeadedStopped (S.pages source.old) table.now form
+        stop (W.contents out.old) (W.contents out.new)) }
+    ensures keeps { KeepsPages S.pages S.size S.reads_right S.gives_pages source.old source.new }
+{
+    let columns = match known_columns(alloc, table) {
+        Ok(columns) => columns,
+        Err(stop) => return Err(stop),
+    };
+    match write_heading(out, form, &table.name, &columns.names) {
+        Ok(()) => print_table(alloc, source, table, form, out),
+        Err(error) => Err(Stop::Write(error)),
+    }
+}

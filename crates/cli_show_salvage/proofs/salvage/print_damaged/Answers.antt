@@ -1,0 +1,44 @@
+use Rattle.std.proofs.Common.{List, sym, subst}
+use Rattle.std.proofs.lemmas.Result.{on_ok_weaker}
+use Rattle.sqval.specs.Database.{Database}
+use Rattle.sqtables.specs.declared.list.Object.{Object}
+use Rattle.sqsalvage.specs.SalvageCursor.{IsOver}
+use Rattle.cli_show_salvage.specs.Leaves.{IsTreeTold}
+use Rattle.cli_show_salvage.specs.Scripts.{AreRowsSalvaged}
+use Rattle.cli_show_salvage.proofs.Kept.{kept_more}
+use Rattle.cli_show_salvage.proofs.salvage.print_damaged.Goals as goal
+
+pub returns-in-Ok-print_tree-clause-ok : goal.returns-in-Ok-print_tree-clause-ok
+returns-in-Ok-print_tree-clause-ok g c = λ gives.
+    let P = g.S.PageSource in
+    let d = P.pages c.args.source.now in
+    let begun = c.in-Ok.ensures in
+    let salvage = c.in-Ok.salvage in
+    let tree = c.in-Ok-print_tree.ensures in
+    let moved = c.print_tree.new.salvage in
+    let read = c.print_tree.new.book in
+    let target = c.schema_target-target.result in
+    let first_done = g.W.Write.contents c.print_text.new.out in
+    let schema_done = g.W.Write.contents c.print_tree.new.out in
+    let after = g.W.Write.contents c.print_rows.new.out in
+    let one = begun.keeps in
+    let both = kept_more P.pages P.size P.reads_right P.gives_pages c.args.source.now c.new.new.source c.print_tree.new.source one tree.keeps in
+    let over = subst (λ (x : Database). IsOver x salvage) (sym one.same_pages) (begun.ok gives).0 in
+    let over_moved = subst (λ (x : Database). IsOver x moved) (sym tree.keeps.same_pages) (tree.over (one.still_gives gives) over) in
+    on_ok_weaker c.print_rows.result (λ rows. record {
+      first_done = first_done;
+      first = c.in-Ok-print_text.ensures.ok;
+      unpassed = salvage.marks.items;
+      none = (begun.ok gives).2;
+      target = target;
+      goes = c.schema_target-target.ensures.goes;
+      kind_is = c.schema_target-target.ensures.table;
+      begun = c.new-book.result;
+      empty = c.new-book.ensures.objects;
+      passed = moved.marks.items;
+      read = read;
+      schema_done = schema_done;
+      schema = subst (λ (x : Database). IsTreeTold x target 1 salvage.marks.items moved.marks.items c.new-book.result read first_done schema_done) one.same_pages (tree.ok (one.still_gives gives) over);
+      rows = subst (λ (os : List Object). AreRowsSalvaged d c.args.places os moved.marks.items schema_done after) c.deref.ensures.value
+          (subst (λ (x : Database). AreRowsSalvaged x c.args.places c.deref.result.now moved.marks.items schema_done after) both.same_pages rows);
+    }) (c.print_rows.ensures.ok (both.still_gives gives) over_moved)

@@ -1,0 +1,160 @@
+//! The table of lost rows.
+ghost use Rattle.std.specs.Prelude.{◌≡◌, ◌≤◌, ◌<◌, ◌^◌, ◌++◌, max, IfErr, IfOk, OnOk, codes, length, option_copied};
+ghost use Rattle.std.specs.Fmt.{decimal};
+ghost use Rattle.std.specs.Io.KnownBytes.{Appends};
+ghost use Rattle.sqval.specs.Datum.{row_of};
+ghost use Rattle.cli_show_salvage.specs.Lost.{IsLostRow, added_text, added_texts, head_text, made_text, named_texts};
+ghost use Rattle.cli_show_salvage.specs.Lost.{id_text, root_text};
+ghost use Rattle.cli_show_salvage.specs.Cells.{IsRunOut};
+ghost use Rattle.cli_show_salvage.specs.Lost.{where_text};
+
+use crate::book::{Book, Target};
+use cli_row_text::{Form, write_between, write_line};
+use cli_show_rows::Stop;
+use sqpage::Cell;
+use sqrows::Row;
+use sqval::Value;
+use std::alloc::{AllocError, Global};
+use std::io::{self, Write};
+
+/// What makes the table.
+pub(crate) fn write_made<W: Write>(out: &mut W, name: &[u8]) -> io::Result<()>
+    ensures { OnOk result (Appends (W.contents out.old) (W.contents out.new) (made_text name.now)) }
+{
+    out.write_all(b"CREATE TABLE ")?;
+    write_between(out, b'"', name)?;
+    out.write_all(b"(rootpgno INTEGER, pgno INTEGER, nfield INTEGER, id INTEGER);\n")
+}
+
+/// What adds the column for value `k`.
+fn write_added<W: Write>(out: &mut W, name: &[u8], k: usize) -> io::Result<()>
+    ensures { OnOk result (Appends (W.contents out.old) (W.contents out.new) (added_text name.now k)) }
+{
+    out.write_all(b"ALTER TABLE ")?;
+    write_between(out, b'"', name)?;
+    write!(out, " ADD COLUMN c{k};\n")
+}
+
+/// What adds the columns for values from the first number on up to the second.
+fn write_columns<W: Write>(out: &mut W, name: &[u8], from: usize, to: usize) -> io::Result<()>
+    ensures { OnOk result (Appends (W.contents out.old) (W.contents out.new) (added_texts name.now from to)) }
+{
+    if to <= from {
+        return Ok(());
+    }
+    'columns: for k in from..to {
+        write_added(out, name, k)?;
+    }
+    Ok(())
+}
+
+/// The name of the column for value `k`.
+fn write_name<W: Write>(out: &mut W, k: usize) -> io::Result<()>
+    ensures { OnOk result (Appends (W.contents out.old) (W.contents out.new) (codes ",c" ++ decimal k)) }
+{
+    write!(out, ",c{k}")
+}
+
+/// The names of so many columns.
+fn write_names<W: Write>(out: &mut W, count: usize) -> io::Result<()>
+    ensures { OnOk result (Appends (W.contents out.old) (W.contents out.new) (named_texts count)) }
+{
+    'names: for k in 0..count {
+        write_name(out, k)?;
+    }
+    Ok(())
+}
+
+/// What an INSERT begins with.
+fn write_head<W: Write>(out: &mut W, name: &[u8]) -> io::Result<()>
+    ensures { OnOk result (Appends (W.contents out.old) (W.contents out.new) (head_text name.now)) }
+{
+    out.write_all(b"INSERT INTO ")?;
+    write_between(out, b'"', name)?;
+    out.write_all(b"(rootpgno,pgno,nfield,id")
+}
+
+/// The root of a tree.
+fn write_root<W: Write>(out: &mut W, root: Option<u32>) -> io::Result<()>
+    ensures { OnOk result (Appends (W.contents out.old) (W.contents out.new) (root_text root)) }
+{
+    match root {
+        Some(root) => write!(out, "{root}"),
+        None => out.write_all(b"NULL"),
+    }
+}
+
+/// The root of a row's tree, its page, and how many values it has.
+fn write_where<W: Write>(out: &mut W, root: Option<u32>, p: u32, n: usize) -> io::Result<()>
+    ensures { OnOk result (Appends (W.contents out.old) (W.contents out.new) (where_text root p n)) }
+{
+    out.write_all(b") VALUES(")?;
+    write_root(out, root)?;
+    write!(out, ",{p},{n},")
+}
+
+/// The values of a row as they are stored.
+fn stored<'a>(alloc: Global, row: &Row<'a>) -> Result<Vec<Value<'a>>, AllocError>
+    ensures { IfOk result (λ values. row_of values.items ≡ row.now.values) }
+{
+    let mut values = Vec::new(alloc);
+    for value in row.values.columns() {
+        values.push(value)?;
+    }
+    Ok(values)
+}
+
+/// What stands for the rowid of a row of so many values, where it has none.
+fn id_lead(rowid: Option<i64>, count: usize) -> &'static [u8]
+    ensures { result.now ≡ id_text rowid count }
+{
+    match rowid {
+        Some(_) => b"",
+        None => if count == 0 { b"NULL" } else { b"NULL," },
+    }
+}
+
+/// An INSERT of these values, which stand in this cell, behind as many columns as it takes.
+fn write_row<W: Write>(
+    target: &Target<'_>,
+    cell: &Cell,
+    values: &[Value<'_>],
+    width: usize,
+    out: &mut W,
+) -> io::Result<()>
+    ensures { OnOk result (IsLostRow target.now.lost.now target.now.root cell.now (row_of values.now) width
+        (max width (length values.now)) (W.contents out.old) (W.contents out.new)) }
+{
+    write_columns(out, target.lost, width, values.len())?;
+    write_head(out, target.lost)?;
+    write_names(out, values.len())?;
+    write_where(out, target.root, cell.page, values.len())?;
+    let lead = id_lead(cell.rowid, values.len());
+    write_line(out, Form::Sql, lead, &[], cell.rowid, values)
+}
+
+/// Writes a row that stands in this cell into the table of lost rows.
+pub(crate) fn print_lost<W: Write>(
+    target: &Target<'_>,
+    cell: &Cell,
+    row: &Row<'_>,
+    book: &mut Book,
+    out: &mut W,
+) -> Result<(), Stop>
+    ensures ok { OnOk result (IsLostRow target.now.lost.now target.now.root cell.now row.now.values book.old.width
+        book.new.width (W.contents out.old) (W.contents out.new)) }
+    ensures same { (book.new.rowids ≡ book.old.rowids) × (book.new.objects ≡ book.old.objects) }
+    ensures err { IfErr result IsRunOut }
+{
+    let values = match stored(book.alloc, row) {
+        Ok(values) => values,
+        Err(_) => return Err(Stop::NoMemory),
+    };
+    match write_row(target, cell, &values, book.width, out) {
+        Ok(()) => {
+            book.width = book.width.max(values.len());
+            Ok(())
+        }
+        Err(error) => Err(Stop::Write(error)),
+    }
+}

@@ -1,0 +1,279 @@
+//! A database as a script, well formed or not.
+ghost use Rattle.std.specs.Prelude.{◌≡◌, ◌⊎◌, ◌≤◌, [], IfErr, IfOk, OnOk, length, true};
+ghost use Rattle.std.specs.Io.KnownBytes.{Appends};
+ghost use Rattle.sqval.specs.Database.{page};
+ghost use Rattle.sqpage.specs.Source.{KeepsPages};
+ghost use Rattle.cli_show_rows.specs.Dumps.{AreTablesPrinted};
+ghost use Rattle.cli_show_rows.specs.Stops.{AreTablesStopped};
+ghost use Rattle.cli_row_text.specs.declared.form.Form.TheVariants.{Sql};
+ghost use Rattle.sqsalvage.specs.SalvageCursor.{IsOver};
+ghost use Rattle.cli_show_salvage.specs.declared.book.Going.TheVariants.{Schema};
+ghost use Rattle.cli_show_salvage.specs.Cells.{IsRunOut};
+ghost use Rattle.cli_show_salvage.specs.Scripts.{AreRowsSalvaged, AreTreesEnded, IsSalvaged, IsScript};
+ghost use Rattle.cli_show_salvage.specs.Scripts.{IsScriptStopped, IsUnfit, IsUnreachedEnded};
+ghost use Rattle.cli_show_salvage.specs.internal.Opening.{IsJudged, IsTextUnfit};
+
+use crate::book::{Book, Going, Target, Turn};
+use crate::found::stop_of;
+use crate::leaves::{print_lost_leaves, print_tree};
+use crate::lost::write_made;
+use crate::tables::{lost_name, print_others, print_turn};
+use byteorder::{BigEndian, ByteOrder};
+use cli_row_text::Form;
+use cli_show_rows::{Stop, print_tables};
+use sqcheck::{Options, check_with};
+use sqpage::{CheckError, Fault, PageSource};
+use sqsalvage::Salvage;
+use sqtables::Object;
+use std::alloc::Global;
+use std::io::Write;
+
+/// Writes bytes.
+fn print_text<W: Write>(out: &mut W, text: &[u8]) -> Result<(), Stop>
+    ensures ok { OnOk result (Appends (W.contents out.old) (W.contents out.new) text.now) }
+    ensures err { IfErr result IsRunOut }
+{
+    match out.write_all(text) {
+        Ok(()) => Ok(()),
+        Err(error) => Err(Stop::Write(error)),
+    }
+}
+
+/// Whether the database is well formed.
+fn is_well_formed<S: PageSource>(alloc: Global, source: &mut S) -> Result<bool, Stop>
+    ensures ok { S.gives_pages source.old → IfOk result (IsJudged (S.pages source.old) (S.size source.old)) }
+    ensures err { S.gives_pages source.old → IfErr result IsRunOut }
+    ensures keeps { KeepsPages S.pages S.size S.reads_right S.gives_pages source.old source.new }
+{
+    match check_with(alloc, source, Options { pointer_maps: true }) {
+        Ok(_) => Ok(true),
+        Err(refusal) => match refusal.fault {
+            Fault::Source | Fault::NoMemory => Err(stop_of(refusal)),
+            _ => Ok(false),
+        },
+    }
+}
+
+/// Whether a page 1 says that texts are UTF-16 (fileformat2, 1.3.13).
+fn says_utf16(bytes: &[u8]) -> bool
+    requires { 60 ≤ length bytes.now }
+    ensures { IsTextUnfit bytes.now result }
+{
+    let encoding = BigEndian::read_u32(&bytes[56..60]);
+    encoding == 2 || encoding == 3
+}
+
+/// Whether the texts of the database are UTF-16, as its page 1 says.
+fn is_utf16<S: PageSource>(alloc: Global, source: &mut S) -> Result<bool, Stop>
+    ensures ok { S.gives_pages source.old → IfOk result (IsTextUnfit (page (S.pages source.old) 1)) }
+    ensures err { S.gives_pages source.old → IfErr result IsRunOut }
+    ensures keeps { KeepsPages S.pages S.size S.reads_right S.gives_pages source.old source.new }
+{
+    if source.count() == 0 {
+        return Ok(false);
+    }
+    let size = source.page_size().get() as usize;
+    let Ok(mut bytes) = vec![in alloc; 0u8; size] else {
+        return Err(Stop::NoMemory);
+    };
+    match source.page(1, &mut bytes) {
+        Ok(()) => Ok(says_utf16(&bytes)),
+        Err(_) => Err(Stop::Fault(CheckError {
+            page: 1,
+            fault: Fault::Source,
+        })),
+    }
+}
+
+/// Writes the leaves that no tree reaches, and ends the transaction.
+fn print_unreached<S: PageSource, W: Write>(
+    source: &mut S,
+    salvage: &mut Salvage,
+    turn: Turn<'_>,
+    book: &mut Book,
+    out: &mut W,
+) -> Result<(), Stop>
+    requires sized { S.size source.old ≡ salvage.old.size }
+    requires first { salvage.old.at ≡ 0 }
+    ensures ok { S.gives_pages source.old → IsOver (S.pages source.old) salvage.old → OnOk result
+        (IsUnreachedEnded (S.pages source.old) turn.entry.lost.now turn.entry.places salvage.old.marks.items book.old
+        (W.contents out.old) (W.contents out.new)) }
+    ensures err { S.gives_pages source.old → IsOver (S.pages source.old) salvage.old → IfErr result IsRunOut }
+    ensures keeps { KeepsPages S.pages S.size S.reads_right S.gives_pages source.old source.new }
+{
+    let target = Target {
+        lost: turn.lost,
+        root: None,
+        table: true,
+        going: Going::Lost,
+        places: turn.places,
+    };
+    match print_lost_leaves(source, salvage, &target, book, out) {
+        Ok(()) => print_text(out, b"COMMIT;\n"),
+        Err(stop) => Err(stop),
+    }
+}
+
+/// Writes the tables of the objects, and the leaves that no tree reaches.
+fn print_trees<S: PageSource, W: Write>(
+    source: &mut S,
+    salvage: &mut Salvage,
+    turn: Turn<'_>,
+    book: &mut Book,
+    out: &mut W,
+) -> Result<(), Stop>
+    requires sized { S.size source.old ≡ salvage.old.size }
+    requires ended { salvage.old.pending.items ≡ [] }
+    requires first { salvage.old.at ≡ 0 }
+    ensures ok { S.gives_pages source.old → IsOver (S.pages source.old) salvage.old → OnOk result
+        (AreTreesEnded (S.pages source.old) turn.entry.lost.now turn.entry.places turn.entry.objects.now
+        salvage.old.marks.items book.old (W.contents out.old) (W.contents out.new)) }
+    ensures err { S.gives_pages source.old → IsOver (S.pages source.old) salvage.old → IfErr result IsRunOut }
+    ensures keeps { KeepsPages S.pages S.size S.reads_right S.gives_pages source.old source.new }
+{
+    match print_turn(source, salvage, Turn { own: false, ..turn }, book, out) {
+        Ok(()) => {}
+        Err(stop) => return Err(stop),
+    }
+    match print_turn(source, salvage, Turn { own: true, ..turn }, book, out) {
+        Ok(()) => print_unreached(source, salvage, turn, book, out),
+        Err(stop) => Err(stop),
+    }
+}
+
+/// Writes the rows of the objects, and behind them what has no rows of its own.
+fn print_rows<S: PageSource, W: Write>(
+    alloc: Global,
+    source: &mut S,
+    salvage: &mut Salvage,
+    objects: &[Object],
+    places: bool,
+    out: &mut W,
+) -> Result<(), Stop>
+    requires sized { S.size source.old ≡ salvage.old.size }
+    requires ended { salvage.old.pending.items ≡ [] }
+    requires first { salvage.old.at ≡ 0 }
+    ensures ok { S.gives_pages source.old → IsOver (S.pages source.old) salvage.old → OnOk result
+        (AreRowsSalvaged (S.pages source.old) places objects.now salvage.old.marks.items
+        (W.contents out.old) (W.contents out.new)) }
+    ensures err { S.gives_pages source.old → IsOver (S.pages source.old) salvage.old → IfErr result IsRunOut }
+    ensures keeps { KeepsPages S.pages S.size S.reads_right S.gives_pages source.old source.new }
+{
+    let lost = match lost_name(alloc, objects) {
+        Ok(lost) => lost,
+        Err(stop) => return Err(stop),
+    };
+    match write_made(out, &lost) {
+        Ok(()) => {}
+        Err(error) => return Err(Stop::Write(error)),
+    }
+    let mut book = Book::new(alloc);
+    let turn = Turn {
+        objects,
+        lost: &lost,
+        places,
+        own: false,
+    };
+    match print_trees(source, salvage, turn, &mut book, out) {
+        Ok(()) => print_others(out, objects),
+        Err(stop) => Err(stop),
+    }
+}
+
+/// Where the rows of the schema go.
+fn schema_target<'a>(places: bool) -> Target<'a>
+    ensures goes { result.going ≡ Schema }
+    ensures table { result.table ≡ true }
+{
+    Target {
+        lost: b"",
+        root: Some(1),
+        table: true,
+        going: Going::Schema,
+        places,
+    }
+}
+
+/// Writes what can be read of a database.
+fn print_damaged<S: PageSource, W: Write>(
+    alloc: Global,
+    source: &mut S,
+    places: bool,
+    out: &mut W,
+) -> Result<(), Stop>
+    ensures ok { S.gives_pages source.old → OnOk result
+        (IsSalvaged (S.pages source.old) places (W.contents out.old) (W.contents out.new)) }
+    ensures err { S.gives_pages source.old → IfErr result (λ stop. IsRunOut stop
+        ⊎ (IsUnfit (S.pages source.old) stop × (W.contents out.old ≡ W.contents out.new))) }
+    ensures keeps { KeepsPages S.pages S.size S.reads_right S.gives_pages source.old source.new }
+{
+    let mut salvage = match Salvage::new(alloc, source) {
+        Ok(salvage) => salvage,
+        Err(refusal) => return Err(stop_of(refusal)),
+    };
+    match print_text(out, b"PRAGMA foreign_keys=OFF;\nBEGIN TRANSACTION;\n") {
+        Ok(()) => {}
+        Err(stop) => return Err(stop),
+    }
+    let mut book = Book::new(alloc);
+    let target = schema_target(places);
+    match print_tree(source, &mut salvage, &target, 1, &mut book, out) {
+        Ok(()) => print_rows(alloc, source, &mut salvage, &book.objects, places, out),
+        Err(stop) => Err(stop),
+    }
+}
+
+/// Writes all of a database that is well formed.
+fn print_whole<S: PageSource, W: Write>(
+    alloc: Global,
+    source: &mut S,
+    out: &mut W,
+) -> Result<bool, Stop>
+    ensures ok { S.gives_pages source.old → IfOk result (λ whole. (whole ≡ true)
+        × AreTablesPrinted (S.pages source.old) Sql (W.contents out.old) (W.contents out.new)) }
+    ensures err { S.gives_pages source.old → IfErr result (λ stop. AreTablesStopped (S.pages source.old) Sql stop
+        (W.contents out.old) (W.contents out.new)) }
+    ensures keeps { KeepsPages S.pages S.size S.reads_right S.gives_pages source.old source.new }
+{
+    match print_tables(alloc, source, Form::Sql, out) {
+        Ok(()) => Ok(true),
+        Err(stop) => Err(stop),
+    }
+}
+
+/// Writes a database as a script of SQL that makes it. Of one that is well formed, pointer maps and all, exactly what
+/// `print_tables` writes, with its errors. Of any other what can be read, as one transaction: the tables whose texts
+/// are understood, with the rows that they take, those WITHOUT ROWID too; each other row that can be read in a table
+/// `lost_and_found`, with the root of its tree, or NULL, its page, how many values it has and its rowid, or NULL; a
+/// comment for each cell that can't, with its page and its index there; with `places` such a comment before each row
+/// too. Leaves that no tree reaches are read where they are those of a table with rowids: those of a table WITHOUT
+/// ROWID can't be told from an index's. Indexes, triggers and views come behind it. True where it is well formed.
+/// Refused by `Encoding` where texts are UTF-16, by PageOutside and Reserved at page 1 where there is no page or fewer
+/// than 480 bytes of one are usable, by `NoMemory`, and by an error of the writer.
+pub fn print_salvage<S: PageSource, W: Write>(
+    alloc: Global,
+    source: &mut S,
+    places: bool,
+    out: &mut W,
+) -> Result<bool, Stop>
+    ensures ok { S.gives_pages source.old → IfOk result (IsScript (S.pages source.old) (S.size source.old) places
+        (W.contents out.old) (W.contents out.new)) }
+    ensures err { S.gives_pages source.old → IfErr result (λ stop. IsScriptStopped (S.pages source.old)
+        (S.size source.old) stop (W.contents out.old) (W.contents out.new)) }
+    ensures keeps { KeepsPages S.pages S.size S.reads_right S.gives_pages source.old source.new }
+{
+    match is_well_formed(alloc, source) {
+        Ok(true) => return print_whole(alloc, source, out),
+        Ok(false) => {}
+        Err(stop) => return Err(stop),
+    }
+    match is_utf16(alloc, source) {
+        Ok(true) => return Err(Stop::Encoding),
+        Ok(false) => {}
+        Err(stop) => return Err(stop),
+    }
+    match print_damaged(alloc, source, places, out) {
+        Ok(()) => Ok(false),
+        Err(stop) => Err(stop),
+    }
+}

@@ -1,0 +1,6 @@
+use Rattle.cli_text.proofs.NumberFacts.{number_is}
+use Rattle.cli_text.proofs.verdicts.write_report.Goals as goal
+
+pub returns-in-Json : goal.returns-in-Json
+returns-in-Json g c =
+    rw c.in-Json.is (rw (number_is _ _ _ c.number.ensures, number_is _ _ _ c.number-in-Json.ensures, number_is _ _ _ c.number-in-Json-2.ensures, number_is _ _ _ c.number-in-Json-3.ensures, number_is _ _ _ c.number-in-Json-4.ensures, c.in-Json.is) at c.write_facts.ensures)

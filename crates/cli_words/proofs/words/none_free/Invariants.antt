@@ -1,0 +1,6 @@
+use Rattle.std.proofs.Common.{map}
+use Rattle.cli_words.proofs.CommandLineArguments.{NoneFree}
+use Rattle.cli_words.proofs.words.none_free.Given as goal
+
+abbrev pub invariant-loop-i : goal.invariant-loop-i
+invariant-loop-i l = NoneFree (map (λ w. w.now) l.words) l.from l.i

@@ -1,0 +1,18 @@
+use Rattle.std.proofs.Common.{refl}
+use Rattle.cli_words.proofs.CommandLineArguments.{free_behind, free_plain, not_false, not_true, option_not_free, value_not_free}
+use Rattle.cli_words.proofs.words.stands_free.Goals as goal
+
+pub returns-then-stands_in-clause-yes : goal.returns-then-stands_in-clause-yes
+returns-then-stands_in-clause-yes c = λ _. free_behind c.args.words.now c.args.i c.requires.behind c.requires.within (c.if-stands_in.ensures.yes refl)
+
+pub returns-then-is_plain-clause-yes : goal.returns-then-is_plain-clause-yes
+returns-then-is_plain-clause-yes c = λ t. free_plain c.args.words.now c.args.i c.requires.behind c.requires.within _ _
+    (c.if-is_plain.ensures.yes refl) (c.takes_value.ensures.not (not_true _ t))
+
+pub returns-then-is_plain-clause-not : goal.returns-then-is_plain-clause-not
+returns-then-is_plain-clause-not c = λ f. value_not_free c.args.words.now c.args.i c.requires.behind c.requires.within _
+    (c.if-stands_in.ensures.not refl) (c.takes_value.ensures.yes (not_false _ f))
+
+pub returns-else-is_plain-clause-not : goal.returns-else-is_plain-clause-not
+returns-else-is_plain-clause-not c = λ _. option_not_free c.args.words.now c.args.i c.requires.behind c.requires.within _
+    (c.if-stands_in.ensures.not refl) (c.if-is_plain.ensures.not refl)

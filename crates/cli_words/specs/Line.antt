@@ -1,0 +1,315 @@
+-- What the words of a command line ask for.
+use Rattle.std.specs.Prelude.{◌≡◌, ◌≢◌, ◌⊎◌, ◌↔◌, false, IsTrue, Option, None, Some, ℕ, zero, suc, ◌-◌, ◌^◌, ◌<◌, ◌≤◌}
+use Rattle.std.specs.Prelude.{List, [], ◌∷◌, ◌++◌, length, map, take, drop, slice_get, codes, unwrap_or}
+use Rattle.std.specs.Borrow.{Bor}
+use Rattle.std.specs.List.{Contains}
+use Rattle.std.specs.Str.Parse.{IsNumeral, digits_value, without_leading_plus}
+use Rattle.cli_words.specs.declared.requests.Part.{Part}
+use Rattle.cli_words.specs.declared.requests.Part.TheVariants.{Header, Page, Log, Commits, Pages}
+use Rattle.cli_words.specs.declared.requests.SuperJournal.{SuperJournal}
+use Rattle.cli_words.specs.declared.requests.SuperJournal.TheVariants.{Present, Gone}
+use Rattle.cli_words.specs.declared.requests.Style.{Style}
+use Rattle.cli_words.specs.declared.requests.Style.TheVariants.{Lines, Json}
+use Rattle.cli_words.specs.declared.requests.RowForm.{RowForm}
+use Rattle.cli_words.specs.declared.requests.RowForm.TheVariants.{Json as AsJson, Csv, Sql}
+use Rattle.cli_words.specs.declared.requests.ChangeForm.{ChangeForm}
+use Rattle.cli_words.specs.declared.requests.ChangeForm.TheVariants as changes
+use Rattle.cli_words.specs.declared.requests.Compared.{Compared}
+use Rattle.cli_words.specs.declared.requests.Options.{Options}
+use Rattle.cli_words.specs.declared.requests.Request.{Request}
+use Rattle.cli_words.specs.declared.requests.Request.TheVariants.{Show, Check, Rows, Diff, Recover, Report, Salvage, Version}
+use Rattle.cli_words.specs.declared.words.Own.{Own}
+use Rattle.cli_words.specs.declared.words.Own.TheVariants.{Checks, Recovers, Reports, Prints, Compares, Salvages}
+
+-- the words behind the command, up to a "--"
+pub record AreOptions (words options : List (List ℕ)) : Type 0 where
+  pub end : ℕ
+  pub behind : 2 ≤ end
+  pub are : options ≡ drop 2 (take end words)
+  pub none : (i : ℕ) → 2 ≤ i → i < end → slice_get words i ≢ Some (codes "--")
+  pub last : (length words ≤ end) ⊎ (slice_get words end ≡ Some (codes "--"))
+
+-- an option of this name gives this text: it stands behind the name, or behind the name and a "="
+abbrev pub HasText : (name : List ℕ) → (options : List (List ℕ)) → (text : List ℕ) → Type 0
+HasText name options text =
+    ((i : ℕ) × (slice_get options i ≡ Some name) × (slice_get options (suc i) ≡ Some text))
+    ⊎ Contains options (name ++ (codes "=" ++ text))
+
+-- word i is an option of this name and gives this text
+abbrev pub GivesText : (name : List ℕ) → (options : List (List ℕ)) → (i : ℕ) → (text : List ℕ) → Type 0
+GivesText name options i text =
+    ((slice_get options i ≡ Some name) × (slice_get options (suc i) ≡ Some text))
+    ⊎ (slice_get options i ≡ Some (name ++ (codes "=" ++ text)))
+
+-- the first words, so many, give these texts in their order, by options of this name
+abbrev pub GiveTexts : (name : List ℕ) → (options : List (List ℕ)) → (n : ℕ) → (texts : List (List ℕ)) → Type 0
+GiveTexts name options zero texts = texts ≡ []
+GiveTexts name options (suc n) texts =
+    ((first : List (List ℕ)) × (text : List ℕ) × GiveTexts name options n first × GivesText name options n text
+    × (texts ≡ first ++ text ∷ []))
+    ⊎ (GiveTexts name options n texts × ((text : List ℕ) → ¬ GivesText name options n text))
+
+-- none does
+abbrev pub HasNoText : (name : List ℕ) → (options : List (List ℕ)) → Type 0
+HasNoText name options = (text : List ℕ) → ¬ HasText name options text
+
+-- the text is this number in decimal digits
+abbrev pub IsNumber : (text : List ℕ) → (n : ℕ) → Type 0
+IsNumber text n = IsNumeral 10 (without_leading_plus text) × (digits_value 10 (without_leading_plus text) ≡ n)
+
+-- and one that a page can have
+abbrev pub IsPageNumber : (text : List ℕ) → (n : ℕ) → Type 0
+IsPageNumber text n = (1 ≤ n) × (n < 2 ^ 32) × IsNumber text n
+
+-- and one that a frame can have, or 0
+abbrev pub IsFrameNumber : (text : List ℕ) → (n : ℕ) → Type 0
+IsFrameNumber text n = (n < 2 ^ 32) × IsNumber text n
+
+-- the options ask for this part
+abbrev pub AsksPart : (options : List (List ℕ)) → Part → Type 0
+AsksPart options Header = (¬ Contains options (codes "--log")) × (¬ Contains options (codes "--commits"))
+    × (¬ Contains options (codes "--all")) × (¬ Contains options (codes "--pages")) × HasNoText (codes "--page") options
+AsksPart options (Page n) = (¬ Contains options (codes "--log")) × (¬ Contains options (codes "--commits"))
+    × (¬ Contains options (codes "--all")) × (¬ Contains options (codes "--pages"))
+    × ((text : List ℕ) × HasText (codes "--page") options text × IsPageNumber text n)
+AsksPart options (Log all) = Contains options (codes "--log") × (¬ Contains options (codes "--commits"))
+    × (IsTrue all ↔ Contains options (codes "--all")) × (¬ Contains options (codes "--pages"))
+    × HasNoText (codes "--page") options
+AsksPart options Commits = (¬ Contains options (codes "--log")) × Contains options (codes "--commits")
+    × (¬ Contains options (codes "--all")) × (¬ Contains options (codes "--pages")) × HasNoText (codes "--page") options
+AsksPart options Pages = (¬ Contains options (codes "--log")) × (¬ Contains options (codes "--commits"))
+    × (¬ Contains options (codes "--all")) × Contains options (codes "--pages") × HasNoText (codes "--page") options
+
+-- they ask for none: for a page by what is no page's number, for two of a page, the log, the commits and the pages, or
+-- for all of what isn't the log
+abbrev pub AsksNoPart : (options : List (List ℕ)) → Type 0
+AsksNoPart options =
+    ((text : List ℕ) × HasText (codes "--page") options text × (((n : ℕ) → ¬ IsPageNumber text n)
+    ⊎ Contains options (codes "--log") ⊎ Contains options (codes "--commits") ⊎ Contains options (codes "--pages")))
+    ⊎ (Contains options (codes "--log") × Contains options (codes "--commits"))
+    ⊎ (Contains options (codes "--all") × ¬ Contains options (codes "--log"))
+    ⊎ (Contains options (codes "--pages") × (Contains options (codes "--log") ⊎ Contains options (codes "--commits")))
+
+-- a word that is no option: it doesn't begin with a "-", or is a "-" alone
+abbrev pub IsPlain : (word : List ℕ) → Type 0
+IsPlain word = (rest : List ℕ) → word ≡ codes "-" ++ rest → rest ≡ []
+
+-- a word that names an option with a value: the name, or the name with a "=" and the value
+abbrev pub IsNamed : (name : List ℕ) → (word : List ℕ) → Type 0
+IsNamed name word = (word ≡ name) ⊎ ((text : List ℕ) × (word ≡ name ++ (codes "=" ++ text)))
+
+-- a word that each command knows
+abbrev pub IsCommon : (word : List ℕ) → Type 0
+IsCommon word = (word ≡ codes "-v") ⊎ (word ≡ codes "--verbose") ⊎ (word ≡ codes "--json") ⊎ (word ≡ codes "--large")
+    ⊎ (word ≡ codes "--pointer-maps") ⊎ (word ≡ codes "--super-journal=present") ⊎ (word ≡ codes "--super-journal=gone")
+    ⊎ IsNamed (codes "--at") word
+
+-- a word that is an option of this command and not of each: of `check`, `recover`, `report`, `rows`, `diff` or
+-- `salvage`
+abbrev pub IsOwn : Own → (word : List ℕ) → Type 0
+IsOwn Checks word = word ≡ codes "--deep"
+IsOwn Recovers word = (word ≡ codes "--force") ⊎ IsNamed (codes "--to") word
+IsOwn Reports word = (word ≡ codes "--changes") ⊎ IsNamed (codes "--to") word
+IsOwn Prints word = (word ≡ codes "--csv") ⊎ (word ≡ codes "--sql") ⊎ IsNamed (codes "--table") word
+IsOwn Salvages word = (word ≡ codes "--places") ⊎ IsNamed (codes "--to") word
+IsOwn Compares word = (word ≡ codes "--sql") ⊎ (word ≡ codes "--commits") ⊎ IsNamed (codes "--table") word
+    ⊎ IsNamed (codes "--from") word ⊎ IsNamed (codes "--to") word
+
+-- a word behind such a command that is no option, or one of the command's
+abbrev pub IsKnown : Own → (word : List ℕ) → Type 0
+IsKnown own word = IsPlain word ⊎ IsCommon word ⊎ IsOwn own word
+
+-- all are
+abbrev pub AreKnown : Own → (words : List (List ℕ)) → Type 0
+AreKnown own words = (i : ℕ) (word : List ℕ) → slice_get words i ≡ Some word → IsKnown own word
+
+-- what the options say of the super-journal
+abbrev pub AsksOf : (options : List (List ℕ)) → Option SuperJournal → Type 0
+AsksOf options None = (¬ Contains options (codes "--super-journal=present")) × (¬ Contains options (codes "--super-journal=gone"))
+AsksOf options (Some Present) = Contains options (codes "--super-journal=present") × (¬ Contains options (codes "--super-journal=gone"))
+AsksOf options (Some Gone) = (¬ Contains options (codes "--super-journal=present")) × Contains options (codes "--super-journal=gone")
+
+-- they say both
+abbrev pub AsksBoth : (options : List (List ℕ)) → Type 0
+AsksBoth options = Contains options (codes "--super-journal=present") × Contains options (codes "--super-journal=gone")
+
+-- the commit that the option of this name gives, if it is there
+abbrev pub AsksFrame : (name : List ℕ) → (options : List (List ℕ)) → Option ℕ → Type 0
+AsksFrame name options None = HasNoText name options
+AsksFrame name options (Some n) = (text : List ℕ) × HasText name options text × IsFrameNumber text n
+
+-- at which commit they ask for the database, if at one in particular
+abbrev pub AsksAt : (options : List (List ℕ)) → Option ℕ → Type 0
+AsksAt options frame = AsksFrame (codes "--at") options frame
+
+-- how they ask for what is found
+abbrev pub AsksStyle : (options : List (List ℕ)) → Style → Type 0
+AsksStyle options Lines = ¬ Contains options (codes "--json")
+AsksStyle options Json = Contains options (codes "--json")
+
+-- what each command is asked besides, exactly where an option says so
+pub record AsksBesides (options : List (List ℕ)) (o : Options) : Type 0 where
+  pub verbose : IsTrue o.verbose ↔ (Contains options (codes "-v") ⊎ Contains options (codes "--verbose"))
+  pub super_journal : AsksOf options o.super_journal
+  pub at_commit : AsksAt options o.at
+  pub style : AsksStyle options o.style
+  pub large : IsTrue o.large ↔ Contains options (codes "--large")
+  pub pointer_maps : IsTrue o.pointer_maps ↔ Contains options (codes "--pointer-maps")
+
+-- the option of this name gives what is no frame of a commit
+abbrev pub NamesNoFrame : (name : List ℕ) → (options : List (List ℕ)) → Type 0
+NamesNoFrame name options = (text : List ℕ) × HasText name options text × ((n : ℕ) → ¬ IsFrameNumber text n)
+
+-- they ask for nothing besides
+abbrev pub AsksNoneBesides : (options : List (List ℕ)) → Type 0
+AsksNoneBesides options = AsksBoth options ⊎ NamesNoFrame (codes "--at") options
+
+-- a commit isn't named for a part that is of the whole log
+abbrev pub MayBeAt : Part → (frame : Option ℕ) → Type 0
+MayBeAt Header frame = Unit {0}
+MayBeAt (Page n) frame = Unit {0}
+MayBeAt (Log all) frame = frame ≡ None
+MayBeAt Commits frame = frame ≡ None
+MayBeAt Pages frame = Unit {0}
+
+-- the text that the option of this name gives, if it is there: the file that a recovery is to make, the table
+abbrev pub AsksText : (name : List ℕ) → (options : List (List ℕ)) → Option (Bor (List ℕ)) → Type 0
+AsksText name options None = HasNoText name options
+AsksText name options (Some text) = HasText name options text.now
+
+-- how they ask for rows, which are lines of comma-separated values where they don't say it
+abbrev pub AsksForm : (options : List (List ℕ)) → RowForm → Type 0
+AsksForm options AsJson = Contains options (codes "--json") × (¬ Contains options (codes "--csv")) × (¬ Contains options (codes "--sql"))
+AsksForm options Csv = (¬ Contains options (codes "--json")) × (¬ Contains options (codes "--sql"))
+AsksForm options Sql = (¬ Contains options (codes "--json")) × (¬ Contains options (codes "--csv")) × Contains options (codes "--sql")
+
+-- they ask for two forms
+abbrev pub AsksNoForm : (options : List (List ℕ)) → Type 0
+AsksNoForm options = (Contains options (codes "--json") × Contains options (codes "--csv"))
+    ⊎ (Contains options (codes "--json") × Contains options (codes "--sql"))
+    ⊎ (Contains options (codes "--csv") × Contains options (codes "--sql"))
+
+-- they can't be those of `rows`: another one is among them, or pointer maps, or two forms
+abbrev pub AreNoRows : (options : List (List ℕ)) → Type 0
+AreNoRows options = (¬ AreKnown Prints options) ⊎ Contains options (codes "--pointer-maps") ⊎ AsksNoForm options
+
+-- how they ask for changes of rows
+abbrev pub AsksChangeForm : (options : List (List ℕ)) → ChangeForm → Type 0
+AsksChangeForm options changes.Lines = (¬ Contains options (codes "--json")) × (¬ Contains options (codes "--sql"))
+AsksChangeForm options changes.Json = Contains options (codes "--json") × (¬ Contains options (codes "--sql"))
+AsksChangeForm options changes.Sql = (¬ Contains options (codes "--json")) × Contains options (codes "--sql")
+
+-- they ask for two forms, or for a script of each commit
+abbrev pub AsksNoChangeForm : (options : List (List ℕ)) → Type 0
+AsksNoChangeForm options = Contains options (codes "--sql") × (Contains options (codes "--json") ⊎ Contains options (codes "--commits"))
+
+-- between which commits they ask for changes, from 0 where they don't say it, of which tables, and how
+pub record AsksCompared (options : List (List ℕ)) (compared : Compared) : Type 0 where
+  pub from : (frame : Option ℕ) × AsksFrame (codes "--from") options frame × (compared.from ≡ unwrap_or frame 0)
+  pub to : AsksFrame (codes "--to") options compared.to
+  pub tables : map (λ w. w.now) compared.tables.options.now ≡ options
+  pub form : AsksChangeForm options compared.form
+  pub commits : IsTrue compared.commits ↔ Contains options (codes "--commits")
+
+-- they name no frame for one of both commits, or ask for no form
+abbrev pub AsksNothingCompared : (options : List (List ℕ)) → Type 0
+AsksNothingCompared options =
+    NamesNoFrame (codes "--from") options ⊎ NamesNoFrame (codes "--to") options ⊎ AsksNoChangeForm options
+
+-- they can't be those of `diff`: another one is among them, or pointer maps, or one commit by itself, or what can't be compared
+abbrev pub AreNoDiff : (options : List (List ℕ)) → Type 0
+AreNoDiff options =
+    (¬ AreKnown Compares options) ⊎ Contains options (codes "--pointer-maps")
+    ⊎ ((text : List ℕ) × HasText (codes "--at") options text) ⊎ AsksNothingCompared options
+
+-- they can't be a report's: another one is among them, or the file to be made isn't named
+abbrev pub AreNoReport : (options : List (List ℕ)) → Type 0
+AreNoReport options = (¬ AreKnown Reports options) ⊎ HasNoText (codes "--to") options
+
+-- they can't be those of `salvage`: another one is among them, or pointer maps, or the file to be made isn't named
+abbrev pub AreNoSalvage : (options : List (List ℕ)) → Type 0
+AreNoSalvage options = (¬ AreKnown Salvages options) ⊎ Contains options (codes "--pointer-maps") ⊎ HasNoText (codes "--to") options
+
+-- a word behind which a value stands
+abbrev pub TakesValue : (word : List ℕ) → Type 0
+TakesValue word = (word ≡ codes "--page") ⊎ (word ≡ codes "--to") ⊎ (word ≡ codes "--at") ⊎ (word ≡ codes "--table")
+    ⊎ (word ≡ codes "--from")
+
+-- a word behind the command that stands for itself: behind a "--", or else plain and no option's value
+pub record StandsFree (words : List (List ℕ)) (i : ℕ) (word : List ℕ) : Type 0 where
+  pub behind : 2 ≤ i
+  pub is : slice_get words i ≡ Some word
+  pub free : Contains (drop 2 (take i words)) (codes "--")
+      ⊎ (IsPlain word × ((before : List ℕ) → slice_get words (i - 1) ≡ Some before → ¬ TakesValue before))
+
+-- the file is the only such word
+abbrev pub IsFile : (words : List (List ℕ)) → (file : List ℕ) → Type 0
+IsFile words file = (i : ℕ) × StandsFree words i file × ((j : ℕ) (other : List ℕ) → StandsFree words j other → j ≡ i)
+
+-- a word that asks for the version
+abbrev pub IsVersion : (word : List ℕ) → Type 0
+IsVersion word = (word ≡ codes "--version") ⊎ (word ≡ codes "-V")
+
+-- the first word behind the program's name asks for the version
+abbrev pub AsksVersion : List (List ℕ) → Type 0
+AsksVersion words = (word : List ℕ) × (slice_get words 1 ≡ Some word) × IsVersion word
+
+-- The second word is the command, the file stands behind it, and the options before a "--" say the rest, each exactly where
+-- it stands; behind all but `show` there are no others. A commit goes with no part of the whole log, with no changes of rows, and
+-- with a recovery only where that makes another file, and pointer maps with none and with no rows; a report and a salvage make
+-- one.
+abbrev pub Asks : List (List ℕ) → Request → Type 0
+Asks words (Show file part o) =
+    (slice_get words 1 ≡ Some (codes "show")) × IsFile words file.now
+    × ((options : List (List ℕ)) × AreOptions words options × AsksPart options part × AsksBesides options o × MayBeAt part o.at)
+Asks words (Check file deep o) =
+    (slice_get words 1 ≡ Some (codes "check")) × IsFile words file.now
+    × ((options : List (List ℕ)) × AreOptions words options × AreKnown Checks options × AsksBesides options o
+    × (IsTrue deep ↔ Contains options (codes "--deep")))
+Asks words (Rows file table form o) =
+    (slice_get words 1 ≡ Some (codes "rows")) × IsFile words file.now
+    × ((options : List (List ℕ)) × AreOptions words options × AreKnown Prints options × AsksBesides options o
+    × AsksText (codes "--table") options table × AsksForm options form × (o.pointer_maps ≡ false))
+Asks words (Diff file compared o) =
+    (slice_get words 1 ≡ Some (codes "diff")) × IsFile words file.now
+    × ((options : List (List ℕ)) × AreOptions words options × AreKnown Compares options × AsksBesides options o
+    × AsksCompared options compared × (o.at ≡ None) × (o.pointer_maps ≡ false))
+Asks words (Recover file to force o) =
+    (slice_get words 1 ≡ Some (codes "recover")) × IsFile words file.now
+    × ((options : List (List ℕ)) × AreOptions words options × AreKnown Recovers options × AsksBesides options o
+    × (IsTrue force ↔ Contains options (codes "--force")) × AsksText (codes "--to") options to × (to ≡ None → o.at ≡ None)
+    × (o.pointer_maps ≡ false))
+Asks words (Report file to changes o) =
+    (slice_get words 1 ≡ Some (codes "report")) × IsFile words file.now
+    × ((options : List (List ℕ)) × AreOptions words options × AreKnown Reports options
+    × HasText (codes "--to") options to.now × (IsTrue changes ↔ Contains options (codes "--changes")) × AsksBesides options o)
+Asks words (Salvage file to places o) =
+    (slice_get words 1 ≡ Some (codes "salvage")) × IsFile words file.now
+    × ((options : List (List ℕ)) × AreOptions words options × AreKnown Salvages options × AsksBesides options o
+    × HasText (codes "--to") options to.now × (IsTrue places ↔ Contains options (codes "--places")) × (o.pointer_maps ≡ false))
+Asks words Version = AsksVersion words
+
+-- a commit is named, and they ask for a part that is of the whole log
+abbrev pub NamesOfLog : (options : List (List ℕ)) → (frame : Option ℕ) → Type 0
+NamesOfLog options frame = (frame ≢ None) × (Contains options (codes "--log") ⊎ Contains options (codes "--commits"))
+
+-- what the options of a command can't be: those of `show` ask for no part, or for one that has no commits; those of `check`
+-- and `recover` have another among them; those of `recover` name pointer maps, or a commit and no file to be made; those of
+-- `report` have another among them, or name no file to be made; those of `rows`, `diff` and `salvage` as above
+abbrev pub AreAmiss : (command : List ℕ) → (options : List (List ℕ)) → Type 0
+AreAmiss command options =
+    (command ≡ codes "check" → ¬ AreKnown Checks options)
+    × (command ≡ codes "recover" → (¬ AreKnown Recovers options) ⊎ Contains options (codes "--pointer-maps")
+    ⊎ (((frame : Option ℕ) → AsksAt options frame → frame ≢ None) × HasNoText (codes "--to") options))
+    × (command ≡ codes "report" → AreNoReport options)
+    × (command ≡ codes "rows" → AreNoRows options)
+    × (command ≡ codes "diff" → AreNoDiff options)
+    × (command ≡ codes "salvage" → AreNoSalvage options)
+    × (command ≡ codes "show" → AsksNoPart options
+    ⊎ ((frame : Option ℕ) × AsksAt options frame × NamesOfLog options frame))
+
+-- The words, of this command and this file, ask for nothing: the command is another one, or its options ask for nothing
+-- besides, or are amiss.
+abbrev pub AsksNothing : (words : List (List ℕ)) → (command file : List ℕ) → Type 0
+AsksNothing words command file = slice_get words 1 ≡ Some command → IsFile words file
+    → (options : List (List ℕ)) × AreOptions words options × (AsksNoneBesides options ⊎ AreAmiss command options)

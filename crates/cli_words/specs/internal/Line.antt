@@ -1,0 +1,47 @@
+-- What the words of a command line ask for.
+use Rattle.std.specs.Prelude.{◌≡◌, ◌≢◌, ◌⊎◌, ◌↔◌, Bool, false, IsTrue, Option, None, ℕ}
+use Rattle.std.specs.Prelude.{List, codes}
+use Rattle.std.specs.Borrow.{Bor}
+use Rattle.std.specs.List.{Contains}
+use Rattle.cli_words.specs.declared.requests.Compared.{Compared}
+use Rattle.cli_words.specs.declared.requests.Options.{Options}
+use Rattle.cli_words.specs.declared.requests.Request.{Request}
+use Rattle.cli_words.specs.declared.requests.Request.TheVariants.{Report, Rows, Diff, Salvage}
+use Rattle.cli_words.specs.declared.requests.RowForm.{RowForm}
+use Rattle.cli_words.specs.declared.words.Own.TheVariants.{Reports, Prints, Compares, Salvages}
+use Rattle.cli_words.specs.Line.{HasNoText, HasText, AreKnown, AsksCompared, AsksForm, AsksNoForm, AsksNothingCompared, AsksText}
+
+-- the options of a report say this: the file that it makes, whether it has changes of rows, and what else is asked
+abbrev pub IsReport : (options : List (List ℕ)) → (file : Bor (List ℕ)) → Options → Request → Type 0
+IsReport options file o request = AreKnown Reports options
+    × ((to : Bor (List ℕ)) × (changes : Bool) × HasText (codes "--to") options to.now
+    × (IsTrue changes ↔ Contains options (codes "--changes")) × (request ≡ Report file to changes o))
+
+-- the options of `rows` say this: the table, the form, and what else is asked
+abbrev pub IsRows : (options : List (List ℕ)) → (file : Bor (List ℕ)) → Options → Request → Type 0
+IsRows options file o request = AreKnown Prints options × (o.pointer_maps ≡ false)
+    × ((table : Option (Bor (List ℕ))) × (form : RowForm) × AsksText (codes "--table") options table × AsksForm options form
+    × (request ≡ Rows file table form o))
+
+-- they don't
+abbrev pub AskNoRows : (options : List (List ℕ)) → Options → Type 0
+AskNoRows options o = (¬ AreKnown Prints options) ⊎ IsTrue o.pointer_maps ⊎ AsksNoForm options
+
+-- the options of `diff` say this: what is compared, and what else is asked
+abbrev pub IsDiff : (options : List (List ℕ)) → (file : Bor (List ℕ)) → Options → Request → Type 0
+IsDiff options file o request = AreKnown Compares options × (o.pointer_maps ≡ false) × (o.at ≡ None)
+    × ((compared : Compared) × AsksCompared options compared × (request ≡ Diff file compared o))
+
+-- they don't
+abbrev pub AskNoDiff : (options : List (List ℕ)) → Options → Type 0
+AskNoDiff options o = (¬ AreKnown Compares options) ⊎ IsTrue o.pointer_maps ⊎ (o.at ≢ None) ⊎ AsksNothingCompared options
+
+-- the options of `salvage` say this: the file that it makes, whether it has places, and what else is asked
+abbrev pub IsSalvage : (options : List (List ℕ)) → (file : Bor (List ℕ)) → Options → Request → Type 0
+IsSalvage options file o request = AreKnown Salvages options × (o.pointer_maps ≡ false)
+    × ((to : Bor (List ℕ)) × (places : Bool) × HasText (codes "--to") options to.now
+    × (IsTrue places ↔ Contains options (codes "--places")) × (request ≡ Salvage file to places o))
+
+-- they don't
+abbrev pub AskNoSalvage : (options : List (List ℕ)) → Options → Type 0
+AskNoSalvage options o = (¬ AreKnown Salvages options) ⊎ IsTrue o.pointer_maps ⊎ HasNoText (codes "--to") options

@@ -1,5 +1,0 @@
-use Rattle.std.proofs.lemmas.Str.Pattern.{contains_text}
-use Rattle.sqfacts.proofs.locks.has.Goals as goal
-
-pub returns : goal.returns
-returns c = contains_text c.contains.result _ _ c.contains.ensures.cases

@@ -1,6 +1,0 @@
-use Rattle.std.proofs.Common.{refl}
-use Rattle.sqheld.proofs.Words.{one_more}
-use Rattle.sqheld.proofs.line.take.Goals as goal
-
-pub returns : goal.returns
-returns c = one_more c.args.words.now c.args.from c.args.i _ c.args.rest.now _ c.requires.place c.requires.before c.in_ok-push.ensures.items refl refl refl

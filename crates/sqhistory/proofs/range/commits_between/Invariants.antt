@@ -1,7 +1,0 @@
-use Rattle.std.proofs.Common.{◌≡◌, take}
-use Rattle.std.specs.List.{filter}
-use Rattle.sqhistory.specs.Ranges.{is_between}
-use Rattle.sqhistory.proofs.range.commits_between.Given as goal
-
-abbrev pub invariant-loop-frame : goal.invariant-loop-frame
-invariant-loop-frame l = l.list.items ≡ filter (is_between l.from l.to) (take l.frame-index l.frame-items)

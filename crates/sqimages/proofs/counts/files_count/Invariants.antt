@@ -1,8 +1,0 @@
-use Rattle.std.proofs.Common.{◌≡◌, ◌+◌, ◌≤◌, cond, drop, map}
-use Rattle.crashdisk.specs.Model.{state_of}
-use Rattle.sqimages.specs.Ways.{files_ways}
-use Rattle.sqimages.proofs.counts.files_count.Given as goal
-
-abbrev pub invariant-loop-disk : goal.invariant-loop-disk
-invariant-loop-disk l =
-    (l.count + files_ways (drop l.disk-index (map (λ d. state_of d) l.files)) ≡ cond l.none 1 0 + files_ways (map (λ d. state_of d) l.files)) × (l.count ≤ l.limit)

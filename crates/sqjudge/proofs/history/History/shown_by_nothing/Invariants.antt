@@ -1,6 +1,0 @@
-use Rattle.std.proofs.Common.{[]}
-use Rattle.sqjudge.specs.Shown.{ShowsNoneFrom, commits_of}
-use Rattle.sqjudge.proofs.history.History.shown_by_nothing.Given as goal
-
-abbrev pub invariant-loop-k : goal.invariant-loop-k
-invariant-loop-k l = ShowsNoneFrom (commits_of l.self) l.k []

@@ -1,5 +1,0 @@
-use Rattle.sqlines.proofs.NumberFacts.{number_is}
-use Rattle.sqlines.proofs.behind.write_record_slot.Goals as goal
-
-pub returns : goal.returns
-returns g c = rw (number_is _ _ _ c.number.ensures, c.saturating_add.ensures, c.follows_name.ensures) at c.write_facts.ensures

@@ -1,7 +1,0 @@
-use Rattle.sqlines.proofs.PaddedHex.{padded-hex}
-use Rattle.sqlines.proofs.hex_lines.HexPlaceDisplay.fmt.Goals as goal
-
-pub returns-clause-writes : goal.returns-clause-writes
-returns-clause-writes g c plain ok =
-    let written = rw (c.laid_out.ensures, c.in_radix.ensures) at c.write.ensures.writes in
-    rw (padded-hex 4 c.args.self.now.0) at (written plain ok)

@@ -1,7 +1,0 @@
-use Rattle.std.proofs.Common.{ℕ, ◌<◌, get_or}
-use Rattle.sqmissing.specs.Missing.{Leaves}
-use Rattle.sqmissing.specs.declared.change.Change.{Change}
-use Rattle.sqmissing.proofs.there.none_leaves.Given as goal
-
-abbrev pub invariant-loop-change : goal.invariant-loop-change
-invariant-loop-change l = (m : ℕ) (d : Change) → m < l.change-index → ¬ Leaves l.size.bytes l.subject l.bytes l.k (get_or l.changes m d)

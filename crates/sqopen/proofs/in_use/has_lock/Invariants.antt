@@ -1,6 +1,0 @@
-use Rattle.std.proofs.Common.{◌≤◌}
-use Rattle.sqopen.proofs.in_use.has_lock.Given as goal
-
--- what is held fits
-abbrev pub invariant-loop : goal.invariant-loop
-invariant-loop g l = l.held ≤ 8192

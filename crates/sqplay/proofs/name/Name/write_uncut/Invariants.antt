@@ -1,6 +1,0 @@
-use Rattle.sqplay.specs.Names.{TakesBelow, name_of}
-use Rattle.sqplay.proofs.UncutFiles.{UncutGone}
-use Rattle.sqplay.proofs.name.Name.write_uncut.Given as goal
-
-abbrev pub invariant-loop-k : goal.invariant-loop-k
-invariant-loop-k l = UncutGone (TakesBelow l.fn.self.below l.at l.bytes l.fails) l.k (name_of l.fn.self) (name_of l.self)

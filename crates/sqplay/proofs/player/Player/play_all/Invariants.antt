@@ -1,6 +1,0 @@
-use Rattle.std.proofs.Common.{take}
-use Rattle.sqplay.specs.Plays.{files_of, Plays}
-use Rattle.sqplay.proofs.player.Player.play_all.Given as goal
-
-abbrev pub invariant-loop-record : goal.invariant-loop-record
-invariant-loop-record l = Plays l.trace (take l.record-index l.records) (files_of l.fn.self) (files_of l.self)

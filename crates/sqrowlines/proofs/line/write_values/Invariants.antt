@@ -1,9 +1,0 @@
-use Rattle.std.proofs.Common.{List, ℕ, map, take}
-use Rattle.std.specs.Io.KnownBytes.{Appends}
-use Rattle.sqval.specs.Datum.{row_of}
-use Rattle.sqrowlines.specs.Lines.{AreTexts}
-use Rattle.sqrowlines.proofs.line.write_values.Given as goal
-
-abbrev pub invariant-loop-i : goal.invariant-loop-i
-invariant-loop-i g l =
-    (t : List ℕ) × AreTexts l.form (map (λ n. n.items) l.names) 0 (row_of (take l.i l.values)) t × Appends (g.W.Write.contents l.fn.out) (g.W.Write.contents l.out) t

@@ -1,9 +1,0 @@
--- Why not all was shown.
-use Rattle.sqfacts.specs.declared.outcome.Refusal.{Refusal}
-use Rattle.sqshown.specs.declared.error.ShowError.{ShowError}
-use Rattle.sqshown.specs.declared.error.ShowError.TheVariants.{Refused, Unwritten}
-
--- the fact holds of the refusal, where it is one; of a line that could not be written nothing is said
-abbrev pub IfRefused : (Refusal → Type 0) → ShowError → Type 0
-IfRefused P (Refused refusal) = P refusal
-IfRefused P Unwritten = Unit {0}

@@ -1,7 +1,0 @@
-use Rattle.std.proofs.Common.{map}
-use Rattle.crashdisk.specs.Model.{state_of}
-use Rattle.sqshrink.specs.internal.Values.{AreValued}
-use Rattle.sqshrink.proofs.bytes.values_below.Given as goal
-
-abbrev pub invariant-loop-n : goal.invariant-loop-n
-invariant-loop-n l = AreValued (state_of l.disk) l.n (map (λ v. v.items) l.all.items)

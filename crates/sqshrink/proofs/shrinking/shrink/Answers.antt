@@ -1,4 +1,0 @@
-use Rattle.sqshrink.proofs.shrinking.shrink.Goals as goal
-
-pub returns : goal.returns
-returns g c = record { present = c.set_present.new.self; is_present = c.in_ok-set_present.ensures; below = c.in_ok-image.ensures.below; least = c.in_ok-image.ensures.least }

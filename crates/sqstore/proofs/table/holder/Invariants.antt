@@ -1,6 +1,0 @@
-use Rattle.std.proofs.Common.{◌≡◌, take}
-use Rattle.sqstore.specs.Names.{holder}
-use Rattle.sqstore.proofs.table.holder.Given as goal
-
-abbrev pub invariant-loop-naming : goal.invariant-loop-naming
-invariant-loop-naming l = l.file ≡ holder (take l.naming-index l.log) l.name

@@ -1,6 +1,0 @@
-use Rattle.sqstore.specs.Stores.{store_of}
-use Rattle.sqstore.specs.internal.Tearing.{NoneTearsBetween}
-use Rattle.sqstore.proofs.torn.torn_between.Given as goal
-
-abbrev pub invariant-loop-stand : goal.invariant-loop-stand
-invariant-loop-stand g l = NoneTearsBetween (store_of l.store) l.name l.from l.stand

@@ -1,6 +1,0 @@
-use Rattle.std.proofs.Common.{◌<◌, ℕ, List, map}
-use Rattle.sqwords.proofs.CommandLineArguments.{NamesText}
-use Rattle.sqwords.proofs.words.text_of.Given as goal
-
-abbrev pub invariant-loop-i : goal.invariant-loop-i
-invariant-loop-i l = (k : ℕ) (text : List ℕ) → k < l.i → NamesText l.name (map (λ w. w.now) l.options) text k → ⊥
