@@ -7,9 +7,8 @@ use crate::file::File;
 
 /// Two files, of which a crash may leave, for each sector, any value that it had since the file was last synced, or, on
 /// a disk that tears, anything where the sector was written since then; and for each file any length from the least to
-/// the greatest that it had since then. Places and lengths are in bytes. Stops and failures may be set
-/// of it for the calls to come (of a real disk none is): each call but `sector` and `tears` heeds them and counts them
-/// durable.
+/// the greatest that it had since then. Places and lengths are in bytes. Stops and failures may be injected into its
+/// next calls (into those of a real disk none are): each call but `sector` and `tears` is subject to them.
 pub trait Disk {
     ghost use Rattle.crashdisk.specs.declared.file.File.{File};
     ghost use Rattle.crashdisk.specs.Call.{DiskState, of, IsSoundDisk, Writes, Cuts, Syncs, Looks};

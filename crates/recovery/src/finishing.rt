@@ -1,4 +1,4 @@
-//! The end of a restore: the database is made to stay, and then the log's front is zeroed (own).
+//! The end of a restore: the database is synced, and then the log's front is zeroed (own).
 ghost use Rattle.std.specs.Prelude.{◌≤◌};
 ghost use Rattle.crashdisk.specs.During.{During};
 ghost use Rattle.recovery.specs.Steps.{Ends};

@@ -34,7 +34,7 @@ pub record CopiesRecords {T : Type 0} (size : ℕ) (scan : Replay) (count : ℕ)
   pub pages : (db w : List ℕ) (d : Database) → ArePresent old.db db → ArePresent old.log w → HasRead w scan → IsHot w → size ≡ word w 24 → count ≡ word w 16 → count * size ≤ longest → IsRolledBack db w d → CopyAnswer Device size d result old new
   pub writing : (w : List ℕ) (d : Database) → ArePresent old.log w → HasRead w scan → count * size ≤ longest → count ≡ word w 16 → Writing size w d old → Writing size w d new
 
--- The database is made to stay, and then the journal is ended: of a replay (shows, lengths), or of a commit that makes e of d.
+-- The database is synced, and then the journal is ended: of a replay (shows, lengths), or of a commit that makes e of d.
 pub record Finishes {T : Type 0} (result : Result T RollError) (old new : DiskState) : Type 0 where
   pub asks : (most size : ℕ) → Asks (MayReplayWithin most size) result old new
   pub ends : EndAnswer result old new

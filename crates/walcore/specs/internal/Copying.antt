@@ -33,7 +33,7 @@ pub record CopiesPages {T : Type 0} (size : ℕ) (t : FrameTable) (m count : ℕ
   pub pages : (db w : List ℕ) (d : Database) → ArePresent old.db db → ArePresent old.log w → IsCopy size count w m t → length d ≡ count → IsView size db w m d → CopyAnswer Device size d result old new
   pub filling : (w : List ℕ) (d : Database) → ArePresent old.log w → IsCopy size count w m t → length d ≡ count → Filling size d (Unnamed size w m) old → Filling size d (Unnamed size w m) new
 
--- the database is made to stay, and then the log is emptied
+-- the database is synced, and then the log is emptied
 pub record Finishes {T : Type 0} (result : Result T WalError) (old new : DiskState) : Type 0 where
   pub later : (most size : ℕ) → Later (MayFoldWithin most size) old new
   pub told : TellsRefusal Device result old new
