@@ -2,7 +2,6 @@
 use Rattle.std.proofs.Common.{◌≡◌, ◌∙◌, ◌↔◌, ◌⊎◌, ℕ, ◌<◌, List, [], ◌∷◌, ◌++◌, Bool, true, Option, Some, None, refl, sym, ap, subst, inl, inr, append_assoc, append-nil, arith}
 use Rattle.sqval.specs.Database.{Database}
 use Rattle.sqpage.specs.declared.kind.Kind.{Kind}
-use Rattle.sqpage.specs.Lists.{In}
 use Rattle.sqpage.specs.Page.{Page, cell_count}
 use Rattle.sqcheck.specs.Places.{page_as}
 use Rattle.sqcheck.proofs.checks.ListsByRecursion.{map_append}
@@ -13,8 +12,8 @@ use Rattle.sqsalvage.specs.declared.cursor.Salvage.{Salvage}
 use Rattle.sqsalvage.specs.declared.piece.PieceRead.{PieceRead}
 use Rattle.sqsalvage.specs.TreePages.{page_of, IsPageRead}
 use Rattle.sqsalvage.specs.Reached.{leaf_kind, interior_kind, page_in, IsPiece, IsReachedFrom}
-use Rattle.sqsalvage.specs.SalvageCursor.{AreLeft, ArePending, IsLeft, IsMarked, IsOver, IsPassed, IsToCome, IsLeafRead, IsPieceRead, LeafMoves, PiecesLeft, LostLeft, TreeMoves}
-use Rattle.sqsalvage.proofs.StepsOfWalk.{none_comes, none_left, left_none}
+use Rattle.sqsalvage.specs.SalvageCursor.{AreLeft, ArePending, IsAhead, IsLeft, IsMarked, IsOver, IsPassed, IsToCome, IsLeafRead, IsPieceRead, LeafMoves, PiecesLeft, LostLeft, TreeMoves}
+use Rattle.sqsalvage.proofs.StepsOfWalk.{ahead_last, none_comes, none_left, left_none}
 use Rattle.cli_show_salvage.specs.declared.book.Book.{Book}
 use Rattle.cli_show_salvage.specs.declared.book.Target.{Target}
 use Rattle.cli_show_salvage.specs.Cells.{IsCellTold}
@@ -81,15 +80,12 @@ walk_ended d target start s moved old new before after kind w t = record {
     same [] h = refl
     same (x ∷ pieces) h = absurd (none_left d moved.table moved.marks.items moved.pending.items (t.ended refl) x ((h.1 x).0 (inl refl)))
 
--- a cell isn't pending where a tree begins
+-- no place stands for a cell where a tree begins
 only_comes : (d : Database) (table : Bool) (marks : List Bool) (pending : List Piece) (root : ℕ) → pending ≡ Whole root ∷ [] → (x : Piece) → IsLeft d table marks pending x
     → IsPiece d table x × IsToCome d table marks pending (page_in x)
 only_comes d table marks pending root only (Whole p) h = h
-only_comes d table marks pending root only (Part p i) (is, inl a) = absurd (no_part (subst (λ (l : List Piece). In (Part p i) l) only a))
-  where
-    no_part : In (Part p i) (Whole root ∷ []) → ⊥
-    no_part (inl e) = cc
-    no_part (inr h) = h
+only_comes d table marks pending root only (Part p i) (is, inl a) =
+    let e : Part p i ≡ Whole root = ahead_last d table (Whole root) (Part p i) (subst (λ (l : List Piece). IsAhead d table l (Part p i)) only a) in absurd cc
 only_comes d table marks pending root only (Part p i) (is, inr c) = (is, c)
 
 comes_left : (d : Database) (table : Bool) (marks : List Bool) (pending : List Piece) (x : Piece) → IsPiece d table x → IsToCome d table marks pending (page_in x) → IsLeft d table marks pending x

@@ -1,5 +1,7 @@
 -- Which pages are marked.
 pub mod MarkedPages
+-- How many places there are.
+pub mod CountsOfPlaces
 -- Pieces that are named.
 pub mod NamedPieces
 -- What a page is that was read.

@@ -1,5 +1,5 @@
 -- What a page is that was read.
-use Rattle.std.proofs.Common.{◌≡◌, ◌≢◌, ◌↔◌, ◌⊎◌, ℕ, suc, ◌<◌, ◌≤◌, List, [], ◌∷◌, length, take, Bool, true, false, refl, sym, ap, subst, ◌∙◌, inl, inr, arith, append-nil}
+use Rattle.std.proofs.Common.{◌≡◌, ◌≢◌, ◌↔◌, ◌⊎◌, ℕ, suc, ◌<◌, ◌≤◌, List, [], ◌∷◌, length, take, Bool, true, false, refl, sym, ap, subst, ◌∙◌, inl, inr, arith}
 use Rattle.sqval.specs.Database.{Database, page}
 use Rattle.sqpage.specs.declared.kind.Kind.{Kind}
 use Rattle.sqpage.specs.declared.kind.Kind.TheVariants.{TableLeaf, TableInterior, IndexLeaf, IndexInterior}
@@ -7,16 +7,16 @@ use Rattle.sqpage.specs.Freelist.{IsPage, usable_size}
 use Rattle.sqpage.specs.Header.{byte}
 use Rattle.sqpage.specs.Page.{Page, head_at, code_of, cell_count, pointers_end_in, has_payload, is_interior, is_table}
 use Rattle.sqcheck.specs.Places.{used_in, page_as, HasKind}
-use Rattle.sqrows.specs.Trees.{IsChild}
 use Rattle.sqrows.proofs.moves.StepsOfPage.{kind_once}
 use Rattle.sqsalvage.specs.declared.page.TreePage.{TreePage}
 use Rattle.sqsalvage.specs.declared.cursor.Piece.{Piece}
-use Rattle.sqsalvage.specs.declared.cursor.Piece.TheVariants.{Whole, Part}
+use Rattle.sqsalvage.specs.declared.cursor.Piece.TheVariants.{Part}
 use Rattle.sqsalvage.specs.TreePages.{page_of, IsTreePage, IsPageRead}
 use Rattle.sqsalvage.specs.Reached.{leaf_kind, interior_kind, IsLeaf, IsInterior, IsOfTree, IsPiece}
 use Rattle.sqsalvage.specs.SalvageCursor.{IsMarked}
 use Rattle.sqsalvage.specs.internal.Opening.{IsOpened, IsNoPage, IsNoTreePage}
-use Rattle.sqsalvage.specs.internal.Taking.{IsCellPart, IsPartFrom, Names, Opens}
+use Rattle.sqsalvage.specs.internal.Taking.{Follows, NamesRest, Opens}
+use Rattle.sqsalvage.proofs.NamedPieces.{follows_named, follows_outside, follows_past}
 
 three : (f : List ℕ → ℕ → Kind → Page) (a a' : List ℕ) (b b' : ℕ) (k k' : Kind) → a ≡ a' → b ≡ b' → k ≡ k' → f a b k ≡ f a' b' k'
 three f a a' b b' k k' p q r = cc
@@ -123,38 +123,28 @@ leaf_opens d table p old new pending more leaf un size marked same = record {
   fresh = (inl leaf, un);
   sized = size;
   marked = marks_page d p old new leaf.0 marked;
-  items = [];
-  behind = same ∙ sym (append-nil pending);
-  pages = λ c. (λ i. absurd i, λ names. absurd (not_both d table p names.0 leaf));
-  cells = λ q i. (λ a. absurd a, λ h. absurd (not_both d table p (subst (λ (n : ℕ). IsInterior d table n) h.0 h.1.0) leaf));
-  once = tt;
+  follows = subst (λ (l : List Piece). Follows d table p 0 new pending l) (sym same) (follows_outside d table p 0 new pending (λ interior. not_both d table p interior leaf));
 }
+
+-- what follows on the page that was read
+pub read_follows : (d : Database) (table : Bool) (p i : ℕ) (t : TreePage) (marks : List Bool) (pending more : List Piece) → IsPage d p → IsPageRead d p t → t.kind ≡ interior_kind table
+    → length marks ≡ length d → NamesRest (page_of t) marks i pending more → Follows d table p i marks pending more
+read_follows d table p i t marks pending more page r is size n =
+    follows_named d table p i marks pending more size (interior_read d table p t page r is) (subst (λ (b : Page). NamesRest b marks i pending more) (page_same d table p t r is) n)
+
+-- nothing where it has no such cell
+pub past_follows : (d : Database) (table : Bool) (p i : ℕ) (t : TreePage) (marks : List Bool) (rest : List Piece) → IsPageRead d p t → t.kind ≡ interior_kind table → cell_count (page_of t) < i
+    → Follows d table p i marks rest rest
+past_follows d table p i t marks rest r is past = follows_past d table p i marks rest (subst (λ (b : Page). cell_count b < i) (page_same d table p t r is) past)
 
 pub interior_opens : (d : Database) (table : Bool) (p : ℕ) (t : TreePage) (old new : List Bool) (pending more : List Piece) → IsPage d p → IsPageRead d p t → t.kind ≡ interior_kind table → ¬ IsMarked old p
-    → length new ≡ length old → ((q : ℕ) → IsMarked new q ↔ (IsMarked old q ⊎ (IsPage d q × (q ≡ p)))) → Names (IsPartFrom (page_of t) 0) pending more → Opens d table p old new pending more
-interior_opens d table p t old new pending more page r is un size marked n = record {
-  fresh = (inr interior, un);
+    → length old ≡ length d → length new ≡ length old → ((q : ℕ) → IsMarked new q ↔ (IsMarked old q ⊎ (IsPage d q × (q ≡ p)))) → NamesRest (page_of t) new 0 pending more → Opens d table p old new pending more
+interior_opens d table p t old new pending more page r is un whole size marked n = record {
+  fresh = (inr (interior_read d table p t page r is), un);
   sized = size;
   marked = marks_page d p old new page marked;
-  items = n.items;
-  behind = n.behind;
-  pages = λ c. (
-    λ i. (let h = (n.all (Whole c)).0 i in (interior, h.0, subst (λ (b : Page). IsChild b h.0 c) same h.2)),
-    λ names. (n.all (Whole c)).1 (names.1, omega arith, subst (λ (b : Page). IsChild b names.1 c) (sym same) names.2),
-  );
-  cells = λ q i. (
-    λ a. (let h = subst (λ (b : Page). IsCellPart b i (Part q i)) same ((n.all (Part q i)).0 a).1 in
-        (h.0, (subst (λ (m : ℕ). IsInterior d table m) (sym h.0) interior, h.2, subst (λ (m : ℕ). i < cell_count (page_as d (interior_kind table) m)) (sym h.0) h.3))),
-    λ h. (n.all (Part q i)).1 (omega arith, subst (λ (b : Page). IsCellPart b i (Part q i)) (sym same) (h.0, refl, h.1.1, subst (λ (m : ℕ). i < cell_count (page_as d (interior_kind table) m)) h.0 h.1.2)),
-  );
-  once = n.once;
+  follows = read_follows d table p 0 t new pending more page r is (size ∙ whole) n;
 }
-  where
-    interior : IsInterior d table p
-    interior = interior_read d table p t page r is
-
-    same : page_of t ≡ page_as d (interior_kind table) p
-    same = page_same d table p t r is
 
 -- a cell of an interior page
 pub cell_in : (d : Database) (table : Bool) (p i : ℕ) (t : TreePage) → IsPage d p → IsPageRead d p t → t.kind ≡ interior_kind table → has_payload t.kind ≡ true → i < cell_count (page_of t)

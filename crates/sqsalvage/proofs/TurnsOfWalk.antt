@@ -1,16 +1,16 @@
 -- One turn of the walk over a tree, and its end.
-use Rattle.std.proofs.Common.{◌≡◌, ◌↔◌, ◌⊎◌, ℕ, Bool, List, [], ◌∷◌, ◌++◌, Some, None, sym, subst, ◌∙◌, inl, inr}
+use Rattle.std.proofs.Common.{◌≡◌, ◌↔◌, ◌⊎◌, ℕ, ◌+◌, Bool, List, [], ◌∷◌, ◌++◌, Some, None, sym, subst, ◌∙◌, inl, inr}
 use Rattle.sqval.specs.Database.{Database}
 use Rattle.sqsalvage.specs.declared.cursor.Piece.{Piece}
 use Rattle.sqsalvage.specs.declared.cursor.Piece.TheVariants.{Whole, Part}
 use Rattle.sqsalvage.specs.declared.cursor.Salvage.{Salvage}
 use Rattle.sqsalvage.specs.declared.piece.PieceRead.{PieceRead}
 use Rattle.sqpage.specs.Freelist.{usable_size}
-use Rattle.sqsalvage.specs.Reached.{IsLeaf, IsPiece}
+use Rattle.sqsalvage.specs.Reached.{IsLeaf}
 use Rattle.sqsalvage.specs.SalvageCursor.{AreLeft, ArePending, IsMarked, IsOver, IsPassed, IsPieceRead, IsToCome, PiecesLeft, TreeMoves}
-use Rattle.sqsalvage.specs.internal.Taking.{Goes, IsPieceTaken, IsSkipped, Opens}
+use Rattle.sqsalvage.specs.internal.Taking.{Follows, Goes, IsCellTaken, IsPieceTaken, IsSkipped, Opens}
 use Rattle.sqsalvage.proofs.PagesOfTrees.{leaf_read}
-use Rattle.sqsalvage.proofs.StepsOfWalk.{drop_last, skipped, skipped_same, cell_skipped, cell_same, cell_taken, opened, opened_pending, opened_same, leaf_taken, left_none}
+use Rattle.sqsalvage.proofs.StepsOfWalk.{drop_last, skipped, skipped_same, followed_same, followed_pending, cell_skipped, cell_taken, opened, opened_pending, opened_same, leaf_taken, left_none}
 
 pub starts : (d : Database) (start : Salvage) → IsOver d start → Goes d start start.usable start.marks.items start.pending.items
 starts d start over = record { over = over.0; are = over.1; left = λ pieces l. l; passed = λ p. (λ h. h, λ h. h) }
@@ -39,24 +39,25 @@ skips d start usable marks new rest more p h (none, m, r) =
       passed = λ q. (λ x. (same q).0 ((h.passed q).0 x), λ x. (h.passed q).1 ((same q).1 x));
     }))
 
--- a cell that is none
-skips_cell : (d : Database) (start : Salvage) (usable : ℕ) (marks new : List Bool) (rest more : List Piece) (p i : ℕ) → Goes d start usable marks (rest ++ Part p i ∷ []) → ¬ IsPiece d start.table (Part p i)
-    → marks ≡ new → rest ≡ more → Goes d start usable new more
-skips_cell d start usable marks new rest more p i h none m r =
-    let same = cell_same d start.table marks rest p i in
-    subst (λ (l : List Piece). Goes d start usable new l) r (subst (λ (b : List Bool). Goes d start usable b rest) m (record {
+-- a cell that is none of the tree's pieces
+follows : (d : Database) (start : Salvage) (usable : ℕ) (marks new : List Bool) (rest more : List Piece) (p i : ℕ) → Goes d start usable marks (rest ++ Part p i ∷ [])
+    → IsCellTaken d start.table p i marks new rest more None → Goes d start usable new more
+follows d start usable marks new rest more p i h (none, m, f) =
+    let o = subst (λ (b : List Bool). Follows d start.table p (i + 1) b rest more) (sym m) f in
+    let same = followed_same d start.table p i marks rest more o in
+    subst (λ (b : List Bool). Goes d start usable b more) m (record {
       over = h.over;
-      are = drop_last d marks rest (Part p i) h.are;
-      left = λ pieces l. h.left pieces (cell_skipped d start.table marks rest p i none pieces l);
+      are = followed_pending d start.table p i marks rest more h.are o;
+      left = λ pieces l. h.left pieces (cell_skipped d start.table p i marks rest more o none pieces l);
       passed = λ q. (λ x. (same q).0 ((h.passed q).0 x), λ x. (h.passed q).1 ((same q).1 x));
-    }))
+    })
 
 -- nothing is read
 pub goes_on : (d : Database) (start : Salvage) (usable : ℕ) (marks new : List Bool) (pending rest more : List Piece) (x : Piece) → Goes d start usable marks pending → pending ≡ rest ++ x ∷ []
     → IsPieceTaken d start.table x marks new rest more None → Goes d start usable new more
 goes_on d start usable marks new pending rest more (Whole p) go e (inl s) = skips d start usable marks new rest more p (subst (λ (l : List Piece). Goes d start usable marks l) e go) s
 goes_on d start usable marks new pending rest more (Whole p) go e (inr o) = opens d start usable marks new rest more p (subst (λ (l : List Piece). Goes d start usable marks l) e go) o.0 o.1
-goes_on d start usable marks new pending rest more (Part p i) go e (none, m, r) = skips_cell d start usable marks new rest more p i (subst (λ (l : List Piece). Goes d start usable marks l) e go) none m r
+goes_on d start usable marks new pending rest more (Part p i) go e taken = follows d start usable marks new rest more p i (subst (λ (l : List Piece). Goes d start usable marks l) e go) taken
 
 -- where the cursor is behind a piece
 comes_behind : (d : Database) (start new : Salvage) (usable : ℕ) (x : Piece) (read : PieceRead) → new.usable ≡ usable → new.table ≡ start.table → usable ≡ usable_size d → ArePending d new.marks.items new.pending.items
@@ -79,15 +80,12 @@ comes_to d start new usable marks pending rest (Whole p) read go e u t ((o, is),
     comes_behind d start new usable (Whole p) read u t h.over (opened_pending d start.table p marks new.marks.items rest new.pending.items h.are o) (is, cell)
     (λ pieces l. h.left (Whole p ∷ pieces) (leaf_taken d start.table p marks new.marks.items rest new.pending.items o leaf pieces l))
     (λ q. (λ x. (same q).0 ((h.passed q).0 x), λ x. (h.passed q).1 ((same q).1 x)))
-comes_to d start new usable marks pending rest (Part p i) read go e u t ((piece, is), cell, m, r) =
-    let h = subst (λ (l : List Piece). Goes d start usable marks l) e go in
-    let same = cell_same d start.table marks rest p i in
-    comes_behind d start new usable (Part p i) read u t h.over
-    (subst (λ (l : List Piece). ArePending d new.marks.items l) r (subst (λ (b : List Bool). ArePending d b rest) m (drop_last d marks rest (Part p i) h.are))) (is, cell)
-    (λ pieces l. h.left (Part p i ∷ pieces) (cell_taken d start.table marks rest p i h.are piece pieces
-    (subst (λ (b : List Bool). AreLeft d start.table b rest pieces) (sym m) (subst (λ (l : List Piece). AreLeft d start.table new.marks.items l pieces) (sym r) l))))
-    (λ q. subst (λ (l : List Piece). IsPassed d start q ↔ (IsMarked new.marks.items q ⊎ IsToCome d start.table new.marks.items l q)) r
-    (subst (λ (b : List Bool). IsPassed d start q ↔ (IsMarked b q ⊎ IsToCome d start.table b rest q)) m (λ x. (same q).0 ((h.passed q).0 x), λ x. (h.passed q).1 ((same q).1 x))))
+comes_to d start new usable marks pending rest (Part p i) read go e u t (((piece, is), m, f), cell) =
+    let h = subst (λ (b : List Bool). Goes d start usable b (rest ++ Part p i ∷ [])) m (subst (λ (l : List Piece). Goes d start usable marks l) e go) in
+    let same = followed_same d start.table p i new.marks.items rest new.pending.items f in
+    comes_behind d start new usable (Part p i) read u t h.over (followed_pending d start.table p i new.marks.items rest new.pending.items h.are f) (is, cell)
+    (λ pieces l. h.left (Part p i ∷ pieces) (cell_taken d start.table p i new.marks.items rest new.pending.items h.are f piece pieces l))
+    (λ q. (λ x. (same q).0 ((h.passed q).0 x), λ x. (h.passed q).1 ((same q).1 x)))
 
 -- the end
 pub comes_to_end : (d : Database) (start new : Salvage) (usable : ℕ) (pending : List Piece) → Goes d start usable new.marks.items pending → new.usable ≡ usable → new.table ≡ start.table → pending ≡ new.pending.items

@@ -1,6 +1,6 @@
 -- The pages of trees in a database that may be damaged (fileformat2, 1.6; which of them a tree reaches is own). A tree is
 -- one of a table, or else of the kind of an index, as that of a table WITHOUT ROWID.
-use Rattle.std.specs.Prelude.{◌≡◌, ◌⊎◌, ℕ, ◌<◌, Bool, true, false}
+use Rattle.std.specs.Prelude.{◌≡◌, ◌⊎◌, ℕ, ◌<◌, ◌≤◌, Bool, true, false}
 use Rattle.sqval.specs.Database.{Database}
 use Rattle.sqpage.specs.declared.kind.Kind.{Kind}
 use Rattle.sqpage.specs.declared.kind.Kind.TheVariants.{TableLeaf, TableInterior, IndexLeaf, IndexInterior}
@@ -35,6 +35,10 @@ IsOfTree d table p = IsLeaf d table p ⊎ IsInterior d table p
 -- Page p is an interior page, and names c as a child.
 abbrev pub NamesChild : Database → (table : Bool) → (p c : ℕ) → Type 0
 NamesChild d table p c = IsInterior d table p × (i : ℕ) × IsChild (page_as d (interior_kind table) p) i c
+
+-- It names c as its child i, or as one behind that.
+abbrev pub NamesFrom : Database → (table : Bool) → (p i c : ℕ) → Type 0
+NamesFrom d table p i c = IsInterior d table p × (k : ℕ) × (i ≤ k) × IsChild (page_as d (interior_kind table) p) k c
 
 -- Pages are reached past those that were passed before: the first ones, and the children of those that are reached, as far as
 -- they are pages of such a tree, and none of those. A child that is none of these hides no other.

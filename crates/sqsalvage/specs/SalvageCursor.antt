@@ -1,5 +1,5 @@
 -- What a cursor over the trees of a damaged database still gives (own).
-use Rattle.std.specs.Prelude.{◌≡◌, ◌↔◌, ◌⊎◌, ℕ, ◌-◌, ◌<◌, Bool, true, false, List, [], ◌∷◌, length, get_or, Option, Some, None}
+use Rattle.std.specs.Prelude.{◌≡◌, ◌↔◌, ◌⊎◌, ℕ, ◌+◌, ◌-◌, ◌<◌, ◌≤◌, Bool, true, false, List, [], ◌∷◌, length, get_or, Option, Some, None}
 use Rattle.sqval.specs.Database.{Database}
 use Rattle.sqpage.specs.Freelist.{IsPage, usable_size}
 use Rattle.sqpage.specs.Lists.{In, Apart}
@@ -9,40 +9,61 @@ use Rattle.sqsalvage.specs.declared.cursor.Piece.{Piece}
 use Rattle.sqsalvage.specs.declared.cursor.Piece.TheVariants.{Whole, Part}
 use Rattle.sqsalvage.specs.declared.cursor.Salvage.{Salvage}
 use Rattle.sqsalvage.specs.declared.piece.PieceRead.{PieceRead}
-use Rattle.sqsalvage.specs.Reached.{leaf_kind, interior_kind, IsLeaf, IsPiece, IsReached}
+use Rattle.sqsalvage.specs.Reached.{leaf_kind, interior_kind, IsLeaf, IsPiece, IsReached, NamesFrom}
 
 -- page p is marked
 abbrev pub IsMarked : List Bool → (p : ℕ) → Type 0
 IsMarked marks p = (0 < p) × (get_or marks (p - 1) false ≡ true)
 
--- no cell is there twice
-abbrev pub HasCellsOnce : List Piece → Type 0
-HasCellsOnce [] = Unit {0}
-HasCellsOnce (Whole p ∷ more) = HasCellsOnce more
-HasCellsOnce (Part p i ∷ more) = (¬ In (Part p i) more) × HasCellsOnce more
+-- What a place in a tree stands for: a page that isn't read yet; or cell i of an interior page and what is behind it there,
+-- cells and children.
+abbrev pub StandsFor : Database → (table : Bool) → (place x : Piece) → Type 0
+StandsFor d table (Whole p) x = x ≡ Whole p
+StandsFor d table (Part p i) (Whole c) = NamesFrom d table p (i + 1) c
+StandsFor d table (Part p i) (Part q k) = (q ≡ p) × (i ≤ k)
 
--- Cells are pending once, and of pages that are marked. Pages may be pending twice: they are marked where they are read.
+-- One of the places stands for x.
+abbrev pub IsAhead : Database → (table : Bool) → (places : List Piece) → (x : Piece) → Type 0
+IsAhead d table places x = (place : Piece) × In place places × StandsFor d table place x
+
+-- no interior page has two places
+abbrev pub HasPlacesOnce : List Piece → Type 0
+HasPlacesOnce [] = Unit {0}
+HasPlacesOnce (Whole p ∷ more) = HasPlacesOnce more
+HasPlacesOnce (Part p i ∷ more) = ((k : ℕ) → ¬ In (Part p k) more) × HasPlacesOnce more
+
+-- how many of the places but the last one are pages that aren't read yet
+abbrev pub early_count : List Piece → ℕ
+early_count [] = 0
+early_count (x ∷ []) = 0
+early_count (Whole p ∷ y ∷ more) = early_count (y ∷ more) + 1
+early_count (Part p i ∷ y ∷ more) = early_count (y ∷ more)
+
+-- An interior page has one place at most, and is marked. Pages may be pending twice: they are marked where they are read.
+-- There are few places beside those on interior pages.
 pub record ArePending (d : Database) (marks : List Bool) (pending : List Piece) : Type 0 where
   pub sized : length marks ≡ length d
-  pub once : HasCellsOnce pending
+  pub once : HasPlacesOnce pending
   pub marked : (p i : ℕ) → In (Part p i) pending → IsMarked marks p
+  pub early : early_count pending ≤ 4160
+  pub few : length pending ≤ length d + 4161
 
 -- The cursor is one over this database.
 abbrev pub IsOver : Database → Salvage → Type 0
 IsOver d s = (s.usable ≡ usable_size d) × ArePending d s.marks.items s.pending.items
 
--- A page is to come: it is reached from those that are pending, past those that are marked.
+-- A page is to come: it is reached from those that the pending places stand for, past those that are marked.
 abbrev pub IsToCome : Database → (table : Bool) → (marks : List Bool) → (pending : List Piece) → (p : ℕ) → Type 0
-IsToCome d table marks pending p = IsReached d table (IsMarked marks) (λ q. In (Whole q) pending) p
+IsToCome d table marks pending p = IsReached d table (IsMarked marks) (λ q. IsAhead d table pending (Whole q)) p
 
 -- The page is passed by the end of the tree: it is marked, or to come.
 abbrev pub IsPassed : Database → Salvage → (p : ℕ) → Type 0
 IsPassed d s p = IsMarked s.marks.items p ⊎ IsToCome d s.table s.marks.items s.pending.items p
 
--- A piece of the tree is left: its page is to come; or it is a cell that is pending.
+-- A piece of the tree is left: its page is to come; or it is a cell for which a place stands.
 abbrev pub IsLeft : Database → (table : Bool) → (marks : List Bool) → (pending : List Piece) → Piece → Type 0
 IsLeft d table marks pending (Whole p) = IsPiece d table (Whole p) × IsToCome d table marks pending p
-IsLeft d table marks pending (Part p i) = IsPiece d table (Part p i) × (In (Part p i) pending ⊎ IsToCome d table marks pending p)
+IsLeft d table marks pending (Part p i) = IsPiece d table (Part p i) × (IsAhead d table pending (Part p i) ⊎ IsToCome d table marks pending p)
 
 -- These pieces of the tree are left, each once.
 abbrev pub AreLeft : Database → (table : Bool) → (marks : List Bool) → (pending pieces : List Piece) → Type 0

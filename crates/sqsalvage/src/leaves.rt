@@ -4,9 +4,9 @@ ghost use Rattle.sqpage.specs.Freelist.{IsPage, usable_size};
 ghost use Rattle.sqpage.specs.Page.{has_payload, is_table};
 ghost use Rattle.sqpage.specs.Source.{KeepsPages};
 ghost use Rattle.sqpage.specs.declared.fault.Fault.{Fault};
-ghost use Rattle.sqpage.specs.declared.kind.Kind.{Kind};
+ghost use Rattle.sqsalvage.specs.Reached.{interior_kind};
 ghost use Rattle.sqsalvage.specs.SalvageCursor.{IsOver, TreeMoves};
-ghost use Rattle.sqsalvage.specs.internal.Taking.{IsCellIn, IsPieceTaken, IsRead, IsTaken};
+ghost use Rattle.sqsalvage.specs.internal.Taking.{IsCellTaken, IsPieceTaken, IsRead, IsTaken};
 
 use crate::cursor::{Piece, Salvage};
 use crate::marks::is_marked;
@@ -22,15 +22,12 @@ fn is_of_tree(kind: Kind, table: bool) -> bool
     kind.is_table() == table
 }
 
-/// Whether they are interior ones whose cells are entries too.
-fn is_above_entries(kind: Kind) -> bool
-    ensures yes { result ≡ true → kind ≡ Kind.IndexInterior }
-    ensures not { result ≡ false → kind ≢ Kind.IndexInterior }
+/// Whether they are interior ones of such trees.
+fn is_interior_of(kind: Kind, table: bool) -> bool
+    ensures yes { result ≡ true → kind ≡ interior_kind table }
+    ensures not { result ≡ false → kind ≢ interior_kind table }
 {
-    match kind {
-        Kind::IndexInterior => true,
-        Kind::TableLeaf | Kind::TableInterior | Kind::IndexLeaf => false,
-    }
+    kind.is_interior() && kind.is_table() == table
 }
 
 impl Salvage {
@@ -96,7 +93,7 @@ impl Salvage {
         if !kind.is_interior() {
             return Ok(Some(page));
         }
-        match self.name_parts(&page) {
+        match self.name_from(&page, 0) {
             Ok(()) => Ok(None),
             Err(_) => Err(CheckError {
                 page: p,
@@ -105,26 +102,28 @@ impl Salvage {
         }
     }
 
-    /// Reads interior page `p` again, for its cell `i`. None where it has no such cell.
+    /// Reads interior page `p` again from its cell `i` on, and names what is behind it: that cell of an index. None
+    /// where the page has no such cell, and of a table.
     fn take_cell<S: PageSource>(
-        &self,
+        &mut self,
         source: &mut S,
         p: u32,
         i: usize,
     ) -> Result<Option<TreePage>, CheckError>
-        requires sized { S.size source.old ≡ self.now.size }
-        ensures ok { S.gives_pages source.old → self.now.usable ≡ usable_size (S.pages source.old)
-            → IfOk result (IsCellIn (S.pages source.old) self.now.table p i) }
-        ensures err { S.gives_pages source.old → self.now.usable ≡ usable_size (S.pages source.old)
+        requires sized { S.size source.old ≡ self.old.size }
+        ensures ok { S.gives_pages source.old → self.old.usable ≡ usable_size (S.pages source.old)
+            → length self.old.marks.items ≡ length (S.pages source.old)
+            → IfOk result (IsCellTaken (S.pages source.old) self.old.table p i self.old.marks.items
+            self.new.marks.items self.old.pending.items self.new.pending.items) }
+        ensures err { S.gives_pages source.old → self.old.usable ≡ usable_size (S.pages source.old)
             → IfErr result (λ e. e.fault ≡ Fault.NoMemory) }
         ensures cell { IfOk result (λ found. IfSome found (λ page. (has_payload page.kind ≡ true)
-            × (page.usable ≡ self.now.usable))) }
+            × (page.usable ≡ self.old.usable))) }
+        ensures same { (self.new.size ≡ self.old.size) × (self.new.usable ≡ self.old.usable)
+            × (self.new.at ≡ self.old.at) × (self.new.table ≡ self.old.table) }
         ensures keeps { KeepsPages S.pages S.size S.reads_right S.gives_pages source.old source.new }
     {
         let count = source.count();
-        if self.table {
-            return Ok(None);
-        }
         if p == 0 || p > count {
             return Ok(None);
         }
@@ -133,16 +132,26 @@ impl Salvage {
             Ok(None) => return Ok(None),
             Err(refusal) => return Err(refusal),
         };
-        if !is_above_entries(page.kind()) {
+        if !is_interior_of(page.kind(), self.table) {
             return Ok(None);
         }
         if i >= page.cells() {
             return Ok(None);
         }
+        match self.name_from(&page, i + 1) {
+            Ok(()) => {}
+            Err(_) => return Err(CheckError {
+                page: p,
+                fault: Fault::NoMemory,
+            }),
+        }
+        if self.table {
+            return Ok(None);
+        }
         Ok(Some(page))
     }
 
-    /// Reads a piece that was named. None where there is none of the tree, or where it names others.
+    /// Reads what is next at a place, and names what is behind it. None where there is no piece of the tree.
     fn take_piece<S: PageSource>(
         &mut self,
         source: &mut S,

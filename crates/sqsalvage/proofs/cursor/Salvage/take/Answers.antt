@@ -6,7 +6,7 @@ use Rattle.sqsalvage.specs.declared.page.TreePage.{TreePage}
 use Rattle.sqsalvage.specs.declared.cursor.Piece.{Piece}
 use Rattle.sqsalvage.specs.TreePages.{page_of}
 use Rattle.sqsalvage.specs.SalvageCursor.{IsMarked}
-use Rattle.sqsalvage.specs.internal.Taking.{IsPartFrom, IsRead, Names, Opens}
+use Rattle.sqsalvage.specs.internal.Taking.{IsRead, NamesRest, Opens}
 use Rattle.sqsalvage.proofs.PagesOfTrees.{outside_tree, none_of_tree, other_tree, kind_of_leaf, kind_of_interior, leaf_has_payload, leaf_read, interior_read, not_both, leaf_opens, interior_opens}
 use Rattle.sqsalvage.proofs.cursor.Salvage.take.Goals as goal
 
@@ -71,7 +71,7 @@ returns-in-Ok-clause-ok g c = λ gives u size.
     let p : ℕ = c.args.p in
     let old = c.args.self.now in
     let mid = c.leave_out.new.self in
-    let new = c.name_parts.new.self in
+    let new = c.name_from.new.self in
     let t : TreePage = c.in-Ok-Some.page in
     let read = subst (λ (o : Option TreePage). IsRead d p o) c.in-Ok-Some.field-0-is (c.in-Ok-Some.ensures.ok gives u) in
     let same : c.kind-kind.result ≡ t.kind = c.kind-kind.ensures in
@@ -81,8 +81,8 @@ returns-in-Ok-clause-ok g c = λ gives u size.
     let page : IsPage d p = (omega (arith, c.if-p-eq0.false), omega (arith, c.count-count.ensures, c.if-p-eq0.false, c.if-p-count.false)) in
     let un = λ (m : IsMarked old.marks.items p). c.is_marked.ensures.not c.if-is_marked.false (subst (λ (m : List Bool). IsMarked m p) (sym c.deref.ensures.value) m) in
     let marks : mid.marks ≡ new.marks = sym c.in-Ok.ensures.same.4 in
-    let names = subst (λ (l : List Piece). Names (IsPartFrom (page_of t) 0) l new.pending.items) c.leave_out.ensures.same.2 c.in-Ok.ensures.ok in
-    let opens = interior_opens d old.table p t old.marks.items mid.marks.items old.pending.items new.pending.items page read kind un c.leave_out.ensures.length (c.leave_out.ensures.marked d size) names in
+    let names = subst (λ (l : List Piece). NamesRest (page_of t) mid.marks.items 0 l new.pending.items) c.leave_out.ensures.same.2 c.in-Ok.ensures.ok in
+    let opens = interior_opens d old.table p t old.marks.items mid.marks.items old.pending.items new.pending.items page read kind un size c.leave_out.ensures.length (c.leave_out.ensures.marked d size) names in
     inr (
       subst (λ (l : List Bool). Opens d old.table p old.marks.items l old.pending.items new.pending.items) (ap (λ v. v.items) marks) opens,
       not_both d old.table p (interior_read d old.table p t page read kind),
