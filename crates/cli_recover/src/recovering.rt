@@ -112,6 +112,7 @@ where
         found: Beheld { db, .. },
         wal,
         mut journal,
+        ..
     } = open_logs(job.rt, paths, super_journal, None, notes)?;
     tell_database(job, db, notes);
     match counting_log(&wal, &mut journal) {
@@ -193,7 +194,7 @@ where
     let (alloc, place, options) = (job.rt.alloc(), &job.source.paths.db, job.source.options);
     let length = match metadata_of(&db) {
         Ok(said) => said.len(),
-        Err(error) => return Err(told(notes, place.as_str(), error)),
+        Err(error) => return Err(told(notes, place.as_str(), error).refusal),
     };
     let (wal, journal) = logs;
     let mut files = Contents {
@@ -326,7 +327,7 @@ fn open<R: Files, E: Write>(
 ) -> Result<R::File, Refusal> {
     match OpenOptions::new().read(true).write(true).open(rt, path) {
         Ok(file) => Ok(file),
-        Err(error) => Err(told(notes, path, error)),
+        Err(error) => Err(told(notes, path, error).refusal),
     }
 }
 

@@ -33,3 +33,9 @@ returns-clause-refused g c =
     c.as_asked-files.result c.in_ok-found.ensures.regular c.in-Ok.ensures.opened c.in_ok-found.ensures.wal c.in_ok-found.ensures.journal
     c.as_asked-files.ensures.db c.as_asked-files.ensures.alone c.as_asked-files.ensures.logs in
     ⊎_elim inl (λ u. inr (c.as_asked-files.result, opened, u)) c.in-Err-tell_by_log.ensures
+
+pub returns-in-Ok-tell_by_log-clause-opened : goal.returns-in-Ok-tell_by_log-clause-opened
+returns-in-Ok-tell_by_log-clause-opened g c =
+    opened_all c.args.paths.now c.args.super_journal c.args.at c.in_ok-found.field-0.found c.in-Ok.db c.in_ok-found.field-0.wal c.in_ok-found.field-0.journal
+    c.as_asked-files.result c.in_ok-found.ensures.regular c.in-Ok.ensures.opened c.in_ok-found.ensures.wal c.in_ok-found.ensures.journal
+    c.as_asked-files.ensures.db c.as_asked-files.ensures.alone c.as_asked-files.ensures.logs
