@@ -1,5 +1,5 @@
 -- Words that stand for themselves.
-use Rattle.std.proofs.Common.{◌≡◌, ◌≢◌, ◌⊎◌, inl, inr, ⊎_elim, ℕ, suc, ◌+◌, ◌-◌, ◌<◌, ◌≤◌, List, [], ◌∷◌, Bor, ◌++◌, map, length, drop, take, get_or, sym, refl, ◌∙◌, ap, subst, arith, add-one}
+use Rattle.std.proofs.Common.{◌≡◌, ◌≢◌, ◌⊎◌, inl, inr, ⊎_elim, ℕ, ◌+◌, ◌-◌, ◌<◌, ◌≤◌, List, [], ◌∷◌, Bor, ◌++◌, map, length, drop, take, get_or, sym, refl, ◌∙◌, ap, subst, arith, add-one}
 use Rattle.std.specs.Prelude.{Some, slice_get, codes}
 use Rattle.std.specs.List.{Contains}
 use Rattle.std.proofs.lemmas.List.{map-append}

@@ -1,1 +1,2 @@
 mod FreeWords
+mod OneFile

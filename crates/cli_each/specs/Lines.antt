@@ -1,8 +1,8 @@
 -- Command lines that name several files (own).
-use Rattle.std.specs.Prelude.{◌≡◌, ◌≢◌, ◌⊎◌, ℕ, zero, suc, ◌+◌, ◌-◌, ◌≤◌, cond, is_some, Bool, true, false, List, [], ◌∷◌, ◌++◌, map, take, drop, length, slice_get, codes, Option, Some, None, MatchOption}
+use Rattle.std.specs.Prelude.{◌≡◌, ◌≢◌, ◌⊎◌, ℕ, zero, suc, ◌+◌, ◌-◌, ◌^◌, ◌<◌, ◌≤◌, cond, is_some, Bool, false, List, [], ◌∷◌, ◌++◌, map, take, drop, length, slice_get, codes, Option, Some, None}
 use Rattle.std.specs.Borrow.{Bor}
 use Rattle.std.specs.List.{Contains}
-use Rattle.cli_words.specs.Line.{IsPlain, TakesValue as TakesOwnValue}
+use Rattle.cli_words.specs.Line.{IsNumber, IsPlain, TakesValue as TakesOwnValue}
 use Rattle.cli_each.specs.declared.apart.Apart.{Apart}
 
 abbrev pub texts : List (Bor (List ℕ)) → List (List ℕ)
@@ -56,8 +56,14 @@ IsStarter words (Some said) = (slice_get words 1 ≡ Some said.0.now) × (slice_
 abbrev pub command_at : (has_starter has_one : Bool) → ℕ
 command_at has_starter has_one = 1 + (cond has_starter 2 0 + cond has_one 2 0)
 
+-- which of the files is meant: where the word at this place is the one for that, the number behind it, if a machine word holds it
+abbrev pub IsOne : (words : List (List ℕ)) → (at : ℕ) → (one : Option ℕ) → Type 0
+IsOne words at (Some number) = (slice_get words at ≡ Some (codes "--one")) × ((text : List ℕ) × (slice_get words (at + 1) ≡ Some text) × IsNumber text number)
+IsOne words at None = slice_get words at ≡ Some (codes "--one")
+    → (text : List ℕ) → slice_get words (at + 1) ≡ Some text → (number : ℕ) → number < 2 ^ 64 → ¬ IsNumber text number
+
 -- The line is taken apart: what its starter says, which of its files alone is meant, and all other words.
 pub record IsApart (words : List (List ℕ)) (apart : Apart) : Type 0 where
   pub starter : IsStarter words apart.starter
-  pub one : is_some apart.one ≡ true → slice_get words (command_at (is_some apart.starter) false) ≡ Some (codes "--one")
+  pub one : IsOne words (command_at (is_some apart.starter) false) apart.one
   pub rest : texts apart.words.items ≡ take 1 words ++ drop (command_at (is_some apart.starter) (is_some apart.one)) words

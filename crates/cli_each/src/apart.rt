@@ -1,6 +1,8 @@
 //! A command line taken apart.
-ghost use Rattle.std.specs.Prelude.{◌≡◌, ◌≤◌, IfOk, IsTrue, IfSome, Some, codes, drop, slice_get, ◌⊎◌, false};
-ghost use Rattle.cli_each.specs.Lines.{IsApart, IsStarter, texts};
+ghost use Rattle.std.specs.Prelude.{◌≡◌, ◌≢◌, ◌≤◌, ◌<◌, ◌^◌, ◌++◌, ℕ, IfOk, IsTrue, MatchOption, Some, false};
+ghost use Rattle.std.specs.Prelude.{drop, slice_get, take};
+ghost use Rattle.cli_words.specs.Line.{IsNumber};
+ghost use Rattle.cli_each.specs.Lines.{IsApart, IsOne, IsStarter, texts};
 
 use std::alloc::{AllocError, Global};
 
@@ -29,13 +31,16 @@ fn starter_of<'a>(words: &'a [&'a str]) -> Option<(&'a str, &'a str)>
 }
 
 /// The number that a word is.
-fn number_in(word: &str) -> Option<usize> {
+fn number_in(word: &str) -> Option<usize>
+    ensures { MatchOption result ((n : ℕ) → n < 2 ^ 64 → ¬ IsNumber word.now n) (IsNumber word.now) }
+{
     word.parse::<usize>().ok()
 }
 
 /// Whether the word at a place is this one.
 fn is_word(words: &[&str], at: usize, text: &str) -> bool
-    ensures { IsTrue result → slice_get (texts words.now) at ≡ Some text.now }
+    ensures yes { IsTrue result → slice_get (texts words.now) at ≡ Some text.now }
+    ensures not { result ≡ false → slice_get (texts words.now) at ≢ Some text.now }
 {
     if words.len() <= at {
         return false;
@@ -45,13 +50,31 @@ fn is_word(words: &[&str], at: usize, text: &str) -> bool
 
 /// Which of the files is meant, where the word at a place says that one is.
 fn one_at(words: &[&str], at: usize) -> Option<usize>
-    ensures { IfSome result (λ _. slice_get (texts words.now) at ≡ Some (codes "--one")) }
+    requires { at ≤ 3 }
+    ensures { IsOne (texts words.now) at result }
 {
-    if is_word(words, at, "--one") {
-        number_in(words.get(at.checked_add(1)?)?)
-    } else {
-        None
+    if !is_word(words, at, "--one") {
+        return None;
     }
+    match words.get(at + 1) {
+        Some(word) => number_in(word),
+        None => None,
+    }
+}
+
+/// The program's name and the words from a place on.
+#[tactic(auto, using(std::proofs::lemmas::List::take_min, std::proofs::lemmas::List::drop_min))]
+fn words_from<'a>(
+    alloc: Global,
+    words: &'a [&'a str],
+    from: usize,
+) -> Result<Vec<&'a str>, AllocError>
+    ensures { IfOk result (λ rest. rest.items ≡ take 1 words.entry.now ++ drop from words.entry.now) }
+{
+    let mut rest = Vec::new(alloc);
+    rest.extend_from_slice(&words[..1.min(words.len())])?;
+    rest.extend_from_slice(&words[from.min(words.len())..])?;
+    Ok(rest)
 }
 
 /// Takes a command line apart.
@@ -62,12 +85,9 @@ pub fn taken_apart<'a>(alloc: Global, words: &'a [&'a str]) -> Result<Apart<'a>,
     let at = if starter.is_some() { 3 } else { 1 };
     let one = one_at(words, at);
     let from = if one.is_some() { at + 2 } else { at };
-    let mut rest = Vec::new(alloc);
-    rest.extend_from_slice(&words[..words.len().min(1)])?;
-    rest.extend_from_slice(&words[words.len().min(from)..])?;
     Ok(Apart {
         starter,
         one,
-        words: rest,
+        words: words_from(alloc, words, from)?,
     })
 }

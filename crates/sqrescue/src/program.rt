@@ -9,7 +9,7 @@ ghost use Rattle.sqrescue.specs.Runs.{AsksHelp, ComesUnder, Ends, EndsUnasked, M
 use crate::answers::answered;
 use crate::diffs::print_diff;
 use crate::hints::next_step;
-use crate::readings::{Read, Reading, read_for};
+use crate::readings::{Read, Reading, Task, task_of};
 use cli_args::{LineError, request};
 use cli_facts::{NoteWriter, Notes, Refusal, Status, SystemFile};
 use cli_files::Progress;
@@ -58,7 +58,7 @@ where
 }
 
 /// How a run ends whose words ask for nothing, or for help.
-fn unasked<O: Write, E: Write>(
+pub(crate) fn unasked<O: Write, E: Write>(
     words: &[&str],
     error: &LineError,
     out: &mut O,
@@ -275,20 +275,17 @@ where
         Under::Refused(refusal) => return Err(ShowError::Refused(refusal)),
     };
     tell_locks(locks, notes);
-    match read_for(request) {
-        Some(asked) => read_under(rt, &asked, (locks, wait), out, notes),
-        None => match request {
-            Request::Recover {
-                file,
-                force,
-                options,
-                ..
-            } => recover(rt, (file, force, options), out, notes),
-            _ => {
-                line(out, &VERSION)?;
-                Ok(Answer::Done)
-            }
-        },
+    match task_of(request) {
+        Task::Read(asked) => read_under(rt, &asked, (locks, wait), out, notes),
+        Task::Recover {
+            file,
+            force,
+            options,
+        } => recover(rt, (file, force, options), out, notes),
+        Task::Version => {
+            line(out, &VERSION)?;
+            Ok(Answer::Done)
+        }
     }
 }
 
