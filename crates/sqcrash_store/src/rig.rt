@@ -9,14 +9,12 @@ use crate::plan::Plan;
 use crate::states::play;
 use crate::survey::{Bench, Point, survey};
 use crate::tally::Tally;
-use rand_pcg::Pcg32;
 use rig_store::{Action, Call, Store};
 use std::io::Write;
 
 /// A run that is being played and judged.
 #[derive(Drop)]
 pub struct Rig {
-    rng: Pcg32,
     store: Store,
     tally: Tally,
     /// How many marks were played.
@@ -71,7 +69,6 @@ impl Rig {
     {
         let plan = bench.plan;
         Rig {
-            rng: Pcg32::new(plan.seed, 1),
             store: Store::new(bench.alloc, plan.sector, plan.tears, plan.meta),
             tally: Tally::none(),
             marks: 0,
@@ -124,7 +121,7 @@ impl Rig {
             number: tally.points,
             known: self.known,
         };
-        self.tally = survey(judge, bench, &mut self.rng, &point, tally, out)?;
+        self.tally = survey(judge, bench, &point, tally, out)?;
         Ok(())
     }
 
