@@ -1,2 +1,3 @@
 pub mod ZerosBehindBytes
 pub mod ReadBefore
+pub mod JournalsLeft

@@ -1,5 +1,6 @@
 pub mod Files
 pub mod Journals
+pub mod NewFiles
 pub mod Notes
 pub mod Refusals
 pub mod Watches

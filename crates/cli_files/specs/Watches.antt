@@ -1,9 +1,12 @@
 -- What is read of files that are watched, and how long a change of them may go unseen (own).
 use Rattle.std.specs.Prelude.{◌≡◌, ℕ, ◌+◌, ◌-◌, ◌*◌, ◌<◌, ◌≤◌, min, max, ℤ, pos, negsuc, Bool, false, Option, IfSome, IsSome}
-use Rattle.std.specs.Prelude.{slice_index}
+use Rattle.std.specs.Prelude.{List, None, Some, IsSomeAnd, slice_index}
 use Rattle.std.specs.Option.{option_map_or}
+use Rattle.cli_facts.specs.Fronts.{HasSalts}
+use Rattle.cli_facts.specs.declared.fronts.Front.{Front}
 use Rattle.cli_facts.specs.declared.readings.Reading.{Reading}
 use Rattle.cli_facts.specs.declared.readings.Readings.{Readings}
+use Rattle.cli_files.specs.declared.fronts.FrameHead.{FrameHead}
 
 -- where the file is there, its bytes were read
 abbrev pub IsRead : Option Reading → Type 0
@@ -12,6 +15,21 @@ IsRead reading = IfSome reading (λ r. IsSome r.front)
 -- those of both logs, and unless only the logs are read, those of the database file
 abbrev pub AreRead : (only_logs : Bool) → Readings → Type 0
 AreRead only_logs readings = (only_logs ≡ false → IsRead readings.db) × IsRead readings.wal × IsRead readings.journal
+
+-- the header of a log, where it was there and was read
+abbrev pub header_of : Option Reading → Option (List ℕ)
+header_of (Some log) = log.front
+header_of None = None
+
+-- where the frame of a front begins in its log (fileformat2, 4.1)
+abbrev pub place_of : Front → ℕ
+place_of front = 32 + (front.frame - 1) * (front.page_size + 24)
+
+-- Of a log with a header the last frame that counts, if one does, was looked at, and has the header's salts.
+abbrev pub FrontStands : (header : Option (List ℕ)) → Option Front → Option FrameHead → Type 0
+FrontStands (Some header) (Some front) head = IsSomeAnd head (λ h. (h.at ≡ place_of front) × HasSalts header h.bytes)
+FrontStands (Some header) None head = head ≡ None
+FrontStands None front head = head ≡ None
 
 -- of the 32 bytes that are kept those from this one on are zeros
 abbrev pub HasZerosFrom : (count : ℕ) → Option Reading → Type 0

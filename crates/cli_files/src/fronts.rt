@@ -1,7 +1,9 @@
 //! Whether the frames of a log that count still stand.
-ghost use Rattle.std.specs.Prelude.{◌≡◌, ◌⊎◌, IfErr, IfOk, IsErrAnd, false};
+ghost use Rattle.std.specs.Prelude.{◌≡◌, IfErr, IfOk};
+ghost use Rattle.cli_facts.specs.Fronts.{HasSalts};
+ghost use Rattle.cli_facts.specs.declared.outcome.Refusal.TheVariants.{FileChanged};
 ghost use Rattle.cli_files.specs.Refusals.{IsFromWatch};
-ghost use Rattle.cli_files.specs.Watches.{AreRead};
+ghost use Rattle.cli_files.specs.Watches.{AreRead, FrontStands, header_of, place_of};
 
 use crate::hints::told;
 use crate::paths::{Paths, is_missing};
@@ -13,49 +15,74 @@ use std::fs::File;
 use std::io::{self, Write};
 use std::rt::Files;
 
+/// The head of a frame as it was read, and where it stands in its log, in bytes.
+#[derive(Clone, Copy, Debug, PartialEq, Eq)]
+pub struct FrameHead {
+    pub at: u64,
+    pub bytes: [u8; 24],
+}
+
 /// The head of a front's frame, with zeros past the end of the log.
-fn head_of<R: Files>(rt: &R, path: &str, front: Front) -> io::Result<[u8; 24]>
+fn head_of<R: Files>(rt: &R, path: &str, front: Front) -> io::Result<FrameHead>
 where
     R::File: SystemFile,
+    ensures { IfOk result (λ head. head.at ≡ place_of front) }
 {
-    let mut head = [0u8; 24];
+    let (at, mut bytes) = (front.place(), [0u8; 24]);
     let file = File::open(rt, path)?;
-    read_or_zeros(&file, front.place(), &mut head)?;
-    Ok(head)
+    read_or_zeros(&file, at, &mut bytes)?;
+    Ok(FrameHead { at, bytes })
 }
 
 /// The header of a log that began so.
-fn header_of(began: Option<Reading>) -> Option<[u8; 32]> {
+fn header_of(began: Option<Reading>) -> Option<[u8; 32]>
+    ensures { result ≡ header_of began }
+{
     match began {
         Some(log) => log.front,
         None => None,
     }
 }
 
-/// FileChanged where the frames up to this front of a log that began so don't stand any more.
+/// FileChanged where a frame doesn't have the salts of its log's header.
+fn standing_head(header: &[u8; 32], head: FrameHead) -> Result<FrameHead, Refusal>
+    ensures stands { IfOk result (λ seen. (seen ≡ head) × HasSalts header.now head.bytes) }
+    ensures changed { IfErr result (λ refusal. refusal ≡ FileChanged) }
+{
+    standing(header, &head.bytes)?;
+    Ok(head)
+}
+
+/// FileChanged where the frames up to this front of a log with this header don't stand any more. The head of the last
+/// one.
 fn still_standing<R: Files, E: Write>(
     rt: &R,
     path: &str,
-    began: Option<Reading>,
+    header: Option<[u8; 32]>,
     front: Option<Front>,
     notes: &mut Notes<'_, E>,
-) -> Result<(), Refusal>
+) -> Result<Option<FrameHead>, Refusal>
 where
     R::File: SystemFile,
-    ensures { IfErr result IsFromWatch }
+    ensures stands { IfOk result (FrontStands header front) }
+    ensures refused { IfErr result IsFromWatch }
 {
-    let (Some(front), Some(header)) = (front, header_of(began)) else {
-        return Ok(());
+    let Some(header) = header else {
+        return Ok(None);
+    };
+    let Some(front) = front else {
+        return Ok(None);
     };
     match head_of(rt, path, front) {
-        Ok(head) => standing(&header, &head),
+        Ok(head) => Ok(Some(standing_head(&header, head)?)),
         Err(error) if is_missing(&error) => Err(Refusal::FileChanged),
-        Err(error) => Err(told(notes, path, error)),
+        Err(error) => Err(told(notes, path, error).refusal),
     }
 }
 
 /// FileChanged where files aren't as they were before, or the frames up to this front don't stand any more. Where only
-/// the logs are read, the database file needn't be readable; what couldn't be read before isn't as it was.
+/// the logs are read, the database file needn't be readable; what couldn't be read before isn't as it was. The head of
+/// the last frame that counts, as it was looked at, if one does.
 pub fn as_before<R: Files, E: Write>(
     rt: &R,
     paths: &Paths,
@@ -63,32 +90,15 @@ pub fn as_before<R: Files, E: Write>(
     only_logs: bool,
     front: Option<Front>,
     notes: &mut Notes<'_, E>,
-) -> Result<(), Refusal>
+) -> Result<Option<FrameHead>, Refusal>
 where
     R::File: SystemFile,
     ensures read { IfOk result (λ _. AreRead only_logs before.now) }
+    ensures stands { IfOk result (FrontStands (header_of before.now.wal) front) }
     ensures refused { IfErr result IsFromWatch }
 {
     let after = readings_of(rt, paths, only_logs, notes)?;
     unchanged(before, &after, Ok(()))?;
-    still_standing(rt, paths.wal.as_str(), before.wal, front, notes)
-}
-
-/// An answer, if the files are as they were before, and the frames up to this front still stand.
-pub fn watched<R: Files, T: Drop, E: Write>(
-    rt: &R,
-    paths: &Paths,
-    before: &Readings,
-    front: Option<Front>,
-    answer: Result<T, Refusal>,
-    notes: &mut Notes<'_, E>,
-) -> Result<T, Refusal>
-where
-    R::File: SystemFile,
-    ensures { ((result ≡ answer) × AreRead false before.now) ⊎ IsErrAnd result IsFromWatch }
-{
-    match as_before(rt, paths, before, false, front, notes) {
-        Ok(()) => answer,
-        Err(refusal) => Err(refusal),
-    }
+    let header = header_of(before.wal);
+    still_standing(rt, paths.wal.as_str(), header, front, notes)
 }

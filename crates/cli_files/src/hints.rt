@@ -23,14 +23,29 @@ use std::fs::Metadata;
 use std::io::{self, Write};
 use std::os::unix::fs::FileTypeExt;
 
+/// A refusal for what the system said of a path, and the path as a note names it.
+#[derive(Clone, Copy)]
+pub struct ToldRefusal<'a> {
+    pub refusal: Refusal,
+    pub path: Quoted<'a>,
+}
+
 /// The refusal for what the system said of a path, which is told.
-pub fn told<E: Write>(notes: &mut Notes<'_, E>, path: &str, error: io::Error) -> Refusal
-    ensures memory { error_kind error ≡ OutOfMemory → result ≡ NoMemory }
-    ensures other { error_kind error ≢ OutOfMemory → result ≡ FileFailed }
-    ensures system { IsFromSystem result }
+pub fn told<'a, E: Write>(
+    notes: &mut Notes<'_, E>,
+    path: &'a str,
+    error: io::Error,
+) -> ToldRefusal<'a>
+    ensures memory { error_kind error ≡ OutOfMemory → result.refusal ≡ NoMemory }
+    ensures other { error_kind error ≢ OutOfMemory → result.refusal ≡ FileFailed }
+    ensures system { IsFromSystem result.refusal }
+    ensures path { result.path.0.now ≡ path.entry.now }
 {
-    notes.blame(path, &error);
-    Refusal::from(error)
+    let path = notes.blame(path, &error);
+    ToldRefusal {
+        refusal: Refusal::from(error),
+        path,
+    }
 }
 
 fn kind_of(found: &Metadata) -> &'static str {

@@ -1,5 +1,5 @@
 //! What a journal says that decides whether it counts, here and for SQLite.
-ghost use Rattle.std.specs.Prelude.{◌≡◌, ◌↔◌, IsOkAnd, IsTrue, Some};
+ghost use Rattle.std.specs.Prelude.{◌≡◌, ◌↔◌, IfOk, IsOkAnd, IsTrue, Some};
 ghost use Rattle.cli_words.specs.declared.requests.SuperJournal.TheVariants.{Gone};
 ghost use Rattle.cli_files.specs.Journals.{NamesSuperJournal};
 
@@ -18,6 +18,8 @@ use std::str;
 pub fn names_super_journal<F: FileBytes>(journal: &mut F) -> Result<bool, SourceError>
     ensures answer { F.gives_bytes journal.old
         → IsOkAnd result (λ names. IsTrue names ↔ NamesSuperJournal (F.bytes journal.old)) }
+    ensures right { F.reads_right journal.old
+        → IfOk result (λ names. IsTrue names ↔ NamesSuperJournal (F.bytes journal.old)) }
     ensures still_gives { F.gives_bytes journal.old → F.gives_bytes journal.new }
     ensures same_bytes { F.bytes journal.new ≡ F.bytes journal.old }
 {
@@ -63,7 +65,9 @@ fn tell_presence<R: Files, E: Write>(rt: &R, name: &str, notes: &mut Notes<'_, E
         Err(error) if is_missing(&error) => {
             notes.explain(&format_args!("the super-journal {quoted} isn't there"));
         }
-        Err(error) => notes.blame(name, &error),
+        Err(error) => {
+            notes.blame(name, &error);
+        }
     }
 }
 

@@ -1,16 +1,18 @@
 //! The opened files of a database.
-ghost use Rattle.std.specs.Prelude.{◌≡◌, ◌⊎◌, Option, IfErr, IfOk, IfSome, IsOk, Ok, Some};
+ghost use Rattle.std.specs.Prelude.{◌≡◌, ◌⊎◌, ◌↔◌, Option, IfErr, IfOk, IfSome, IsOk, IsTrue, Ok, OnOk, Some, false};
 ghost use Rattle.std.specs.Option.{option_map};
 ghost use Rattle.std.specs.Fs.{metadata_len, file_type, IsFile};
 ghost use Rattle.cli_words.specs.declared.requests.SuperJournal.TheVariants.{Gone};
 ghost use Rattle.cli_facts.specs.Refusals.{refusal_of};
 ghost use Rattle.cli_facts.specs.declared.outcome.Refusal.TheVariants.{TwoLogs};
+ghost use Rattle.sqjournal.specs.Journal.{IsHot};
 ghost use Rattle.sqview.specs.Logs.{AreTwoLogs, CountsAnswer};
 ghost use Rattle.sqview.specs.declared.view_error.ViewError.{ViewError};
 ghost use Rattle.cli_facts.specs.Quoted.{name_text};
 ghost use Rattle.sqview.specs.Laid.{part_or_zeros};
 ghost use Rattle.cli_files.specs.Files.{AreRegular, IsMissing, IsOpenedAt, IsOpenedOf, IsSteady, NeverFails};
 ghost use Rattle.cli_files.specs.Files.{opened_bytes, path_of};
+ghost use Rattle.cli_files.specs.Journals.{IsLeftOf, LeavesJournal, NamesSuperJournal};
 ghost use Rattle.cli_files.specs.Notes.{NamesPages, alone_text, note_text};
 ghost use Rattle.cli_files.specs.declared.note.Named.{Named};
 ghost use Rattle.cli_files.specs.Refusals.{IsFromSystem};
@@ -49,7 +51,7 @@ fn found_log<R: Files, E: Write>(
         Ok(found) if found.is_file() => Ok(Some(found)),
         Ok(found) => Err(told_kind(notes, path, &found)),
         Err(error) if is_missing(&error) => Ok(None),
-        Err(error) => Err(told(notes, path, error)),
+        Err(error) => Err(told(notes, path, error).refusal),
     }
 }
 
@@ -63,7 +65,7 @@ fn open_to_read<R: Files, E: Write>(
 {
     match File::open(rt, path) {
         Ok(file) => Ok(file),
-        Err(error) => Err(told(notes, path, error)),
+        Err(error) => Err(told(notes, path, error).refusal),
     }
 }
 
@@ -119,6 +121,8 @@ pub struct Beside<'a, F> {
     pub found: Beheld,
     pub wal: OpenedFile<'a, F>,
     pub journal: OpenedFile<'a, F>,
+    /// Whether the file is asked for without them, as at 0, which is what a note says of them.
+    pub are_left_out: bool,
 }
 
 /// What the system says of a database file. Refused by `FileFailed` where it is missing or isn't a regular file.
@@ -133,7 +137,7 @@ fn found_database<R: Files, E: Write>(
     match look_at(rt, path) {
         Ok(found) if found.is_file() => Ok(found),
         Ok(found) => Err(told_kind(notes, path, &found)),
-        Err(error) => Err(told(notes, path, error)),
+        Err(error) => Err(told(notes, path, error).refusal),
     }
 }
 
@@ -188,14 +192,16 @@ fn tell_names<E: Write>(paths: &Paths, found: &Beheld, notes: &mut Notes<'_, E>)
     }
 }
 
-/// Opens the files beside a database file that were found.
+/// Opens the files beside a database file that were found, which is asked for at this commit frame.
 fn open_found<'a, R: Files, E: Write>(
     rt: &R,
     paths: &'a Paths,
     found: Beheld,
+    at: Option<u32>,
     notes: &mut Notes<'_, E>,
 ) -> Result<Beside<'a, R::File>, Refusal>
     ensures found { IfOk result (λ logs. logs.found ≡ found) }
+    ensures left_out { IfOk result (λ logs. IsTrue logs.are_left_out ↔ at ≡ Some 0) }
     ensures wal { IfOk result (λ logs. IsOpenedOf logs.wal paths.entry.now.wal 1 logs.found.wal) }
     ensures journal { IfOk result (λ logs. IsOpenedOf logs.journal paths.entry.now.journal 28 logs.found.journal) }
     ensures refused { IfErr result IsFromSystem }
@@ -206,17 +212,34 @@ fn open_found<'a, R: Files, E: Write>(
             found,
             wal,
             journal,
+            are_left_out: at == Some(0),
         }),
         Err(refusal) => Err(refusal),
     }
 }
 
 /// Whether a journal is hot, and whether it names a super-journal then.
-fn marks_of<F: SystemFile>(journal: &OpenedFile<'_, F>) -> Result<(bool, bool), SourceError> {
+fn marks_of<F: SystemFile>(journal: &OpenedFile<'_, F>) -> Result<(bool, bool), SourceError>
+    ensures hot { IsSteady F.bytes F.keeps_word journal.now
+        → IfOk result (λ marks. IsTrue marks.0 ↔ IsHot (opened_bytes F.bytes journal.now)) }
+    ensures names { IsSteady F.bytes F.keeps_word journal.now → IfOk result (λ marks. IsTrue marks.1
+        ↔ (IsHot (opened_bytes F.bytes journal.now) × NamesSuperJournal (opened_bytes F.bytes journal.now))) }
+{
     let mut bytes = journal;
-    let is_hot = hot_header(&mut bytes)?.is_some();
-    let names_super = is_hot && names_super_journal(&mut bytes)?;
-    Ok((is_hot, names_super))
+    match hot_header(&mut bytes)? {
+        Some(_) => Ok((true, names_super_journal(&mut bytes)?)),
+        None => Ok((false, false)),
+    }
+}
+
+/// Lets a journal go that is out of force.
+fn let_go<F: Drop>(journal: &mut OpenedFile<'_, F>, is_out_of_force: bool)
+    ensures gone { IsTrue is_out_of_force → IsMissing journal.new }
+    ensures left { is_out_of_force ≡ false → journal.new ≡ journal.old }
+{
+    if is_out_of_force {
+        *journal = OpenedFile::missing();
+    }
 }
 
 /// Says where SQLite takes a journal that doesn't count here, and where it would leave an empty file empty.
@@ -236,20 +259,21 @@ fn tell_doubts<F: SystemFile, E: Write>(
     Ok(())
 }
 
-/// Says what is to be noted of opened logs, where the database is asked for at this commit frame. A hot journal that is
-/// out of force is let go.
+/// Says what is to be noted of opened logs. A hot journal that is out of force is let go.
 fn judge_logs<R: Files, F: SystemFile + Drop, E: Write>(
     rt: &R,
     logs: &mut Beside<'_, F>,
     paths: &Paths,
     super_journal: Option<SuperJournal>,
-    at: Option<u32>,
     notes: &mut Notes<'_, E>,
 ) -> Result<(), SourceError>
     ensures found { logs.new.found ≡ logs.old.found }
+    ensures left_out { logs.new.are_left_out ≡ logs.old.are_left_out }
     ensures wal { logs.new.wal ≡ logs.old.wal }
     ensures journal { ((super_journal ≡ Some Gone) × IsMissing logs.new.journal)
         ⊎ (logs.new.journal ≡ logs.old.journal) }
+    ensures left { IsSteady F.bytes F.keeps_word logs.old.journal → OnOk result (IsLeftOf super_journal
+        (opened_bytes F.bytes logs.old.journal) logs.old.journal logs.new.journal) }
 {
     let has_journal = logs.journal.len() != 0;
     let (is_hot, names_super) = marks_of(&logs.journal)?;
@@ -258,16 +282,14 @@ fn judge_logs<R: Files, F: SystemFile + Drop, E: Write>(
     }
     let is_out_of_force = is_out_of_force(names_super, super_journal);
     let is_hot = is_hot && !is_out_of_force;
-    if is_out_of_force {
-        logs.journal = OpenedFile::missing();
-    }
+    let_go(&mut logs.journal, is_out_of_force);
     tell_doubts(logs, is_hot, notes)?;
     let known = Logs {
         wal: logs.wal.len(),
         has_journal,
         is_hot,
         is_out_of_force,
-        is_left_out: at == Some(0),
+        is_left_out: logs.are_left_out,
     };
     tell_choice(notes, paths, known);
     if names_super && super_journal.is_none() {
@@ -292,12 +314,15 @@ where
     ensures wal { IfOk result (λ logs. IsOpenedOf logs.wal paths.entry.now.wal 1 logs.found.wal) }
     ensures journal { IfOk result (λ logs. ((super_journal ≡ Some Gone) × IsMissing logs.journal)
         ⊎ IsOpenedOf logs.journal paths.entry.now.journal 28 logs.found.journal) }
+    ensures left { IfOk result (λ logs. LeavesJournal R.File.bytes R.File.keeps_word super_journal
+        paths.entry.now.journal logs.found.journal logs.journal) }
+    ensures left_out { IfOk result (λ logs. IsTrue logs.are_left_out ↔ at ≡ Some 0) }
     ensures refused { IfErr result IsFromSystem }
 {
     let found = found_files(rt, paths, notes)?;
     tell_names(paths, &found, notes);
-    let mut logs = open_found(rt, paths, found, notes)?;
-    match judge_logs(rt, &mut logs, paths, super_journal, at, notes) {
+    let mut logs = open_found(rt, paths, found, at, notes)?;
+    match judge_logs(rt, &mut logs, paths, super_journal, notes) {
         Ok(()) => Ok(logs),
         Err(error) => Err(Refusal::from(error)),
     }

@@ -1,5 +1,6 @@
 //! A file that is made whole, or not at all.
 ghost use Rattle.std.specs.Prelude.{◌≡◌, ◌++◌, ◌≤◌, codes, length, IfErr, IfOk, string_bytes};
+ghost use Rattle.cli_files.specs.NewFiles.{IsBegunFile, IsPart, IsShortPart};
 ghost use Rattle.cli_files.specs.Refusals.{IsFromSystem, IsFromWatch};
 
 use crate::hints::told;
@@ -25,6 +26,8 @@ pub struct NewFile<'a, F> {
     to: &'a str,
     /// The name under which it is made.
     part: String,
+    /// The permissions that were asked for.
+    mode: u32,
     /// How many bytes it is to have.
     end: u64,
     /// Whether the last of them are zeros that weren't written.
@@ -39,9 +42,19 @@ fn part_of(alloc: Global, to: &str) -> Result<String, AllocError>
 }
 
 /// The same, where the file's own name leaves no room for more.
-fn short_part_of(alloc: Global, to: &str) -> Result<String, AllocError> {
+fn short_part_of(alloc: Global, to: &str) -> Result<String, AllocError>
+    ensures { IfOk result (λ part. IsShortPart to.now (string_bytes part)) }
+{
     let folder = folder_of(to);
     format!(in alloc; "{folder}/.sqrescue-part")
+}
+
+/// A file under whose name another is made: its name, and the permissions that were asked for.
+#[derive(Drop)]
+struct Part<F> {
+    file: F,
+    name: String,
+    mode: u32,
 }
 
 /// A new file with these permissions, as far as the process gives them.
@@ -104,11 +117,13 @@ fn open_part<R: Files + AllocGlobal>(
     to: &str,
     mode: u32,
     paths: &Paths,
-) -> io::Result<(R::File, String)> {
+) -> io::Result<Part<R::File>>
+    ensures { IfOk result (λ part. IsPart to.now (string_bytes part.name) × (part.mode ≡ mode)) }
+{
     is_free(rt, to)?;
-    let part = part_of(rt.alloc(), to)?;
-    match open_anew(rt, part.as_str(), mode, paths) {
-        Ok(file) => Ok((file, part)),
+    let name = part_of(rt.alloc(), to)?;
+    match open_anew(rt, name.as_str(), mode, paths) {
+        Ok(file) => Ok(Part { file, name, mode }),
         Err(error) if is_unfit(&error) => open_short(rt, to, mode, paths),
         Err(error) => Err(error),
     }
@@ -128,10 +143,12 @@ fn open_short<R: Files + AllocGlobal>(
     to: &str,
     mode: u32,
     paths: &Paths,
-) -> io::Result<(R::File, String)> {
-    let part = short_part_of(rt.alloc(), to)?;
-    match open_anew(rt, part.as_str(), mode, paths) {
-        Ok(file) => Ok((file, part)),
+) -> io::Result<Part<R::File>>
+    ensures { IfOk result (λ part. IsPart to.now (string_bytes part.name) × (part.mode ≡ mode)) }
+{
+    let name = short_part_of(rt.alloc(), to)?;
+    match open_anew(rt, name.as_str(), mode, paths) {
+        Ok(file) => Ok(Part { file, name, mode }),
         Err(error) => Err(error),
     }
 }
@@ -204,17 +221,19 @@ pub fn begin_file<'a, R: Files + AllocGlobal, E: Write>(
     mode: u32,
     notes: &mut Notes<'_, E>,
 ) -> Result<NewFile<'a, R::File>, Refusal>
+    ensures begun { IfOk result (IsBegunFile to.entry.now mode) }
     ensures refused { IfErr result IsFromSystem }
 {
     match open_part(rt, to, mode, paths) {
-        Ok((file, part)) => Ok(NewFile {
+        Ok(Part { file, name, mode }) => Ok(NewFile {
             file,
             to,
-            part,
+            part: name,
+            mode,
             end: 0,
             has_hole: false,
         }),
-        Err(error) => Err(told(notes, to, error)),
+        Err(error) => Err(told(notes, to, error).refusal),
     }
 }
 
@@ -256,7 +275,7 @@ fn refused_end<R: Files, E: Write>(
 ) -> Refusal
     ensures { IsFromSystem result }
 {
-    let refusal = told(notes, made.to, error);
+    let refusal = told(notes, made.to, error).refusal;
     discard_file(rt, made, notes);
     refusal
 }
@@ -297,7 +316,11 @@ impl<F: Write + Seek + OpenFile> NewFile<'_, F> {
     }
 
     /// Ends a file that was written, and makes it durable under the name under which it is made.
-    pub fn finish(&mut self) -> io::Result<()> {
+    pub fn finish(&mut self) -> io::Result<()>
+        ensures to { self.new.to ≡ self.old.to }
+        ensures part { self.new.part ≡ self.old.part }
+        ensures mode { self.new.mode ≡ self.old.mode }
+    {
         if self.has_hole {
             self.file.set_len(self.end)?;
         }

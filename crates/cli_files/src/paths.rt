@@ -1,7 +1,7 @@
 //! Which files a database is made of.
-ghost use Rattle.std.specs.Prelude.{◌≡◌, ◌⊎◌, ◌↔◌, ◌++◌, IfErr, IfOk, IsTrue, string_bytes};
+ghost use Rattle.std.specs.Prelude.{◌≡◌, ◌≢◌, ◌⊎◌, ◌↔◌, ◌++◌, IfErr, IfOk, IsTrue, false, string_bytes};
 ghost use Rattle.std.specs.IoError.{error_kind};
-ghost use Rattle.std.specs.declared.io.ErrorKind.TheVariants.{InvalidFilename, NotFound};
+ghost use Rattle.std.specs.declared.io.ErrorKind.TheVariants.{Interrupted, InvalidFilename, NotFound};
 ghost use Rattle.cli_files.specs.Files.{AreBeside, HasNameBeside, HasNameOf, IsFolderOf, IsOneFolder};
 ghost use Rattle.cli_files.specs.Files.{path_of};
 ghost use Rattle.cli_files.specs.Refusals.{IsFromSystem};
@@ -25,6 +25,8 @@ pub struct Paths {
     pub wal: Place,
     pub journal: Place,
     pub shm: Place,
+    /// Whether the path that was given is a symbolic link, and the database's that of the file that it leads to.
+    pub is_link: bool,
 }
 
 impl Paths {
@@ -42,14 +44,16 @@ impl Paths {
 }
 
 /// What the system says of a file; of a symbolic link itself. A call that a signal ends is made again.
-pub fn look_at<R: Files>(rt: &R, path: &str) -> io::Result<Metadata> {
+pub fn look_at<R: Files>(rt: &R, path: &str) -> io::Result<Metadata>
+    ensures { IfErr result (λ error. error_kind error ≢ Interrupted) }
+{
     for _ in 0..u64::MAX {
         match fs::symlink_metadata(rt, path) {
             Err(error) if error.kind() == io::ErrorKind::Interrupted => {}
             answer => return answer,
         }
     }
-    Err(io::Error::from(io::ErrorKind::Interrupted))
+    Err(io::Error::from(io::ErrorKind::TimedOut))
 }
 
 /// Whether the system says that there is no such file, also as its name is too long for one.
@@ -78,12 +82,14 @@ fn target_of<R: Files + AllocGlobal>(rt: &R, link: &str) -> io::Result<String> {
     }
 }
 
-/// The path of a file behind symbolic links. One that is no link is left as it is given.
-fn resolved<R: Files + AllocGlobal>(rt: &R, file: &str) -> io::Result<String> {
+/// The path of a file behind symbolic links, and whether it is one. One that is no link is left as it is given.
+fn resolved<R: Files + AllocGlobal>(rt: &R, file: &str) -> io::Result<(String, bool)>
+    ensures { IfOk result (λ found. found.1 ≡ false → string_bytes found.0 ≡ file.now) }
+{
     if is_link(rt, file)? {
-        return target_of(rt, file);
+        return Ok((target_of(rt, file)?, true));
     }
-    Ok(String::from_str(rt.alloc(), file)?)
+    Ok((String::from_str(rt.alloc(), file)?, false))
 }
 
 /// The file beside a database file whose name ends so.
@@ -96,9 +102,10 @@ fn beside(alloc: Global, db: &str, end: &str) -> Result<Place, AllocError>
     }
 }
 
-/// The paths of a database file and of the files beside it.
-fn all_paths(alloc: Global, db: String) -> Result<Paths, AllocError>
+/// The paths of a database file and of the files beside it, and whether a link was followed to it.
+fn all_paths(alloc: Global, db: String, is_link: bool) -> Result<Paths, AllocError>
     ensures db { IfOk result (λ paths. path_of paths.db ≡ string_bytes db) }
+    ensures link { IfOk result (λ paths. paths.is_link ≡ is_link) }
     ensures beside { IfOk result AreBeside }
 {
     let wal = beside(alloc, db.as_str(), "-wal")?;
@@ -109,6 +116,7 @@ fn all_paths(alloc: Global, db: String) -> Result<Paths, AllocError>
             wal,
             journal,
             shm,
+            is_link,
         }),
         Err(error) => Err(error),
     }
@@ -128,7 +136,7 @@ fn unresolved<R: Files + AllocGlobal, E: Write>(
             return Refusal::NoMemory;
         }
     }
-    told(notes, file, error)
+    told(notes, file, error).refusal
 }
 
 /// The paths of a database, whose other files lie beside the file that the links lead to, as for SQLite. Says so where
@@ -140,17 +148,18 @@ pub fn paths_of<R: Files + AllocGlobal, E: Write>(
 ) -> Result<Paths, Refusal>
 where
     R::File: SystemFile,
+    ensures named { IfOk result (λ paths. paths.is_link ≡ false → path_of paths.db ≡ file.now) }
     ensures beside { IfOk result AreBeside }
     ensures refused { IfErr result IsFromSystem }
 {
-    let db = match resolved(rt, file) {
-        Ok(db) => db,
+    let (db, is_link) = match resolved(rt, file) {
+        Ok(found) => found,
         Err(error) => return Err(unresolved(rt, file, error, notes)),
     };
     if is_log(rt, db.as_str()) {
         notes.say(&"this is a log; name its database");
     }
-    match all_paths(rt.alloc(), db) {
+    match all_paths(rt.alloc(), db, is_link) {
         Ok(paths) => Ok(paths),
         Err(error) => Err(Refusal::from(error)),
     }

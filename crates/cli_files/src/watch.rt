@@ -50,12 +50,12 @@ where
         Ok(found) if found.is_file() => found,
         Ok(_) => return Ok(None),
         Err(error) if is_missing(&error) => return Ok(None),
-        Err(error) => return Err(told(notes, path, error)),
+        Err(error) => return Err(told(notes, path, error).refusal),
     };
     let front = match front_of(rt, path, at, count) {
         Ok(front) => Some(front),
         Err(error) if is_missing(&error) => return Ok(None),
-        Err(error) if must_be_read => return Err(told(notes, path, error)),
+        Err(error) if must_be_read => return Err(told(notes, path, error).refusal),
         Err(_) => None,
     };
     Ok(Some(Reading {

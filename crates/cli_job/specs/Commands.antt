@@ -1,6 +1,7 @@
 -- What each command finds of the files of a database.
-use Rattle.std.specs.Prelude.{◌≡◌, ℕ, Bool, true, false, List, Option, Result, Ok, Err, IfErr, IsSome, IsTrue, OnOk}
+use Rattle.std.specs.Prelude.{◌≡◌, ℕ, Bool, true, false, List, Option, None, Result, Ok, Err, IfErr, IsSome, IsTrue, OnOk}
 use Rattle.std.specs.Io.KnownBytes.{Appends}
+use Rattle.cli_facts.specs.declared.fronts.Front.{Front}
 use Rattle.cli_facts.specs.declared.outcome.Refusal.{Refusal}
 use Rattle.cli_words.specs.declared.requests.Options.{Options}
 use Rattle.cli_words.specs.declared.requests.Part.{Part}
@@ -8,7 +9,7 @@ use Rattle.cli_words.specs.declared.requests.Part.TheVariants as parts
 use Rattle.cli_show.specs.Behind.{IsWholeLogText}
 use Rattle.cli_show.specs.Contents.{AreGiven, contents_of}
 use Rattle.cli_show.specs.Errors.{IfRefused}
-use Rattle.cli_show.specs.Found.{fault_in, IsFoundOf, IsUnfound}
+use Rattle.cli_show.specs.Found.{fault_in, IsFoundOf, IsFrontFound, IsUnfound}
 use Rattle.cli_show.specs.Limits.{limits_named}
 use Rattle.cli_show.specs.Logs.{IsUnreadLog}
 use Rattle.cli_show.specs.LogsShown.{IsCommitsText, IsLogText}
@@ -90,3 +91,17 @@ IsDamage (Checked found) = IsTrue (is_damaged found.verdict)
 IsDamage (Surveyed found) = IsSome (fault_in found)
 IsDamage (Shown shown) = ⊥
 IsDamage (Printed printed) = ⊥
+
+-- a command that prints while it reads
+abbrev pub prints_meanwhile : Command → Bool
+prints_meanwhile (Show part) = true
+prints_meanwhile (Rows wanted) = true
+prints_meanwhile _ = false
+
+-- the front of the log at which a command found this, none where a part isn't shown
+abbrev pub IsFoundAt : {F : Type 0} → Finding F → Option Front → Type 0
+IsFoundAt (Checked found) front = front ≡ found.front
+IsFoundAt (Surveyed found) front = IsFrontFound found front
+IsFoundAt (Shown (Ok shown)) front = front ≡ shown
+IsFoundAt (Shown (Err error)) front = front ≡ None
+IsFoundAt (Printed printed) front = front ≡ printed.front

@@ -3,11 +3,17 @@ use Rattle.std.specs.Prelude.{◌≡◌, ◌≤◌, ℕ, Option, Some, None, ◌
 use Rattle.cli_job.specs.declared.sources.Watch.{Watch}
 use Rattle.cli_job.specs.declared.sources.Watch.TheVariants.{Dated, Undated, Still, Indexed}
 use Rattle.std.specs.Borrow.{Bor}
+use Rattle.std.specs.Duration.{as_nanos}
+use Rattle.std.specs.Option.{option_map_or}
+use Rattle.std.specs.declared.time.Duration.{Duration}
 use Rattle.cli_facts.specs.declared.outcome.Refusal.{Refusal}
 use Rattle.cli_facts.specs.declared.outcome.Refusal.TheVariants.{InUse, NoSuchCommit}
 use Rattle.cli_words.specs.declared.requests.Options.{Options}
-use Rattle.cli_files.specs.Files.{AreBeside}
+use Rattle.cli_files.specs.Files.{AreBeside, path_of}
 use Rattle.cli_files.specs.Refusals.{IsFromWatch}
+use Rattle.cli_files.specs.Watches.{longest_left, tick}
+use Rattle.cli_job.specs.declared.sources.Before.{Before}
+use Rattle.cli_job.specs.declared.sources.Before.TheVariants as readings
 use Rattle.cli_job.specs.declared.sources.Source.{Source}
 
 -- the front where none is asked for, and else the one that is, which isn't behind it
@@ -37,6 +43,7 @@ AtFile (Some frame) at = at ≡ Some frame
 -- the files of a reading, as they are read: with these options, but for the commit
 pub record IsSourceOf (file : Bor (List ℕ)) (options : Options) (only_log : Bool) (source : Source) : Type 0 where
   pub named : source.file.now ≡ file.now
+  pub unlinked : source.paths.is_link ≡ false → path_of source.paths.db ≡ file.now
   pub beside : AreBeside source.paths
   pub as_asked : source.options ≡ record options { at = source.options.at }
   pub at : only_log ≡ false → IsReadAt options.at source.watch source.options.at
@@ -54,3 +61,9 @@ pub record IsAloneOf (source alone : Source) : Type 0 where
 -- commit that is asked for is behind its front.
 abbrev pub IsUnsourced : (at : Option ℕ) → Refusal → Type 0
 IsUnsourced at refusal = IsFromWatch refusal ⊎ ((refusal ≡ InUse) ⊎ ((refusal ≡ NoSuchCommit) × IsSome at))
+
+-- So long is waited, in nanoseconds, by a clock that says how long it is since 1970, or nothing: of files that are watched by
+-- their dates until a change of each is dated later than its last one, and of others not at all.
+abbrev pub IsWaitFor : Option Before → (wait : ℕ) → Type 0
+IsWaitFor (Some (readings.Dated before)) wait = (now : Option Duration) × (wait ≡ option_map_or (λ d. longest_left (as_nanos d) before) now tick)
+IsWaitFor _ wait = wait ≡ 0

@@ -1,4 +1,9 @@
 //! Readings that are made again while others change the files.
+ghost use Rattle.std.specs.Prelude.{◌≡◌, ◌↔◌, ◌*◌, ◌<◌, Err, IsTrue, None, false};
+ghost use Rattle.std.specs.Duration.{as_nanos};
+ghost use Rattle.cli_facts.specs.declared.outcome.Refusal.TheVariants.{FileChanged};
+ghost use Rattle.cli_show.specs.declared.error.ShowError.TheVariants.{Refused};
+
 use cli_facts::Refusal;
 use cli_show::ShowError;
 use std::io::{self, Write};
@@ -24,7 +29,10 @@ impl<O> Drop for Begun<'_, O> {
 }
 
 impl<'a, O> Begun<'a, O> {
-    pub fn new(out: &'a mut O) -> Begun<'a, O> {
+    /// A writer to which nothing was given yet.
+    pub fn new(out: &'a mut O) -> Begun<'a, O>
+        ensures { result.is_begun ≡ false }
+    {
         Begun {
             out,
             is_begun: false,
@@ -45,7 +53,9 @@ impl<O: Write> Write for Begun<'_, O> {
 
 impl<O> Begun<'_, O> {
     /// Whether what was read is to be read again: others changed it, and nothing of it was printed.
-    pub fn is_to_be_read_again<T>(&self, answer: &Result<T, ShowError>) -> bool {
+    pub fn is_to_be_read_again<T>(&self, answer: &Result<T, ShowError>) -> bool
+        ensures { IsTrue result ↔ ((self.now.is_begun ≡ false) × (answer.now ≡ Err (Refused FileChanged))) }
+    {
         !self.is_begun && matches!(answer, Err(ShowError::Refused(Refusal::FileChanged)))
     }
 }
@@ -60,20 +70,33 @@ pub struct Until {
 
 impl Until {
     /// For so many seconds from now on.
-    pub fn new<C: Clock>(clock: &C, seconds: u32) -> Until {
+    pub fn new<C: Clock>(clock: &C, seconds: u32) -> Until
+        ensures { as_nanos result.wait ≡ seconds * 1000000000 }
+    {
         Until {
             began: Instant::now(clock).ok(),
             wait: Duration::from_secs(u64::from(seconds)),
         }
     }
 
-    /// Waits until the next reading. Whether there is time for it.
-    pub fn goes_on<C: Clock>(&self, clock: &C) -> bool {
+    /// Whether there is time for a reading so long after it began.
+    fn has_time(&self, gone: Duration) -> bool
+        ensures { IsTrue result ↔ as_nanos gone < as_nanos self.now.wait }
+    {
+        gone.as_nanos() < self.wait.as_nanos()
+    }
+
+    /// Waits until the next reading. Whether there is time for it: the clock can be read, and less than the time is
+    /// gone.
+    pub fn goes_on<C: Clock>(&self, clock: &C) -> bool
+        ensures unread { self.now.began ≡ None → result ≡ false }
+        ensures over { as_nanos self.now.wait ≡ 0 → result ≡ false }
+    {
         let Some(began) = self.began else {
             return false;
         };
         match began.elapsed(clock) {
-            Ok(gone) if gone < self.wait => {
+            Ok(gone) if self.has_time(gone) => {
                 thread::sleep(clock, Duration::from_millis(PAUSE));
                 true
             }

@@ -3,7 +3,7 @@ ghost use Rattle.std.specs.Prelude.{◌≡◌, ◌↔◌, IfErr, IsTrue, OnOk};
 ghost use Rattle.cli_show.specs.Contents.{AreGiven, contents_of};
 ghost use Rattle.cli_show.specs.Errors.{IfRefused};
 ghost use Rattle.cli_job.specs.Commands.{ChecksFiles, Finds, IsDamage, IsPartShown, IsPartUnshown, PrintsRows};
-ghost use Rattle.cli_job.specs.Commands.{SurveysFiles};
+ghost use Rattle.cli_job.specs.Commands.{IsFoundAt, SurveysFiles, prints_meanwhile};
 ghost use Rattle.cli_job.specs.Opened.{reads_logs};
 
 use cli_dump::{Printed, Wanted, show_rows};
@@ -86,14 +86,18 @@ impl Command<'_> {
 
     /// Whether it prints while it reads. Its lines are kept back as far as may be until it is known whether the files
     /// changed meanwhile.
-    pub fn prints_meanwhile(&self) -> bool {
+    pub fn prints_meanwhile(&self) -> bool
+        ensures { result ≡ prints_meanwhile self.entry.now }
+    {
         matches!(self, Command::Show(_) | Command::Rows(_))
     }
 }
 
 impl<F: FileBytes> Finding<F> {
     /// The front of the log at which it was found, if a frame counts.
-    pub fn front(&self) -> Option<Front> {
+    pub fn front(&self) -> Option<Front>
+        ensures { IsFoundAt self.now result }
+    {
         match self {
             Finding::Checked(found) => found.front,
             Finding::Surveyed(found) => found.front(),

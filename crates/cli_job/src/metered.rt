@@ -1,5 +1,6 @@
 //! A file of which it is counted how much is read.
-ghost use Rattle.std.specs.Prelude.{◌≡◌};
+ghost use Rattle.std.specs.Prelude.{◌≡◌, IfOk};
+ghost use Rattle.sqview.specs.Ahead.{IsUnread};
 
 use cli_files::Count;
 use cli_show::Contents;
@@ -42,7 +43,10 @@ impl<'a, F: FileBytes + Drop, M> Metered<'a, F, M> {
         self,
         alloc: Global,
         most: usize,
-    ) -> Result<Metered<'a, ReadAhead<F>, M>, AllocError> {
+    ) -> Result<Metered<'a, ReadAhead<F>, M>, AllocError>
+        ensures ahead { IfOk result (λ metered. IsUnread self.entry.file most metered.file) }
+        ensures meter { IfOk result (λ metered. metered.meter ≡ self.entry.meter) }
+    {
         let Metered { file, meter } = self;
         let file = ReadAhead::new(alloc, file, most)?;
         Ok(Metered { file, meter })
@@ -111,7 +115,12 @@ pub fn both_ahead<'a, F: FileBytes + Drop, M>(
     first: Metered<'a, F, M>,
     second: Metered<'a, F, M>,
     most: usize,
-) -> Result<(Metered<'a, ReadAhead<F>, M>, Metered<'a, ReadAhead<F>, M>), AllocError> {
+) -> Result<(Metered<'a, ReadAhead<F>, M>, Metered<'a, ReadAhead<F>, M>), AllocError>
+    ensures first { IfOk result (λ both. IsUnread first.entry.file most both.0.file) }
+    ensures second { IfOk result (λ both. IsUnread second.entry.file most both.1.file) }
+    ensures meters { IfOk result (λ both. (both.0.meter ≡ first.entry.meter)
+        × (both.1.meter ≡ second.entry.meter)) }
+{
     let first = first.ahead(alloc, most)?;
     match second.ahead(alloc, most) {
         Ok(second) => Ok((first, second)),
@@ -124,7 +133,13 @@ pub fn all_ahead<'a, F: FileBytes + Drop, M>(
     alloc: Global,
     files: Contents<Metered<'a, F, M>>,
     most: usize,
-) -> Result<Contents<Metered<'a, ReadAhead<F>, M>>, AllocError> {
+) -> Result<Contents<Metered<'a, ReadAhead<F>, M>>, AllocError>
+    ensures db { IfOk result (λ ahead. IsUnread files.entry.db.file most ahead.db.file) }
+    ensures wal { IfOk result (λ ahead. IsUnread files.entry.wal.file 0 ahead.wal.file) }
+    ensures journal { IfOk result (λ ahead. IsUnread files.entry.journal.file most ahead.journal.file) }
+    ensures meters { IfOk result (λ ahead. (ahead.db.meter ≡ files.entry.db.meter)
+        × (ahead.wal.meter ≡ files.entry.wal.meter) × (ahead.journal.meter ≡ files.entry.journal.meter)) }
+{
     let Contents { db, wal, journal } = files;
     let (db, journal) = both_ahead(alloc, db, journal, most)?;
     match wal.ahead(alloc, 0) {

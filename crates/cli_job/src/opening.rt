@@ -80,6 +80,7 @@ where
         found: Beheld { db: found, .. },
         wal,
         journal,
+        ..
     } = open_logs(rt, paths, super_journal, at, notes)?;
     let files = match open_database(rt, paths, &found, notes) {
         Ok(db) => as_asked(Contents { db, wal, journal }, at),

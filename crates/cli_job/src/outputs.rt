@@ -1,5 +1,7 @@
 //! A file that a command makes beside what it prints.
 ghost use Rattle.std.specs.Prelude.{◌≡◌, Err, IfErr, IfOk};
+ghost use Rattle.cli_facts.specs.declared.outcome.Refusal.TheVariants.{FileFailed};
+ghost use Rattle.cli_files.specs.Files.{HasNameBeside};
 
 use crate::answers::Answer;
 use crate::jobs::Job;
@@ -14,7 +16,10 @@ pub fn judge_name<R: Files, M, E: Write>(
     job: &Job<'_, R, M>,
     to: &str,
     notes: &Notes<'_, E>,
-) -> Result<(), Refusal> {
+) -> Result<(), Refusal>
+    ensures named { IfErr result (λ _. HasNameBeside job.now.source.now.paths to.now) }
+    ensures refused { IfErr result (λ refusal. refusal ≡ FileFailed) }
+{
     let paths = &job.source.paths;
     let folder = folder_identity(job.rt, to);
     let of_database = folder_identity(job.rt, paths.db.as_str());

@@ -2,7 +2,8 @@
 ghost use Rattle.std.specs.Prelude.{◌≡◌, ◌⊎◌, ◌↔◌, IfErr, IfOk, IsSome, IsTrue, false, true};
 ghost use Rattle.cli_files.specs.Refusals.{IsFromSystem, IsFromWatch};
 ghost use Rattle.cli_job.specs.Sources.{AtFile, AtFront, IsAloneOf, IsFrontUnder, IsReadAt, IsSourceOf};
-ghost use Rattle.cli_job.specs.Sources.{IsUnsourced};
+ghost use Rattle.std.specs.Duration.{as_nanos};
+ghost use Rattle.cli_job.specs.Sources.{IsUnsourced, IsWaitFor};
 ghost use Rattle.cli_job.specs.internal.Watches.{AreUndated, IsUndated, StandsYet};
 
 use cli_facts::{Front, Notes, Reading, Readings, Refusal, SystemFile, read_or_zeros, unchanged};
@@ -90,7 +91,7 @@ where
         match front_in(rt, paths.shm.as_str()) {
             Ok(Some(frames)) => return Ok(frames),
             Ok(None) => thread::sleep(rt, Duration::from_millis(1)),
-            Err(error) => return Err(told(notes, paths.shm.as_str(), error)),
+            Err(error) => return Err(told(notes, paths.shm.as_str(), error).refusal),
         }
     }
     Err(Refusal::InUse)
@@ -349,7 +350,9 @@ where
 
 /// How long to wait until each change of these files is dated later than their last ones; no time where that isn't
 /// looked at.
-pub fn wait_for<C: Clock>(clock: &C, before: &Option<Before>) -> Duration {
+pub fn wait_for<C: Clock>(clock: &C, before: &Option<Before>) -> Duration
+    ensures { IsWaitFor before.now (as_nanos result) }
+{
     match before {
         Some(Before::Dated(readings)) => time_to_wait(clock.since_1970().ok(), readings),
         _ => Duration::ZERO,
@@ -371,7 +374,10 @@ where
 {
     let (only_logs, front) = of;
     match before {
-        Some(Before::Dated(readings)) => as_before(rt, paths, readings, only_logs, front, notes),
+        Some(Before::Dated(readings)) => {
+            as_before(rt, paths, readings, only_logs, front, notes)?;
+            Ok(())
+        }
         Some(Before::Undated(readings)) => as_they_were(rt, paths, readings, notes),
         Some(Before::Indexed(head)) => as_indexed(rt, paths, head),
         None => Ok(()),

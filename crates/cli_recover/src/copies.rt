@@ -272,7 +272,7 @@ fn written<F: FileBytes + Drop, M: Count, O: Write + Seek + OpenFile, E: Write>(
 ) -> Result<(), Refusal> {
     match filled(alloc, content, made) {
         Ok(()) => Ok(()),
-        Err(CopyError::Unwritten(error)) => Err(told(notes, made.path(), error)),
+        Err(CopyError::Unwritten(error)) => Err(told(notes, made.path(), error).refusal),
         Err(CopyError::Unread) => Err(Refusal::FileFailed),
         Err(CopyError::NoMemory) => Err(Refusal::NoMemory),
     }

@@ -2,9 +2,11 @@
 ghost use Rattle.std.specs.Prelude.{◌≡◌};
 ghost use Rattle.cli_job.specs.Answers.{IsDoneOr};
 
+use crate::guarded_disk::GuardedDisk;
 use crate::outcomes::print_outcome;
 use crate::plans::{Recovery, plan_recovery, scan_of};
-use cli_facts::{FileDisk, Guard, Notes, Outcome, Refusal, SystemFile, metadata_of};
+use crate::refusals::{refusal_of_roll, refusal_of_wal};
+use cli_facts::{Guard, Notes, Outcome, Refusal, SystemFile, metadata_of};
 use cli_files::{
     Beheld, Beside, Count, OpenElsewhere, OpenedFile, Progress, counting_log, open_database,
     open_logs, paths_of, tell_dropped, tell_length, tell_unread, told,
@@ -12,6 +14,7 @@ use cli_files::{
 use cli_job::{Answer, Job, Metered, Source, Watch};
 use cli_show::{Contents, ShowError, limits_of};
 use cli_words::Options;
+use filedisk::FileDisk;
 use rollcore::replay_within;
 use sqval::{Limits, PageSize};
 use sqview::{FileBytes, LogInUse};
@@ -112,6 +115,7 @@ where
         found: Beheld { db, .. },
         wal,
         mut journal,
+        ..
     } = open_logs(job.rt, paths, super_journal, None, notes)?;
     tell_database(job, db, notes);
     match counting_log(&wal, &mut journal) {
@@ -193,7 +197,7 @@ where
     let (alloc, place, options) = (job.rt.alloc(), &job.source.paths.db, job.source.options);
     let length = match metadata_of(&db) {
         Ok(said) => said.len(),
-        Err(error) => return Err(told(notes, place.as_str(), error)),
+        Err(error) => return Err(told(notes, place.as_str(), error).refusal),
     };
     let (wal, journal) = logs;
     let mut files = Contents {
@@ -233,7 +237,7 @@ where
         scan,
     } = planned;
     let (alloc, source) = (job.rt.alloc(), job.source);
-    let disk = FileDisk::new(db, log, guard);
+    let disk = GuardedDisk::new(FileDisk::new(db, log), guard);
     match plan {
         Recovery::Nothing => Ok(Outcome::Nothing),
         Recovery::RollBack => replay(alloc, source, disk, notes),
@@ -248,7 +252,7 @@ where
 fn replay<F: SystemFile + Drop, G: Guard, E: Write>(
     alloc: Global,
     source: &Source<'_>,
-    disk: FileDisk<F, G>,
+    disk: GuardedDisk<FileDisk<F>, G>,
     notes: &mut Notes<'_, E>,
 ) -> Result<Outcome, Refusal> {
     let mut disk = disk;
@@ -261,7 +265,7 @@ fn replay<F: SystemFile + Drop, G: Guard, E: Write>(
         Err(error) => {
             let paths = &source.paths;
             disk.tell(paths.db.as_str(), paths.journal.as_str(), notes);
-            Err(disk.refusal().unwrap_or(Refusal::from(error)))
+            Err(disk.refusal().unwrap_or(refusal_of_roll(error)))
         }
     }
 }
@@ -271,7 +275,7 @@ fn replay<F: SystemFile + Drop, G: Guard, E: Write>(
 fn fold<F: SystemFile + Drop, G: Guard, E: Write>(
     alloc: Global,
     source: &Source<'_>,
-    disk: FileDisk<F, G>,
+    disk: GuardedDisk<FileDisk<F>, G>,
     log: (PageSize, u64, Option<Scan>),
     notes: &mut Notes<'_, E>,
 ) -> Result<Outcome, Refusal> {
@@ -287,7 +291,7 @@ fn fold<F: SystemFile + Drop, G: Guard, E: Write>(
         Err(error) => {
             let paths = &source.paths;
             disk.tell(paths.db.as_str(), paths.wal.as_str(), notes);
-            Err(disk.refusal().unwrap_or(Refusal::from(error)))
+            Err(disk.refusal().unwrap_or(refusal_of_wal(error)))
         }
     }
 }
@@ -326,7 +330,7 @@ fn open<R: Files, E: Write>(
 ) -> Result<R::File, Refusal> {
     match OpenOptions::new().read(true).write(true).open(rt, path) {
         Ok(file) => Ok(file),
-        Err(error) => Err(told(notes, path, error)),
+        Err(error) => Err(told(notes, path, error).refusal),
     }
 }
 

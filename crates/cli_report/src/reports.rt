@@ -241,7 +241,7 @@ where
     let paths = &job.source.paths;
     let mode = match look_at(job.rt, paths.db.as_str()) {
         Ok(found) => found.mode() & 0o777,
-        Err(error) => return Err(told(notes, paths.db.as_str(), error)),
+        Err(error) => return Err(told(notes, paths.db.as_str(), error).refusal),
     };
     begin_file(job.rt, paths, to, mode, notes)
 }
@@ -259,7 +259,7 @@ where
     let mut made = new_page(job, to, notes)?;
     let filled = match fill(job.rt.alloc(), &mut made, job.source.file, shown) {
         Ok(()) => Ok(()),
-        Err(error) => Err(told(notes, made.path(), error)),
+        Err(error) => Err(told(notes, made.path(), error).refusal),
     };
     named(job, made, filled, notes)
 }

@@ -206,7 +206,7 @@ where
                 ended: Err(Stop::Write(error)),
                 ..
             },
-        ) => Err(told(notes, made.path(), error)),
+        ) => Err(told(notes, made.path(), error).refusal),
         salvaged => salvaged,
     }
 }

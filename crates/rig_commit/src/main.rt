@@ -2,13 +2,12 @@
 #![tactic(auto)]
 
 mod failure;
-mod file_disk;
 mod pages;
 mod runs;
 
 use crate::failure::Failure;
-use crate::file_disk::FileDisk;
 use crate::runs::{run_roll, run_wal};
+use filedisk::FileDisk;
 use std::env::{self, Env};
 use std::fs::OpenOptions;
 use std::io::Write;

@@ -1,10 +1,13 @@
-//! Tests of the modelled disk, the player of a trace and the engines by their public calls, one call at a time.
+//! Tests of the modelled disk, the disk over files, the player of a trace and the engines by their public calls, one
+//! call at a time.
 #![tactic(auto)]
 
 #[cfg(test)]
 mod checks;
 #[cfg(test)]
 mod crashdisk_tests;
+#[cfg(test)]
+mod filedisk_tests;
 #[cfg(test)]
 mod rig_play_tests;
 #[cfg(test)]
