@@ -1,9 +1,11 @@
 //! The entries of an index in memory (own).
 ghost use Rattle.std.specs.Prelude.{◌≡◌, ◌≢◌, ◌≤◌, ◌+◌, ◌<◌, ℕ, [], ◌∷◌, ◌++◌, All, IfOk, OnOk, MatchOption, Some};
-ghost use Rattle.std.specs.Prelude.{None, length, take, slice_get, slice_index_or, nat_le, if◌then◌else◌};
+ghost use Rattle.std.specs.Prelude.{None, length, take, drop, slice_get, slice_index_or, nat_le, if◌then◌else◌};
 ghost use Rattle.std.specs.List.Sorted.{IsPermutation, IsSortedByKey};
 ghost use Rattle.std.specs.Ordering.{int_cmp};
+ghost use Rattle.std.specs.Int.{to_le_bytes, from_le_bytes, w32};
 ghost use Rattle.sqindex.specs.declared.entries.Held.{Held as SpecHeld};
+ghost use Rattle.sqindex.specs.internal.Bodies.{start_in, size_in};
 
 use crate::error::EntryError;
 use crate::fault::IndexFault;
@@ -14,17 +16,18 @@ use std::alloc::{AllocError, Global};
 pub(crate) const INSIDE: usize = 16;
 
 /// How many bytes an entry takes beside a payload that lies behind the others.
-pub(crate) const HELD: u64 = 40;
+pub(crate) const HELD: u64 = 32;
 
 /// An entry: its payload, or where that lies, and where the entry stands in the index.
 #[derive(Clone, Copy, Debug)]
 pub(crate) struct Held {
     /// The rowid that it ends with, once it was judged.
     pub(crate) rowid: i64,
-    pub(crate) start: u32,
-    pub(crate) size: u32,
     pub(crate) page: u32,
-    pub(crate) cell: u32,
+    pub(crate) cell: u16,
+    /// How many bytes its payload has, 17 for more than 16.
+    pub(crate) size: u8,
+    /// The payload; or where it begins behind the others, and how many bytes it has, in 4 bytes each, the lowest first.
     pub(crate) body: [u8; 16],
 }
 
@@ -47,7 +50,8 @@ pub(crate) struct Entries {
     pub(crate) list: Vec<Held>,
     /// The payloads that don't lie in the entries, one behind another.
     pub(crate) bytes: Vec<u8>,
-    ghost within: { All (λ held. 16 < held.size → held.start + held.size ≤ length bytes.items) list.items },
+    ghost within: { All (λ held. 16 < held.size → start_in held.body + size_in held.body ≤ length bytes.items)
+        list.items },
 }
 
 /// A number about halfway from one to a greater one.
@@ -67,6 +71,30 @@ fn body_of(payload: &[u8]) -> [u8; 16]
     body
 }
 
+/// Where a payload begins behind the others, and its size, and zeros behind them.
+fn place_of(start: u32, size: u32) -> [u8; 16]
+    ensures start { take 4 result ≡ to_le_bytes w32 start }
+    ensures size { take 4 (drop 4 result) ≡ to_le_bytes w32 size }
+{
+    let mut body = [0u8; 16];
+    let (front, rest) = body.split_at_mut(4);
+    front.copy_from_slice(&start.to_le_bytes());
+    let (back, _) = rest.split_at_mut(4);
+    back.copy_from_slice(&size.to_le_bytes());
+    body
+}
+
+/// The number in the first four bytes, the lowest first.
+fn word(bytes: &[u8]) -> usize
+    requires { 4 ≤ length bytes.now }
+    ensures { result ≡ from_le_bytes w32 (take 4 bytes.now) }
+{
+    match bytes.first_chunk::<4>() {
+        Some(word) => u32::from_le_bytes(*word) as usize,
+        None => 0,
+    }
+}
+
 /// A place or a size. Refused where it takes more than 32 bits.
 fn small(number: usize) -> Result<u32, AllocError>
     ensures { IfOk result (λ same. same ≡ number) }
@@ -75,6 +103,41 @@ fn small(number: usize) -> Result<u32, AllocError>
         Ok(same) => Ok(same),
         Err(_) => Err(AllocError),
     }
+}
+
+/// The place of a cell in its page. Refused where it takes more than 16 bits, which none does.
+fn cell_of(number: usize) -> Result<u16, AllocError>
+    ensures { IfOk result (λ same. same ≡ number) }
+{
+    match u16::try_from(number) {
+        Ok(same) => Ok(same),
+        Err(_) => Err(AllocError),
+    }
+}
+
+/// An entry without a place, whose payload lies there where it doesn't lie in it.
+fn held_of(rowid: i64, payload: &[u8], start: u32, size: u32) -> Held
+    requires { size ≡ length payload.now }
+    ensures rowid { result.rowid ≡ rowid }
+    ensures inside { length payload.now ≤ 16 → result.size ≡ length payload.now
+        × (take (length payload.now) result.body ≡ payload.now) }
+    ensures behind { 16 < length payload.now → (16 < result.size) × (start_in result.body ≡ start)
+        × (size_in result.body ≡ size) }
+{
+    let mut held = Held {
+        rowid,
+        page: 0,
+        cell: 0,
+        size: 17,
+        body: [0; 16],
+    };
+    if payload.len() <= INSIDE {
+        held.size = size as u8;
+        held.body = body_of(payload);
+    } else {
+        held.body = place_of(start, size);
+    }
+    held
 }
 
 /// Adds a payload behind the others, unless it lies in its entry.
@@ -120,8 +183,8 @@ impl Entries {
         if size <= INSIDE {
             &held.body[..size]
         } else {
-            let start = held.start as usize;
-            &self.bytes[start..start + size]
+            let start = word(&held.body);
+            &self.bytes[start..start + word(&held.body[4..])]
         }
     }
 
@@ -158,16 +221,12 @@ impl Entries {
     {
         let start = small(self.bytes.len())?;
         let size = small(payload.len())?;
-        let cell = small(found.cell)?;
+        let cell = cell_of(found.cell)?;
+        let mut held = held_of(rowid, payload, start, size);
+        held.page = found.page;
+        held.cell = cell;
         keep_behind(&mut self.bytes, payload)?;
-        self.list.push(Held {
-            rowid,
-            start,
-            size,
-            page: found.page,
-            cell,
-            body: body_of(payload),
-        })?;
+        self.list.push(held)?;
         Ok(())
     }
 
@@ -193,7 +252,7 @@ impl Entries {
     }
 
     /// A rowid below the greatest that about half of them are up to, as far as there is one.
-    pub(crate) fn middle(&self) -> Option<i64> {
+    fn middle(&self) -> Option<i64> {
         let mut low = self.list.iter().map(|p| p.rowid).min()?;
         let greatest = self.list.iter().map(|p| p.rowid).max()?;
         let mut high = greatest.checked_sub(1)?;
@@ -213,6 +272,16 @@ impl Entries {
             }
         }
         Some(high)
+    }
+
+    /// Where to end a range that has no room for this rowid: the greatest of theirs, where that is below it, otherwise the
+    /// one that about half of them are up to.
+    pub(crate) fn end_before(&self, rowid: i64) -> Option<i64> {
+        let greatest = self.list.iter().map(|p| p.rowid).max()?;
+        if greatest < rowid {
+            return Some(greatest);
+        }
+        self.middle()
     }
 
     /// Keeps those whose rowids are up to this one, in their order.
@@ -238,8 +307,9 @@ impl Entries {
     pub(crate) fn keep_to(&mut self, alloc: Global, last: i64) -> Result<(), AllocError>
         ensures { OnOk result (KeepsTo last self.old self.new) }
     {
+        let many = self.list.len();
         self.retain_to(last);
-        if self.bytes.is_empty() {
+        if self.bytes.is_empty() || self.list.len() == many {
             return Ok(());
         }
         *self = self.packed(alloc)?;

@@ -13,15 +13,16 @@ returns-clause-held c =
     let list = c.args.self.now.list.items in
     let payload = c.args.payload.now in
     let found = c.args.found in
-    let h : Held = record { rowid = to_z w64 (of_z w64 c.args.rowid); start = c.in_ok-start.start; size = c.in_ok-size.size; page = found.page; cell = c.in_ok-cell.cell; body = c.body_of.result } in
+    let h : Held = record c.held_of-held.result { page = found.page; cell = c.in_ok-cell.cell } in
     let items : c.push.new.self.items ≡ list ++ h ∷ [] = c.in_ok-push.ensures.items in
     let start : c.in_ok-start.start ≡ length bytes = grind (arith, common_steps) in
     let cell : c.in_ok-cell.cell ≡ found.cell = c.in_ok-cell.ensures in
+    let e = c.held_of-held.ensures in
     ap (λ (z : List Held). map (held_in new) z) items
-    ∙ held_more bytes new list payload h c.args.self.now.within c.in_ok-keep_behind.ensures.ok start c.in_ok-size.ensures c.body_of.ensures
+    ∙ held_more bytes new list payload h c.args.self.now.within c.in_ok-keep_behind.ensures.ok (λ few. e.inside few) (λ many. let b = e.behind many in (b.0, b.1 ∙ start, b.2 ∙ c.in_ok-size.ensures))
     ∙ ap (λ (k : ℕ). map (held_in bytes) list ++ record { page = found.page; cell = k; rowid = None; bytes = payload } ∷ []) cell
 
 pub returns-clause-last : goal.returns-clause-last
 returns-clause-last c =
-    let h : Held = record { rowid = to_z w64 (of_z w64 c.args.rowid); start = c.in_ok-start.start; size = c.in_ok-size.size; page = c.args.found.page; cell = c.in_ok-cell.cell; body = c.body_of.result } in
-    (h, c.in_ok-push.ensures.items, to_z-of_z w64 c.args.rowid c.ranges.rowid)
+    let h : Held = record c.held_of-held.result { page = c.args.found.page; cell = c.in_ok-cell.cell } in
+    (h, c.in_ok-push.ensures.items, c.held_of-held.ensures.rowid ∙ to_z-of_z w64 c.args.rowid c.ranges.rowid)
