@@ -4,3 +4,7 @@ pub mod image
 pub mod sync
 pub mod byte
 pub mod page
+pub mod Words
+pub mod Below
+pub mod Between
+pub mod Facts

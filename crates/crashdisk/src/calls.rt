@@ -7,7 +7,7 @@ ghost use Rattle.crashdisk.specs.Ending.{IsEnded};
 ghost use Rattle.crashdisk.specs.Held.{file_of, IsHeld, IsTurned, picked};
 ghost use Rattle.crashdisk.specs.internal.Held.{Stands, Suits};
 ghost use Rattle.crashdisk.specs.Solid.{is_sector_size};
-ghost use Rattle.crashdisk.specs.internal.Answer.{changing, writing, cutting, IsAnswered, IsSyncAnswered};
+ghost use Rattle.crashdisk.specs.internal.Answer.{changing, writing, cutting, IsAnswered};
 ghost use Rattle.crashdisk.specs.Refusal.{number_of};
 
 use crate::error::DiskError;
@@ -141,27 +141,6 @@ pub(crate) fn turn_held(held: &mut Held, sector: usize, pick: &[u32])
         (picked pick.now true k (suc (length ((file_of sector held.old).earlier k)))) }
 {
     held.turn(sector, pick);
-}
-
-/// Syncs a file, or fails in the middle of that, and counts it.
-pub(crate) fn sync_file(
-    held: &mut Held,
-    refused: &mut u64,
-    manner: &Manner<'_>,
-) -> Result<(), DiskError>
-    requires { Stands manner.now.sector held.old }
-    ensures stands { Stands manner.now.sector held.new }
-    ensures answered { IsSyncAnswered manner.now result (file_of manner.now.sector held.old)
-        (file_of manner.now.sector held.new) }
-    ensures counted { refused.new ≡ counted result refused.old }
-{
-    if manner.fails {
-        refuse(refused);
-        turn_held(held, manner.sector, manner.part.pick.as_slice());
-        return Err(DiskError::Failed);
-    }
-    sync_held(held, manner.sector);
-    Ok(())
 }
 
 /// Ends a file at a length, in each of its values.

@@ -3,13 +3,13 @@ ghost use Rattle.std.specs.Prelude.{◌≡◌, ◌≤◌, ◌+◌, length};
 ghost use Rattle.crashdisk.specs.State.{longest, IsImage, IsSettled, IsSynced};
 ghost use Rattle.crashdisk.specs.Call.{counted, with_write};
 ghost use Rattle.crashdisk.specs.Held.{file_of};
-ghost use Rattle.crashdisk.specs.internal.Answer.{writing, cutting, IsAnswered, IsSyncAnswered};
+ghost use Rattle.crashdisk.specs.internal.Answer.{writing, cutting, IsAnswered};
 ghost use Rattle.crashdisk.specs.Choice.{naming_of, image_of};
 ghost use Rattle.crashdisk.specs.Since.{handed_writes};
-ghost use Rattle.crashdisk.specs.internal.Since.{StandsLog, Hands, Synced, SyncedSince, Left};
+ghost use Rattle.crashdisk.specs.internal.Since.{StandsLog, Hands, Synced, Left};
 ghost use Rattle.crashdisk.specs.declared.file.File.TheVariants.{Log};
 
-use crate::calls::{Manner, cut_held, refuse, sync_held, turn_held, write_held};
+use crate::calls::{Manner, cut_held, refuse, sync_held, write_held};
 use crate::choice::FileChoice;
 use crate::crash::crash_held;
 use crate::error::DiskError;
@@ -74,7 +74,7 @@ pub(crate) fn cut_log(
 }
 
 /// Syncs the log.
-fn sync_log(held: &mut Held, since: &mut Since, sector: usize, tears: bool)
+pub(crate) fn sync_log(held: &mut Held, since: &mut Since, sector: usize, tears: bool)
     requires { StandsLog sector tears held.old since.old }
     ensures stands { StandsLog sector tears held.new since.new }
     ensures synced { IsSynced (file_of sector held.old) (file_of sector held.new) }
@@ -84,29 +84,6 @@ fn sync_log(held: &mut Held, since: &mut Since, sector: usize, tears: bool)
         since.keep(held, sector);
     }
     sync_held(held, sector);
-}
-
-/// Syncs the log, or fails in the middle of that, and counts it.
-pub(crate) fn sync_log_file(
-    held: &mut Held,
-    since: &mut Since,
-    refused: &mut u64,
-    manner: &Manner<'_>,
-) -> Result<(), DiskError>
-    requires { StandsLog manner.now.sector manner.now.tears held.old since.old }
-    ensures stands { StandsLog manner.now.sector manner.now.tears held.new since.new }
-    ensures answered { IsSyncAnswered manner.now result (file_of manner.now.sector held.old)
-        (file_of manner.now.sector held.new) }
-    ensures counted { refused.new ≡ counted result refused.old }
-    ensures since { SyncedSince manner.now.tears (file_of manner.now.sector held.old) result since.old since.new }
-{
-    if manner.fails {
-        refuse(refused);
-        turn_held(held, manner.sector, manner.part.pick.as_slice());
-        return Err(DiskError::Failed);
-    }
-    sync_log(held, since, manner.sector, manner.tears);
-    Ok(())
 }
 
 /// Leaves the log that a choice names, alone.

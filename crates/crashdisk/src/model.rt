@@ -11,7 +11,7 @@ ghost use Rattle.crashdisk.specs.Since.{kept_bytes, handed_writes};
 
 use crate::calls::{
     LIMIT, Manner, append_present, cut_held, empty, end_held, filled, is_too_long, refuse,
-    sync_file, write_held,
+    sync_held, turn_held, write_held,
 };
 use crate::choice::{Choice, FileChoice};
 use crate::counting::{count_values, file_choice, next_choice};
@@ -20,7 +20,7 @@ use crate::disk::Disk;
 use crate::error::DiskError;
 use crate::file::File;
 use crate::held::{Held, Part};
-use crate::log::{crash_log, cut_log, sync_log_file, write_log};
+use crate::log::{crash_log, cut_log, sync_log, write_log};
 use crate::since::Since;
 use crate::stops::Stops;
 use std::alloc::{AllocError, Global};
@@ -458,16 +458,19 @@ impl Disk for ModelDisk {
             refuse(&mut self.refused);
             return Err(DiskError::Stopped);
         }
-        let manner = Manner {
-            alloc: self.alloc,
-            sector: self.sector,
-            tears: self.tears,
-            fails,
-            part: &self.part,
-        };
-        match file {
-            File::Db => sync_file(&mut self.db, &mut self.refused, &manner),
-            File::Log => sync_log_file(&mut self.log, &mut self.since, &mut self.refused, &manner),
+        if fails {
+            refuse(&mut self.refused);
+            let pick = self.part.pick.as_slice();
+            match file {
+                File::Db => turn_held(&mut self.db, self.sector, pick),
+                File::Log => turn_held(&mut self.log, self.sector, pick),
+            }
+            return Err(DiskError::Failed);
         }
+        match file {
+            File::Db => sync_held(&mut self.db, self.sector),
+            File::Log => sync_log(&mut self.log, &mut self.since, self.sector, self.tears),
+        }
+        Ok(())
     }
 }

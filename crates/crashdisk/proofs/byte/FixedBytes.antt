@@ -1,12 +1,6 @@
 -- Bytes that no crash can take away.
-use Rattle.std.proofs.Common.{◌≡◌, ◌⊎◌, inl, inr, ⊎_elim, ℕ, ◌+◌, ◌-◌, ◌/◌, ◌<◌, ◌≤◌, max, Bool, false, List, length, get_or, refl, sym, ◌∙◌, ap, subst, arith}
-use Rattle.std.specs.Prelude.{IsTrue}
-use Rattle.std.proofs.lemmas.Bool.{cases_eq, cases_lt}
-use Rattle.crashdisk.specs.State.{Value, FileState, byte, IsImage, IsSound, Stale, written, WriteTouches, cut_to, CutTouches, Changed, IsDone, IsSynced}
-use Rattle.crashdisk.specs.Facts.{IsFixed}
-use Rattle.crashdisk.specs.internal.Facts.{Spreads, AltersFile}
-use Rattle.crashdisk.proofs.image.OriginOfImages.{table, length-table, get_or-table, comes}
-use Rattle.crashdisk.proofs.call.SoundFileUnderChanges.{byte_below, byte_past, written_inside, written_outside, where_at, cut_below, cut_past}
+use Rattle.crashdisk.proofs.Below.{AltersFile, Bool, Changed, CutTouches, FileState, IsDone, IsFixed, IsImage, IsSound, IsSynced, IsTrue, List, Spreads, Stale, Value, WriteTouches, ap, arith, byte, byte_below, byte_past, cases_eq, cases_lt, comes, cut_below, cut_past, cut_to, false, get_or, get_or-table, inl, inr, length, length-table, max, refl, subst, sym, table, where_at, written, written_inside, written_outside, ℕ, ⊎_elim, ◌+◌, ◌-◌, ◌/◌, ◌<◌, ◌∙◌, ◌≡◌, ◌≤◌, ◌⊎◌}
+use Rattle.crashdisk.proofs.sync.ImagesAfterSync.{only_present}
 
 -- what a call puts at a place that it leaves alone
 record Puts (sector : ℕ) (tears : Bool) (touches : ℕ → Type 0) (target : Value) (old : FileState) (i : ℕ) : Type 0 where
@@ -69,11 +63,8 @@ whole_write sector at bytes old new sound changed one c image long =
     let was = comes sector false (WriteTouches sector old at bytes) (written old at bytes) (max old.len (at + length bytes)) old new sound changed c image in
     elim (was.each k) [
       | inl e ↦ inr (was.file, was.image, λ i lt. e (at + i) (one (at + i) (omega arith) (omega arith)) (omega arith) (inr refl))
-      | inr put ↦ ⊎_elim (λ shows. inl (λ i lt. shows (at + i) (one (at + i) (omega arith) (omega arith)) (omega arith) ∙ written_inside old at bytes (at + i) (omega arith) (omega arith) ∙ ap (λ (j : ℕ). get_or bytes j 0) (plus_minus at i))) (λ torn. absurd (cc torn.0)) put.2
+      | inr put ↦ ⊎_elim (λ shows. inl (λ i lt. shows (at + i) (one (at + i) (omega arith) (omega arith)) (omega arith) ∙ written_inside old at bytes (at + i) (omega arith) (omega arith) ∙ ap (λ (j : ℕ). get_or bytes j 0) (let back : at + i - at ≡ i = omega arith in back))) (λ torn. absurd (cc torn.0)) put.2
     ]
-  where
-    plus_minus : (m n : ℕ) → m + n - m ≡ n
-    plus_minus m n = omega arith
 
 -- the present bytes are among those that a crash may leave
 pub image_present : (sector : ℕ) (tears : Bool) (s : FileState) → IsSound sector s → IsImage sector tears s (table s.len (byte s))
@@ -85,17 +76,8 @@ image_present sector tears s sound = record {
 
 -- A sync that succeeds fixes each present byte.
 pub fixed_sync : (sector : ℕ) (tears : Bool) (old new : FileState) (i : ℕ) → IsSynced old new → i < old.len → IsFixed sector tears new i (byte old i)
-fixed_sync sector tears old new i synced within = record {
-  within = omega (arith, synced.least);
-  each = λ c image.
-      let lt : i < length c = omega (arith, image.least, synced.least) in
-      let none : 0 < length (new.earlier (i / sector)) → ⊥ = λ touched. omega (arith, touched, ap (λ (l : List Value). length l) (synced.earlier (i / sector))) in
-      elim (image.each (i / sector)) [
-        | inl shows ↦ shows i refl lt ∙ synced.present i
-        | inr (inl one) ↦ absurd (none (omega (arith, one.1.1)))
-        | inr (inr torn) ↦ absurd (none torn.1)
-      ];
-}
+fixed_sync sector tears old new i synced within =
+    record { within = omega (arith, synced.least); each = λ c image. only_present sector tears new c synced.earlier image i (omega (arith, image.least, synced.least)) ∙ synced.present i }
 
 -- the present bytes after a write that was carried out
 pub byte_written : (sector at : ℕ) (bytes : List ℕ) (old new : FileState) → Changed sector (WriteTouches sector old at bytes) (written old at bytes) (max old.len (at + length bytes)) old new

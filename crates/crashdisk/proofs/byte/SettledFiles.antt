@@ -1,11 +1,6 @@
 -- Files of which a crash leaves one list of bytes.
-use Rattle.std.proofs.Common.{◌≡◌, inl, inr, ℕ, ◌/◌, ◌<◌, ◌≤◌, Bool, List, [], ◌∷◌, length, get_or, refl, sym, ◌∙◌, ap, subst, arith}
-use Rattle.std.proofs.lemmas.Bool.{cases_lt}
-use Rattle.std.proofs.lemmas.Grind.{same_number_lists}
-use Rattle.std.proofs.lemmas.List.{get_or_past}
-use Rattle.crashdisk.specs.State.{Value, FileState, byte, longest, IsImage, IsSound, IsSettled, IsSynced, IsShuffled}
-use Rattle.crashdisk.specs.Call.{ArePresent}
-use Rattle.crashdisk.proofs.call.SoundFileUnderChanges.{byte_below, byte_past, byte_is_byte}
+use Rattle.crashdisk.proofs.Below.{ArePresent, Bool, FileState, IsImage, IsSettled, IsShuffled, IsSound, IsSynced, List, Value, [], ap, arith, byte, byte_below, byte_is_byte, byte_past, cases_lt, get_or, get_or_past, inl, inr, length, longest, refl, same_number_lists, subst, sym, ℕ, ◌/◌, ◌<◌, ◌∙◌, ◌∷◌, ◌≡◌, ◌≤◌}
+use Rattle.crashdisk.proofs.sync.ImagesAfterSync.{only_present}
 
 -- Where one list of bytes is settled, a crash leaves it and no other.
 module _ (s : FileState) (c : List ℕ) (settled : IsSettled s c) where
@@ -18,11 +13,7 @@ module _ (s : FileState) (c : List ℕ) (settled : IsSettled s c) where
   pub settled_one : (sector : ℕ) (tears : Bool) (d : List ℕ) → IsImage sector tears s d → d ≡ c
   settled_one sector tears d image =
       let long : length d ≡ length c = omega (arith, image.least, image.greatest, settled.least, settled.greatest) in
-      same_number_lists d c long (λ i lt. elim (image.each (i / sector)) [
-        | inl shows ↦ shows i refl lt ∙ settled.present i
-        | inr (inl one) ↦ absurd (none (i / sector) (omega (arith, one.1.1)))
-        | inr (inr torn) ↦ absurd (none (i / sector) torn.1)
-      ])
+      same_number_lists d c long (λ i lt. only_present sector tears s d settled.earlier image i lt ∙ settled.present i)
 
   pub settled_byte : (i : ℕ) → byte s i ≡ get_or c i 0
   settled_byte i = elim (cases_lt i s.len) [
@@ -49,14 +40,9 @@ settled_synced sector old new c sound synced are =
     let same : (i : ℕ) → get_or c i 0 ≡ byte old i = λ i. elim (cases_lt i old.len) [
       | inl lt ↦ are.each i lt
       | inr le ↦ get_or_past c i 0 (omega (arith, are.len)) ∙ sym (byte_past old i le)
-    ] in record {
-      earlier = synced.earlier;
-      present = λ i. synced.present i ∙ sym (same i);
-      len = synced.len ∙ sym are.len;
-      least = synced.least ∙ sym are.len;
-      greatest = synced.greatest ∙ sym are.len;
-      are_bytes = λ i. subst (λ (b : ℕ). b < 256) (sym (same i)) (byte_is_byte sector old sound i);
-    }
+    ] in
+    let bytes : (i : ℕ) → get_or c i 0 < 256 = λ i. subst (λ (b : ℕ). b < 256) (sym (same i)) (byte_is_byte sector old sound i) in
+    assumption (λ (i : ℕ). synced.present i ∙ sym (same i), synced.len ∙ sym are.len, synced.least ∙ sym are.len, synced.greatest ∙ sym are.len, bytes)
 
 -- What is settled stays so, also where a sync fails.
 pub settled_shuffled : (sector : ℕ) (old new : FileState) (c : List ℕ) → IsSettled old c → IsShuffled sector old new → IsSettled new c
@@ -78,11 +64,5 @@ settled_shuffled sector old new c settled shuffled = record {
 
 -- Another sync that succeeds keeps it too.
 pub settled_again : (old new : FileState) (c : List ℕ) → IsSettled old c → IsSynced old new → IsSettled new c
-settled_again old new c settled synced = record {
-  earlier = synced.earlier;
-  present = λ i. synced.present i ∙ settled_byte old c settled i;
-  len = synced.len ∙ settled.len;
-  least = synced.least ∙ settled.len;
-  greatest = synced.greatest ∙ settled.len;
-  are_bytes = settled.are_bytes;
-}
+settled_again old new c settled synced =
+    assumption (λ (i : ℕ). synced.present i ∙ settled_byte old c settled i, synced.len ∙ settled.len, synced.least ∙ settled.len, synced.greatest ∙ settled.len)

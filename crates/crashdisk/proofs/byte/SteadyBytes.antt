@@ -1,15 +1,5 @@
 -- Bytes that are the same in each file that a crash may leave, also past the file's end.
-use Rattle.std.proofs.Common.{◌≡◌, ◌⊎◌, inl, inr, ⊎_elim, ℕ, ◌+◌, ◌-◌, ◌/◌, ◌<◌, ◌≤◌, max, Bool, List, length, get_or, refl, sym, ◌∙◌, arith}
-use Rattle.std.specs.Prelude.{IsTrue}
-use Rattle.std.specs.List.{Contains}
-use Rattle.std.proofs.lemmas.List.{get_or_past}
-use Rattle.std.proofs.lemmas.Bool.{cases_lt}
-use Rattle.crashdisk.specs.State.{Value, Same, FileState, byte, IsImage, IsSound, Meets, written, WriteTouches, cut_to, CutTouches, Changed, IsSynced}
-use Rattle.crashdisk.proofs.image.OriginOfImages.{table, length-table, get_or-table, From, from_sector, Comes, comes}
-use Rattle.crashdisk.proofs.call.SoundFileUnderChanges.{byte_below, byte_past, written_inside, written_outside, where_at, cut_below, cut_past}
-use Rattle.crashdisk.proofs.byte.FixedBytes.{stale_before, fixed_sync}
-use Rattle.crashdisk.specs.Facts.{IsFixed}
-use Rattle.crashdisk.specs.internal.Facts.{IsSteady, IsClear}
+use Rattle.crashdisk.proofs.Between.{Bool, Changed, Comes, Contains, CutTouches, FileState, From, IsClear, IsFixed, IsImage, IsSound, IsSteady, IsSynced, IsTrue, List, Meets, Same, Value, WriteTouches, arith, byte, byte_below, byte_past, cases_lt, comes, cut_below, cut_past, cut_to, from_sector, get_or, get_or-table, get_or_past, inl, inr, length, length-table, max, refl, stale_before, sym, table, where_at, written, written_inside, written_outside, ℕ, ⊎_elim, ◌+◌, ◌-◌, ◌/◌, ◌<◌, ◌∙◌, ◌≡◌, ◌≤◌, ◌⊎◌}
 
 -- the present values, cut to any of the lengths
 image_cut : (sector : ℕ) (tears : Bool) (s : FileState) (n : ℕ) → s.least ≤ n → n ≤ s.greatest → IsImage sector tears s (table n s.present)
@@ -81,13 +71,6 @@ steady_cut sector tears n old new i b sound changed steady ends whole near =
     (λ past. ⊎_elim (λ below. steady_past sector tears old i b sound steady (omega (arith, changed.least))) (λ cut. ends cut) (cases_lt i n))
     (λ torn touched none. ⊎_elim (λ meets. whole torn meets) (λ stale. stale_before sector old n i sound stale none) touched)
     near
-
--- A sync that succeeds makes each present byte steady.
-pub steady_sync : (sector : ℕ) (tears : Bool) (old new : FileState) (i : ℕ) → IsSynced old new → IsSteady sector tears new i (byte old i)
-steady_sync sector tears old new i synced c image = elim (cases_lt i old.len) [
-  | inl lt ↦ (fixed_sync sector tears old new i synced lt).each c image
-  | inr le ↦ get_or_past c i 0 (omega (arith, image.greatest, synced.greatest)) ∙ sym (byte_past old i le)
-]
 
 -- What is fixed is steady, and what is steady below the least length is fixed.
 pub fixed_steady : (sector : ℕ) (tears : Bool) (s : FileState) (i b : ℕ) → i < s.least → IsSteady sector tears s i b → IsFixed sector tears s i b

@@ -1,15 +1,5 @@
 -- What is told of a call, and disks after it; and a sync that is told of.
-use Rattle.std.proofs.Common.{◌≡◌, ℕ, ◌+◌, ◌<◌, List, length, get_or, refl, sym, ◌∙◌, subst, arith}
-use Rattle.std.specs.Prelude.{Result, Ok, Err, IsErr}
-use Rattle.crashdisk.specs.State.{byte, IsSettled}
-use Rattle.crashdisk.specs.Call.{DiskState, IsSoundDisk, of, ArePresent, Elsewhere, Writes, Cuts, Syncs, Looks, Change, write, set_len, sync, HasCalls}
-use Rattle.crashdisk.specs.Keeps.{Still, Later, HadRefusal}
-use Rattle.crashdisk.specs.internal.Keeps.{Told, SyncStep, PlaceAnswer}
-use Rattle.crashdisk.specs.declared.file.File.{File}
-use Rattle.crashdisk.specs.declared.error.DiskError.{DiskError}
-use Rattle.crashdisk.proofs.call.SequencesOfCalls.{no_calls, one_write, one_cut, one_sync, calls_then, calls_wider}
-use Rattle.crashdisk.proofs.call.SoundDiskUnderCalls.{sound_of, sound_writes, sound_cuts, sound_syncs}
-use Rattle.crashdisk.proofs.call.EffectsOfCalls.{counted_grows, settled_sync}
+use Rattle.crashdisk.proofs.Facts.{ArePresent, Change, Cuts, DiskError, DiskState, Elsewhere, Err, File, HadRefusal, HasCalls, IsErr, IsSettled, IsSoundDisk, Later, List, Looks, Ok, PlaceAnswer, Result, Still, SyncStep, Syncs, Told, Writes, arith, byte, calls_then, calls_wider, counted_grows, get_or, length, no_calls, of, one_cut, one_sync, one_write, refl, set_len, settled_sync, sound_cuts, sound_of, sound_syncs, sound_writes, subst, sym, sync, write, ℕ, ◌+◌, ◌<◌, ◌∙◌, ◌≡◌}
 use Rattle.crashdisk.proofs.call.UnchangingCalls.{still_sound, still_looks, had_refusal}
 
 module _ {May : Change → Type 0} where

@@ -1,22 +1,6 @@
 -- What each call of a disk leaves, in the words that engines keep. Every lemma takes the record of the call that the
 -- trait promises, whatever was answered, unless it names the answer.
-use Rattle.std.proofs.Common.{◌≡◌, ◌⊎◌, inl, inr, ⊎_elim, ℕ, ◌+◌, ◌-◌, ◌/◌, ◌^◌, ◌<◌, ◌≤◌, min, max, Bool, false, List, length, get_or, refl, sym, ◌∙◌, ap, subst, arith}
-use Rattle.std.proofs.lemmas.Bool.{cases_lt}
-use Rattle.std.specs.Prelude.{IsTrue, Result, Ok, Err}
-use Rattle.crashdisk.specs.State.{FileState, byte, IsImage, IsSound, Meets, Changed, WriteTouches, written, CutTouches, cut_to, IsSettled}
-use Rattle.crashdisk.specs.Call.{DiskState, of, other, counted, Elsewhere, Writes, Cuts, Syncs, Looks, ChangedBy, SyncedBy, ArePresent}
-use Rattle.crashdisk.specs.Facts.{IsFixed, HasFixed}
-use Rattle.crashdisk.specs.internal.Facts.{Fixed, IsSteady, Steady, Spreads, IsClear, NewOrOld}
-use Rattle.crashdisk.specs.declared.file.File.{File}
-use Rattle.crashdisk.specs.declared.file.File.TheVariants.{Db, Log}
-use Rattle.crashdisk.specs.declared.error.DiskError.{DiskError}
-use Rattle.crashdisk.specs.declared.error.DiskError.TheVariants.{Stopped, Failed, TooLong, NoMemory}
-use Rattle.crashdisk.proofs.image.OriginOfImages.{table, length-table, get_or-table}
-use Rattle.crashdisk.proofs.call.SoundFileUnderChanges.{byte_below, byte_past, written_inside}
-use Rattle.crashdisk.proofs.sync.ImagesAfterFailedSync.{image_shuffled}
-use Rattle.crashdisk.proofs.sync.ImagesAfterSync.{image_synced}
-use Rattle.crashdisk.proofs.byte.SettledFiles.{settled_one, settled_synced, settled_shuffled, settled_again}
-use Rattle.crashdisk.proofs.byte.FixedBytes.{whole_write, byte_written, byte_cut, fixed_sync}
+use Rattle.crashdisk.proofs.Between.{ArePresent, Bool, Changed, ChangedBy, CutTouches, Cuts, Db, DiskError, DiskState, Elsewhere, Err, Failed, File, FileState, Fixed, HasFixed, IsClear, IsFixed, IsImage, IsSettled, IsSound, IsSteady, IsTrue, List, Log, Looks, Meets, NewOrOld, NoMemory, Ok, Result, Spreads, Steady, Stopped, SyncedBy, Syncs, TooLong, WriteTouches, Writes, ap, arith, by_change, by_sync, byte, byte_below, byte_cut, byte_past, byte_written, cases_lt, counted, counted_within, cut_to, false, fixed_sync, get_or, get_or-table, image_shuffled, image_synced, inl, inr, length, length-table, max, min, of, other, refl, settled_again, settled_one, settled_shuffled, settled_synced, subst, sym, table, whole_write, written, written_inside, ℕ, ⊎_elim, ◌+◌, ◌-◌, ◌/◌, ◌<◌, ◌^◌, ◌∙◌, ◌≡◌, ◌≤◌, ◌⊎◌}
 use Rattle.crashdisk.proofs.byte.SteadyBytes.{steady_present, steady_write, steady_cut, fixed_steady}
 
 -- ---- What a call doesn't touch. P is any property of a file of the disk, as `λ sector tears s. IsSteady sector tears s i b`.
@@ -27,17 +11,13 @@ moved P m n a b s t e f g p = subst (λ (x : ℕ). P x b t) (sym e) (subst (λ (
 -- ---- Images.
 
 -- A sync adds no file to those that a crash may leave.
+pub images_by_sync : {T : Type 0} (sector : ℕ) (tears : Bool) (result : Result T DiskError) (old new : FileState) → IsSound sector old → SyncedBy sector result old new → (c : List ℕ) → IsImage sector tears new c → IsImage sector tears old c
+images_by_sync sector tears result old new sound = by_sync (λ s. (c : List ℕ) → IsImage sector tears s c → IsImage sector tears old c) sector result old new (image_synced sector tears old new sound) (λ shuffled. image_shuffled sector old new shuffled tears) (λ c image. image)
+
 pub image_sync : {T : Type 0} (f : File) (result : Result T DiskError) (old new : DiskState) → IsSound old.sector (of f old) → Syncs f result old new
     → (c : List ℕ) → IsImage new.sector new.tears (of f new) c → IsImage old.sector old.tears (of f old) c
 image_sync f result old new sound synced c image =
-    by result synced.file (subst (λ (s : ℕ). IsImage s old.tears (of f new) c) synced.elsewhere.sector (subst (λ (b : Bool). IsImage new.sector b (of f new) c) synced.elsewhere.tears image))
-  where
-    by : {T : Type 0} (result : Result T DiskError) → SyncedBy old.sector result (of f old) (of f new) → IsImage old.sector old.tears (of f new) c → IsImage old.sector old.tears (of f old) c
-    by (Ok _) done now = image_synced old.sector old.tears (of f old) (of f new) sound done c now
-    by (Err Failed) shuffled now = image_shuffled old.sector (of f old) (of f new) shuffled old.tears c now
-    by (Err Stopped) same now = subst (λ (s : FileState). IsImage old.sector old.tears s c) same now
-    by (Err TooLong) same now = subst (λ (s : FileState). IsImage old.sector old.tears s c) same now
-    by (Err NoMemory) same now = subst (λ (s : FileState). IsImage old.sector old.tears s c) same now
+    images_by_sync old.sector old.tears result (of f old) (of f new) sound synced.file c (subst (λ (s : ℕ). IsImage s old.tears (of f new) c) synced.elsewhere.sector (subst (λ (b : Bool). IsImage new.sector b (of f new) c) synced.elsewhere.tears image))
 
 -- Nor does a call on the other file, or a look.
 pub image_elsewhere : {T : Type 0} (f : File) (result : Result T DiskError) (old new : DiskState) → Elsewhere f result old new
@@ -47,8 +27,8 @@ image_elsewhere f result old new elsewhere c image =
 
 pub image_looks : {T : Type 0} (f : File) (end : ℕ) (result : Result T DiskError) (old new : DiskState) → Looks end result old new
     → (c : List ℕ) → IsImage new.sector new.tears (of f new) c → IsImage old.sector old.tears (of f old) c
-image_looks Db end result old new looked c image = moved (λ n b s. IsImage n b s c) new.sector old.sector new.tears old.tears new.db old.db (sym looked.sector) (sym looked.tears) (sym looked.db) image
-image_looks Log end result old new looked c image = moved (λ n b s. IsImage n b s c) new.sector old.sector new.tears old.tears new.log old.log (sym looked.sector) (sym looked.tears) (sym looked.log) image
+image_looks Db end result old new looked = image_elsewhere Log result old new (record { sector = looked.sector; tears = looked.tears; other = looked.db; refused = looked.refused })
+image_looks Log end result old new looked = image_elsewhere Db result old new (record { sector = looked.sector; tears = looked.tears; other = looked.log; refused = looked.refused })
 
 -- Where all of the range lies in one sector of a disk that doesn't tear, a write is there whole or not at all, in a
 -- file that has the range. (Of files before and after the write a crash may leave others; those come by `Alters`.)
@@ -57,21 +37,14 @@ pub image_write : {T : Type 0} (f : File) (at : ℕ) (bytes : List ℕ) (result 
     → (c : List ℕ) → IsImage new.sector new.tears (of f new) c → at + length bytes ≤ length c
     → NewOrOld f at bytes old c
 image_write f at bytes result old new sound wrote whole one c image long =
-    by result wrote.file (subst (λ (s : ℕ). IsImage s false (of f new) c) wrote.elsewhere.sector (subst (λ (b : Bool). IsImage new.sector b (of f new) c) (wrote.elsewhere.tears ∙ whole) image))
+    by_change (λ s. IsImage old.sector false s c → NewOrOld f at bytes old c) old.sector (WriteTouches old.sector (of f old) at bytes) (written (of f old) at bytes) (max (of f old).len (at + length bytes)) result (of f old) (of f new)
+    (λ changed now. ⊎_elim (λ new_one. inl new_one) (λ was. inr (was.0, untorn was.0 was.1, was.2)) (whole_write old.sector at bytes (of f old) (of f new) sound changed one c now long))
+    (λ now. inr (c, untorn c now, λ i lt. refl))
+    wrote.file
+    (subst (λ (s : ℕ). IsImage s false (of f new) c) wrote.elsewhere.sector (subst (λ (b : Bool). IsImage new.sector b (of f new) c) (wrote.elsewhere.tears ∙ whole) image))
   where
-    changed_one : Changed old.sector (WriteTouches old.sector (of f old) at bytes) (written (of f old) at bytes) (max (of f old).len (at + length bytes)) (of f old) (of f new) → IsImage old.sector false (of f new) c → NewOrOld f at bytes old c
-    changed_one changed now = ⊎_elim (λ new_one. inl new_one) (λ was. inr (was.0, subst (λ (b : Bool). IsImage old.sector b (of f old) was.0) (sym whole) was.1, was.2))
-        (whole_write old.sector at bytes (of f old) (of f new) sound changed one c now long)
-
-    same_one : of f new ≡ of f old → IsImage old.sector false (of f new) c → NewOrOld f at bytes old c
-    same_one same now = inr (c, subst (λ (b : Bool). IsImage old.sector b (of f old) c) (sym whole) (subst (λ (s : FileState). IsImage old.sector false s c) same now), λ i lt. refl)
-
-    by : {T : Type 0} (result : Result T DiskError) → ChangedBy old.sector (WriteTouches old.sector (of f old) at bytes) (written (of f old) at bytes) (max (of f old).len (at + length bytes)) result (of f old) (of f new) → IsImage old.sector false (of f new) c → NewOrOld f at bytes old c
-    by (Ok _) changed now = changed_one changed.0 now
-    by (Err Failed) changed now = changed_one changed now
-    by (Err Stopped) same now = same_one same now
-    by (Err TooLong) same now = same_one same now
-    by (Err NoMemory) same now = same_one same now
+    untorn : (d : List ℕ) → IsImage old.sector false (of f old) d → IsImage old.sector old.tears (of f old) d
+    untorn d was = subst (λ (b : Bool). IsImage old.sector b (of f old) d) (sym whole) was
 
 -- ---- Steady bytes.
 
@@ -79,43 +52,21 @@ image_write f at bytes result old new sound wrote whole one c image long =
 pub present_steady : (f : File) (s : DiskState) (i b : ℕ) → IsSound s.sector (of f s) → Steady f s i b → byte (of f s) i ≡ b
 present_steady f s i b sound steady = steady_present s.sector s.tears (of f s) i b sound steady
 
--- A write keeps a steady byte where it puts the same, or nothing.
-pub steady_writes_same : {T : Type 0} (f : File) (at : ℕ) (bytes : List ℕ) (result : Result T DiskError) (old new : DiskState) (i b : ℕ) → IsSound old.sector (of f old) → Writes f at bytes result old new
-    → Steady f old i b → (at ≤ i → i < at + length bytes → get_or bytes (i - at) 0 ≡ b) → (IsTrue old.tears → Meets old.sector at (at + length bytes) (i / old.sector) → ⊥)
-    → IsClear old.sector old.tears (of f old) i → Steady f new i b
-steady_writes_same f at bytes result old new i b sound wrote steady same whole near =
-    moved (λ n t s. IsSteady n t s i b) old.sector new.sector old.tears new.tears (of f new) (of f new) wrote.elsewhere.sector wrote.elsewhere.tears refl (by result wrote.file)
-  where
-    left : of f new ≡ of f old → IsSteady old.sector old.tears (of f new) i b
-    left e = subst (λ (s : FileState). IsSteady old.sector old.tears s i b) (sym e) steady
-
-    by : {T : Type 0} (r : Result T DiskError) → ChangedBy old.sector (WriteTouches old.sector (of f old) at bytes) (written (of f old) at bytes) (max (of f old).len (at + length bytes)) r (of f old) (of f new) → IsSteady old.sector old.tears (of f new) i b
-    by (Ok _) changed = steady_write old.sector old.tears at bytes (of f old) (of f new) i b sound changed.0 steady same whole near
-    by (Err Failed) changed = steady_write old.sector old.tears at bytes (of f old) (of f new) i b sound changed steady same whole near
-    by (Err Stopped) e = left e
-    by (Err TooLong) e = left e
-    by (Err NoMemory) e = left e
-
+-- A write keeps a steady byte where it puts nothing.
 pub steady_writes : {T : Type 0} (f : File) (at : ℕ) (bytes : List ℕ) (result : Result T DiskError) (old new : DiskState) (i b : ℕ) → IsSound old.sector (of f old) → Writes f at bytes result old new
     → Steady f old i b → (Spreads old.sector old.tears at (at + length bytes) i → ⊥) → IsClear old.sector old.tears (of f old) i → Steady f new i b
 steady_writes f at bytes result old new i b sound wrote steady out near =
-    steady_writes_same f at bytes result old new i b sound wrote steady (λ le lt. absurd (out (inl (le, lt)))) (λ torn meets. out (inr (torn, meets))) near
+    moved (λ n t s. IsSteady n t s i b) old.sector new.sector old.tears new.tears (of f new) (of f new) wrote.elsewhere.sector wrote.elsewhere.tears refl
+    (by_change (λ s. IsSteady old.sector old.tears s i b) old.sector (WriteTouches old.sector (of f old) at bytes) (written (of f old) at bytes) (max (of f old).len (at + length bytes)) result (of f old) (of f new)
+    (λ changed. steady_write old.sector old.tears at bytes (of f old) (of f new) i b sound changed steady (λ le lt. absurd (out (inl (le, lt)))) (λ torn meets. out (inr (torn, meets))) near) steady wrote.file)
 
 -- A change of the length keeps it below the new end, and keeps zeros everywhere.
 pub steady_cuts : {T : Type 0} (f : File) (n : ℕ) (result : Result T DiskError) (old new : DiskState) (i b : ℕ) → IsSound old.sector (of f old) → Cuts f n result old new
     → Steady f old i b → (n ≤ i → 0 ≡ b) → (IsTrue old.tears → Meets old.sector n (of f old).len (i / old.sector) → ⊥) → IsClear old.sector old.tears (of f old) i → Steady f new i b
 steady_cuts f n result old new i b sound cut steady ends whole near =
-    moved (λ m t s. IsSteady m t s i b) old.sector new.sector old.tears new.tears (of f new) (of f new) cut.elsewhere.sector cut.elsewhere.tears refl (by result cut.file)
-  where
-    left : of f new ≡ of f old → IsSteady old.sector old.tears (of f new) i b
-    left e = subst (λ (s : FileState). IsSteady old.sector old.tears s i b) (sym e) steady
-
-    by : {T : Type 0} (r : Result T DiskError) → ChangedBy old.sector (CutTouches old.sector (of f old) n) (cut_to (of f old) n) n r (of f old) (of f new) → IsSteady old.sector old.tears (of f new) i b
-    by (Ok _) changed = steady_cut old.sector old.tears n (of f old) (of f new) i b sound changed.0 steady ends whole near
-    by (Err Failed) changed = steady_cut old.sector old.tears n (of f old) (of f new) i b sound changed steady ends whole near
-    by (Err Stopped) e = left e
-    by (Err TooLong) e = left e
-    by (Err NoMemory) e = left e
+    moved (λ m t s. IsSteady m t s i b) old.sector new.sector old.tears new.tears (of f new) (of f new) cut.elsewhere.sector cut.elsewhere.tears refl
+    (by_change (λ s. IsSteady old.sector old.tears s i b) old.sector (CutTouches old.sector (of f old) n) (cut_to (of f old) n) n result (of f old) (of f new)
+    (λ changed. steady_cut old.sector old.tears n (of f old) (of f new) i b sound changed steady ends whole near) steady cut.file)
 
 -- A sync keeps it.
 pub steady_syncs : {T : Type 0} (f : File) (result : Result T DiskError) (old new : DiskState) (i b : ℕ) → IsSound old.sector (of f old) → Syncs f result old new → Steady f old i b → Steady f new i b
@@ -123,35 +74,15 @@ steady_syncs f result old new i b sound synced steady c image = steady c (image_
 
 -- ---- Fixed bytes: as steady ones, below the least length.
 
--- below the least length every place is clear
-clear_below : (sector : ℕ) (tears : Bool) (s : FileState) (i : ℕ) → IsSound sector s → i < s.least → IsClear sector tears s i
-clear_below sector tears s i sound lt torn past meets = omega (arith, sound.least, sound.greatest)
-
-least_changed : {T : Type 0} (sector : ℕ) (touches : ℕ → Type 0) (target : ℕ → ℕ) (end : ℕ) (result : Result T DiskError) (old new : FileState) (i : ℕ) → ChangedBy sector touches target end result old new
-    → i < old.least → i < end → i < new.least
-least_changed sector touches target end (Ok _) old new i changed lt lt_end = omega (arith, changed.0.least)
-least_changed sector touches target end (Err Failed) old new i changed lt lt_end = omega (arith, changed.least)
-least_changed sector touches target end (Err Stopped) old new i same lt lt_end = subst (λ (s : FileState). i < s.least) (sym same) lt
-least_changed sector touches target end (Err TooLong) old new i same lt lt_end = subst (λ (s : FileState). i < s.least) (sym same) lt
-least_changed sector touches target end (Err NoMemory) old new i same lt lt_end = subst (λ (s : FileState). i < s.least) (sym same) lt
-
 least_synced : {T : Type 0} (sector : ℕ) (result : Result T DiskError) (old new : FileState) → IsSound sector old → SyncedBy sector result old new → old.least ≤ new.least
-least_synced sector (Ok _) old new sound synced = omega (arith, synced.least, sound.least)
-least_synced sector (Err Failed) old new sound shuffled = omega (arith, shuffled.least)
-least_synced sector (Err Stopped) old new sound same = subst (λ (s : FileState). old.least ≤ s.least) (sym same) (omega arith)
-least_synced sector (Err TooLong) old new sound same = subst (λ (s : FileState). old.least ≤ s.least) (sym same) (omega arith)
-least_synced sector (Err NoMemory) old new sound same = subst (λ (s : FileState). old.least ≤ s.least) (sym same) (omega arith)
-
-pub fixed_writes_same : {T : Type 0} (f : File) (at : ℕ) (bytes : List ℕ) (result : Result T DiskError) (old new : DiskState) (i b : ℕ) → IsSound old.sector (of f old) → Writes f at bytes result old new
-    → Fixed f old i b → (at ≤ i → i < at + length bytes → get_or bytes (i - at) 0 ≡ b) → (IsTrue old.tears → Meets old.sector at (at + length bytes) (i / old.sector) → ⊥) → Fixed f new i b
-fixed_writes_same f at bytes result old new i b sound wrote fixed same whole = fixed_steady new.sector new.tears (of f new) i b
-    (least_changed old.sector (WriteTouches old.sector (of f old) at bytes) (written (of f old) at bytes) (max (of f old).len (at + length bytes)) result (of f old) (of f new) i wrote.file fixed.within (omega (arith, fixed.within, sound.least)))
-    (steady_writes_same f at bytes result old new i b sound wrote fixed.each same whole (clear_below old.sector old.tears (of f old) i sound fixed.within))
+least_synced sector result old new sound = by_sync (λ s. old.least ≤ s.least) sector result old new (λ synced. omega (arith, synced.least, sound.least)) (λ shuffled. omega (arith, shuffled.least)) (omega arith)
 
 pub fixed_writes : {T : Type 0} (f : File) (at : ℕ) (bytes : List ℕ) (result : Result T DiskError) (old new : DiskState) (i b : ℕ) → IsSound old.sector (of f old) → Writes f at bytes result old new
     → Fixed f old i b → (Spreads old.sector old.tears at (at + length bytes) i → ⊥) → Fixed f new i b
-fixed_writes f at bytes result old new i b sound wrote fixed out =
-    fixed_writes_same f at bytes result old new i b sound wrote fixed (λ le lt. absurd (out (inl (le, lt)))) (λ torn meets. out (inr (torn, meets)))
+fixed_writes f at bytes result old new i b sound wrote fixed out = fixed_steady new.sector new.tears (of f new) i b
+    (by_change (λ s. i < s.least) old.sector (WriteTouches old.sector (of f old) at bytes) (written (of f old) at bytes) (max (of f old).len (at + length bytes)) result (of f old) (of f new)
+    (λ changed. omega (arith, changed.least, fixed.within, sound.least)) fixed.within wrote.file)
+    (steady_writes f at bytes result old new i b sound wrote fixed.each out (λ torn past meets. omega (arith, fixed.within, past, sound.least, sound.greatest)))
 
 pub fixed_syncs : {T : Type 0} (f : File) (result : Result T DiskError) (old new : DiskState) (i b : ℕ) → IsSound old.sector (of f old) → Syncs f result old new → Fixed f old i b → Fixed f new i b
 fixed_syncs f result old new i b sound synced fixed = record {
@@ -167,12 +98,9 @@ fixed_synced f old new i synced within = fixed_sync new.sector new.tears (of f o
 pub fixed_written : {T U : Type 0} {u : T} {v : U} (f : File) (at : ℕ) (bytes : List ℕ) (old mid new : DiskState) → Writes f at bytes (Ok u) old mid → Syncs f (Ok v) mid new → HasFixed new.sector new.tears (of f new) at bytes
 fixed_written f at bytes old mid new wrote synced i lt =
     let is : byte (of f mid) (at + i) ≡ get_or bytes i 0 =
-    byte_written old.sector at bytes (of f old) (of f mid) wrote.file.0 wrote.file.1 (at + i) ∙ written_inside (of f old) at bytes (at + i) (omega arith) (omega arith) ∙ ap (λ (j : ℕ). get_or bytes j 0) (plus_minus at i) in
+    byte_written old.sector at bytes (of f old) (of f mid) wrote.file.0 wrote.file.1 (at + i) ∙ written_inside (of f old) at bytes (at + i) (omega arith) (omega arith) ∙ ap (λ (j : ℕ). get_or bytes j 0) (let back : at + i - at ≡ i = omega arith in back) in
     let below : at + i < (of f mid).len = omega (arith, wrote.file.1.len) in
     subst (λ (b : ℕ). IsFixed new.sector new.tears (of f new) (at + i) b) is (fixed_sync new.sector new.tears (of f mid) (of f new) (at + i) synced.file below)
-  where
-    plus_minus : (m n : ℕ) → m + n - m ≡ n
-    plus_minus m n = omega arith
 
 -- ---- Files of which a crash leaves one list of bytes.
 
@@ -188,19 +116,9 @@ one_synced f old new c sound synced are d image = settled_one (of f new) c (sett
 pub present_list : (s : FileState) → ArePresent s (table s.len (byte s))
 present_list s = record { len = length-table s.len (byte s); each = λ i lt. get_or-table s.len (byte s) i lt }
 
--- Further syncs keep it settled. (Looks and calls on the other file: `kept_looks`, `kept_elsewhere`.)
+-- Further syncs keep it settled.
 pub settled_syncs : {T : Type 0} (f : File) (result : Result T DiskError) (old new : DiskState) (c : List ℕ) → Syncs f result old new → IsSettled (of f old) c → IsSettled (of f new) c
-settled_syncs f result old new c synced settled = by result synced.file
-  where
-    left : of f new ≡ of f old → IsSettled (of f new) c
-    left e = subst (λ (s : FileState). IsSettled s c) (sym e) settled
-
-    by : {T : Type 0} (r : Result T DiskError) → SyncedBy old.sector r (of f old) (of f new) → IsSettled (of f new) c
-    by (Ok _) done = settled_again (of f old) (of f new) c settled done
-    by (Err Failed) shuffled = settled_shuffled old.sector (of f old) (of f new) c settled shuffled
-    by (Err Stopped) e = left e
-    by (Err TooLong) e = left e
-    by (Err NoMemory) e = left e
+settled_syncs f result old new c synced settled = by_sync (λ s. IsSettled s c) old.sector result (of f old) (of f new) (settled_again (of f old) (of f new) c settled) (settled_shuffled old.sector (of f old) (of f new) c settled) settled synced.file
 
 -- ---- Present bytes.
 
@@ -223,11 +141,7 @@ present_synced f old new synced i = elim (cases_lt i (of f old).len) [
 
 -- It never falls.
 pub counted_grows : {T : Type 0} (result : Result T DiskError) (n : ℕ) → n < 2 ^ 64 → n ≤ counted result n
-counted_grows (Ok _) n lt = omega arith
-counted_grows (Err TooLong) n lt = omega arith
-counted_grows (Err Stopped) n lt = omega arith
-counted_grows (Err Failed) n lt = omega arith
-counted_grows (Err NoMemory) n lt = omega arith
+counted_grows result n lt = (counted_within result n lt).0
 
 rises : (n : ℕ) → n < 2 ^ 64 → (n < min (n + 1) (2 ^ 64 - 1)) ⊎ (min (n + 1) (2 ^ 64 - 1) ≡ 18446744073709551615)
 rises n lt = elim (cases_lt (n + 1) (2 ^ 64)) [ inl below ↦ inl (omega arith) | inr past ↦ inr (omega arith) ]

@@ -1,11 +1,5 @@
 -- Calls of a disk, one after another.
-use Rattle.std.proofs.Common.{◌≡◌, inl, inr, ℕ, Bool, true, false, List, [], ◌∷◌, ◌++◌, refl, ◌∙◌, subst}
-use Rattle.std.specs.Prelude.{Result, Ok, Err}
-use Rattle.crashdisk.specs.Call.{DiskState, Elsewhere, Writes, Cuts, Syncs, SinceSync, Looks, with_write, Change, write, set_len, sync, IsCall, GoesThrough, HasCalls}
-use Rattle.crashdisk.specs.declared.file.File.{File}
-use Rattle.crashdisk.specs.declared.file.File.TheVariants.{Db, Log}
-use Rattle.crashdisk.specs.declared.error.DiskError.{DiskError}
-use Rattle.crashdisk.specs.declared.error.DiskError.TheVariants.{Stopped, Failed, TooLong, NoMemory}
+use Rattle.crashdisk.proofs.Words.{Bool, Change, Cuts, Db, DiskError, DiskState, Elsewhere, Err, File, GoesThrough, HasCalls, IsCall, List, Log, Looks, Ok, Result, SinceSync, Syncs, Writes, [], false, inl, inr, refl, set_len, subst, sync, true, with_write, write, ℕ, ◌++◌, ◌∙◌, ◌∷◌, ◌≡◌}
 
 pub no_calls : {May : Change → Type 0} (s : DiskState) → HasCalls May s s
 no_calls s = record { states = []; each = refl }
@@ -43,47 +37,32 @@ module _ {T : Type 0} where
   bare (Err e) = Err e
 
   bare_look : (end : ℕ) (r : Result T DiskError) (a b : DiskState) → Looks end r a b → Looks end (bare r) a b
-  bare_look end (Ok x) a b is = record { within = is.within; sector = is.sector; tears = is.tears; db = is.db; log = is.log; refused = is.refused; kept = is.kept; handed = is.handed; settings = is.settings; heeds = is.heeds }
-  bare_look end (Err Stopped) a b is = record { within = is.within; sector = is.sector; tears = is.tears; db = is.db; log = is.log; refused = is.refused; kept = is.kept; handed = is.handed; settings = is.settings; heeds = is.heeds }
-  bare_look end (Err Failed) a b is = record { within = is.within; sector = is.sector; tears = is.tears; db = is.db; log = is.log; refused = is.refused; kept = is.kept; handed = is.handed; settings = is.settings; heeds = is.heeds }
-  bare_look end (Err TooLong) a b is = record { within = is.within; sector = is.sector; tears = is.tears; db = is.db; log = is.log; refused = is.refused; kept = is.kept; handed = is.handed; settings = is.settings; heeds = is.heeds }
-  bare_look end (Err NoMemory) a b is = record { within = is.within; sector = is.sector; tears = is.tears; db = is.db; log = is.log; refused = is.refused; kept = is.kept; handed = is.handed; settings = is.settings; heeds = is.heeds }
+  bare_look end (Ok x) a b is = assumption
+  bare_look end (Err e) a b is = assumption
 
   pub one_look : {May : Change → Type 0} (end : ℕ) (r : Result T DiskError) (a b : DiskState) → Looks end r a b → HasCalls May a b
   one_look end r a b is = one a b (inr (inr (inr (end, bare r, bare_look end r a b is))))
 
   bare_place : (f : File) (r : Result T DiskError) (a b : DiskState) → Elsewhere f r a b → Elsewhere f (bare r) a b
-  bare_place f (Ok x) a b is = record { sector = is.sector; tears = is.tears; other = is.other; refused = is.refused }
-  bare_place f (Err Stopped) a b is = record { sector = is.sector; tears = is.tears; other = is.other; refused = is.refused }
-  bare_place f (Err Failed) a b is = record { sector = is.sector; tears = is.tears; other = is.other; refused = is.refused }
-  bare_place f (Err TooLong) a b is = record { sector = is.sector; tears = is.tears; other = is.other; refused = is.refused }
-  bare_place f (Err NoMemory) a b is = record { sector = is.sector; tears = is.tears; other = is.other; refused = is.refused }
+  bare_place f (Ok x) a b is = assumption
+  bare_place f (Err e) a b is = assumption
 
   bare_cut : (f : File) (n : ℕ) (r : Result T DiskError) (a b : DiskState) → Cuts f n r a b → Cuts f n (bare r) a b
-  bare_cut f n (Ok x) a b is = record { elsewhere = bare_place f (Ok x) a b is.elsewhere; kept = is.kept; handed = is.handed; settings = is.settings; heeds = is.heeds; within = is.within; file = is.file }
-  bare_cut f n (Err Stopped) a b is = record { elsewhere = bare_place f (Err Stopped) a b is.elsewhere; kept = is.kept; handed = is.handed; settings = is.settings; heeds = is.heeds; within = is.within; file = is.file }
-  bare_cut f n (Err Failed) a b is = record { elsewhere = bare_place f (Err Failed) a b is.elsewhere; kept = is.kept; handed = is.handed; settings = is.settings; heeds = is.heeds; within = is.within; file = is.file }
-  bare_cut f n (Err TooLong) a b is = record { elsewhere = bare_place f (Err TooLong) a b is.elsewhere; kept = is.kept; handed = is.handed; settings = is.settings; heeds = is.heeds; within = is.within; file = is.file }
-  bare_cut f n (Err NoMemory) a b is = record { elsewhere = bare_place f (Err NoMemory) a b is.elsewhere; kept = is.kept; handed = is.handed; settings = is.settings; heeds = is.heeds; within = is.within; file = is.file }
+  bare_cut f n (Ok x) a b is = assumption (bare_place f (Ok x) a b is.elsewhere)
+  bare_cut f n (Err e) a b is = assumption (bare_place f (Err e) a b is.elsewhere)
 
   pub one_cut : {May : Change → Type 0} (f : File) (n : ℕ) (r : Result T DiskError) (a b : DiskState) → May (set_len f n) → Cuts f n r a b → HasCalls May a b
   one_cut f n r a b may is = one a b (inr (inl (f, n, bare r, may, bare_cut f n r a b is)))
 
   bare_handed : (tears : Bool) (f : File) (r : Result T DiskError) (at : ℕ) (bytes : List ℕ) (handed : List (ℕ × List ℕ)) → with_write tears f r at bytes handed ≡ with_write tears f (bare r) at bytes handed
   bare_handed true Log (Ok x) at bytes handed = refl
-  bare_handed true Log (Err Stopped) at bytes handed = refl
-  bare_handed true Log (Err Failed) at bytes handed = refl
-  bare_handed true Log (Err TooLong) at bytes handed = refl
-  bare_handed true Log (Err NoMemory) at bytes handed = refl
+  bare_handed true Log (Err e) at bytes handed = refl
   bare_handed true Db r at bytes handed = refl
   bare_handed false f r at bytes handed = refl
 
   bare_write : (f : File) (at : ℕ) (bytes : List ℕ) (r : Result T DiskError) (a b : DiskState) → Writes f at bytes r a b → Writes f at bytes (bare r) a b
-  bare_write f at bytes (Ok x) a b is = record { elsewhere = bare_place f (Ok x) a b is.elsewhere; kept = is.kept; handed = is.handed ∙ bare_handed a.tears f (Ok x) at bytes a.handed; are_bytes = is.are_bytes; settings = is.settings; heeds = is.heeds; within = is.within; file = is.file }
-  bare_write f at bytes (Err Stopped) a b is = record { elsewhere = bare_place f (Err Stopped) a b is.elsewhere; kept = is.kept; handed = is.handed ∙ bare_handed a.tears f (Err Stopped) at bytes a.handed; are_bytes = is.are_bytes; settings = is.settings; heeds = is.heeds; within = is.within; file = is.file }
-  bare_write f at bytes (Err Failed) a b is = record { elsewhere = bare_place f (Err Failed) a b is.elsewhere; kept = is.kept; handed = is.handed ∙ bare_handed a.tears f (Err Failed) at bytes a.handed; are_bytes = is.are_bytes; settings = is.settings; heeds = is.heeds; within = is.within; file = is.file }
-  bare_write f at bytes (Err TooLong) a b is = record { elsewhere = bare_place f (Err TooLong) a b is.elsewhere; kept = is.kept; handed = is.handed ∙ bare_handed a.tears f (Err TooLong) at bytes a.handed; are_bytes = is.are_bytes; settings = is.settings; heeds = is.heeds; within = is.within; file = is.file }
-  bare_write f at bytes (Err NoMemory) a b is = record { elsewhere = bare_place f (Err NoMemory) a b is.elsewhere; kept = is.kept; handed = is.handed ∙ bare_handed a.tears f (Err NoMemory) at bytes a.handed; are_bytes = is.are_bytes; settings = is.settings; heeds = is.heeds; within = is.within; file = is.file }
+  bare_write f at bytes (Ok x) a b is = assumption (bare_place f (Ok x) a b is.elsewhere, is.handed ∙ bare_handed a.tears f (Ok x) at bytes a.handed)
+  bare_write f at bytes (Err e) a b is = assumption (bare_place f (Err e) a b is.elsewhere, is.handed ∙ bare_handed a.tears f (Err e) at bytes a.handed)
 
   pub one_write : {May : Change → Type 0} (f : File) (at : ℕ) (bytes : List ℕ) (r : Result T DiskError) (a b : DiskState) → May (write f at bytes) → Writes f at bytes r a b → HasCalls May a b
   one_write f at bytes r a b may is = one a b (inl (f, at, bytes, bare r, may, bare_write f at bytes r a b is))
@@ -95,11 +74,8 @@ module _ {T : Type 0} where
   bare_since false f r a b is = is
 
   bare_sync : (f : File) (r : Result T DiskError) (a b : DiskState) → Syncs f r a b → Syncs f (bare r) a b
-  bare_sync f (Ok x) a b is = record { elsewhere = bare_place f (Ok x) a b is.elsewhere; since = bare_since a.tears f (Ok x) a b is.since; settings = is.settings; heeds = is.heeds; within = is.within; file = is.file }
-  bare_sync f (Err Stopped) a b is = record { elsewhere = bare_place f (Err Stopped) a b is.elsewhere; since = bare_since a.tears f (Err Stopped) a b is.since; settings = is.settings; heeds = is.heeds; within = is.within; file = is.file }
-  bare_sync f (Err Failed) a b is = record { elsewhere = bare_place f (Err Failed) a b is.elsewhere; since = bare_since a.tears f (Err Failed) a b is.since; settings = is.settings; heeds = is.heeds; within = is.within; file = is.file }
-  bare_sync f (Err TooLong) a b is = record { elsewhere = bare_place f (Err TooLong) a b is.elsewhere; since = bare_since a.tears f (Err TooLong) a b is.since; settings = is.settings; heeds = is.heeds; within = is.within; file = is.file }
-  bare_sync f (Err NoMemory) a b is = record { elsewhere = bare_place f (Err NoMemory) a b is.elsewhere; since = bare_since a.tears f (Err NoMemory) a b is.since; settings = is.settings; heeds = is.heeds; within = is.within; file = is.file }
+  bare_sync f (Ok x) a b is = assumption (bare_place f (Ok x) a b is.elsewhere, bare_since a.tears f (Ok x) a b is.since)
+  bare_sync f (Err e) a b is = assumption (bare_place f (Err e) a b is.elsewhere, bare_since a.tears f (Err e) a b is.since)
 
   pub one_sync : {May : Change → Type 0} (f : File) (r : Result T DiskError) (a b : DiskState) → May (sync f) → Syncs f r a b → HasCalls May a b
   one_sync f r a b may is = one a b (inr (inr (inl (f, bare r, may, bare_sync f r a b is))))

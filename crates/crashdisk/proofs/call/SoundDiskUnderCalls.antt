@@ -1,15 +1,5 @@
 -- Each call leaves a sound disk sound.
-use Rattle.std.proofs.Common.{◌≡◌, ℕ, ◌+◌, ◌^◌, ◌<◌, ◌≤◌, max, Bool, false, List, [], length, refl, sym, ◌∙◌, subst, arith}
-use Rattle.std.specs.Prelude.{Result, Ok, Err}
-use Rattle.crashdisk.specs.State.{Value, FileState, longest, IsSound, WriteTouches, written, CutTouches, cut_to}
-use Rattle.crashdisk.specs.Call.{DiskState, IsSoundDisk, of, other, counted, EndsWithin, ChangedBy, SyncedBy, with_write, SinceSync, Elsewhere, Writes, Cuts, Syncs, Looks, kept_of, IsCrash, IsNew}
-use Rattle.crashdisk.specs.declared.file.File.{File}
-use Rattle.crashdisk.specs.declared.file.File.TheVariants.{Db, Log}
-use Rattle.crashdisk.specs.declared.error.DiskError.{DiskError}
-use Rattle.crashdisk.specs.declared.error.DiskError.TheVariants.{Stopped, Failed, TooLong, NoMemory}
-use Rattle.crashdisk.proofs.call.SoundFileUnderChanges.{AreBytes, IsFit, sound_changed, fit_write, fit_cut, sound_synced}
-use Rattle.crashdisk.proofs.sync.ImagesAfterFailedSync.{sound_shuffled}
-use Rattle.crashdisk.proofs.byte.SettledFiles.{settled_sound}
+use Rattle.crashdisk.proofs.Between.{AreBytes, Bool, ChangedBy, CutTouches, Cuts, Db, DiskError, DiskState, Elsewhere, EndsWithin, Err, Failed, File, FileState, IsCrash, IsFit, IsNew, IsSound, IsSoundDisk, List, Log, Looks, NoMemory, Ok, Result, SinceSync, Stopped, SyncedBy, Syncs, TooLong, Value, WriteTouches, Writes, [], arith, by_sync, counted, counted_within, cut_to, false, fit_cut, fit_write, kept_of, length, longest, max, of, other, refl, settled_sound, sound_changed, sound_shuffled, sound_synced, subst, sym, with_write, written, ℕ, ◌+◌, ◌<◌, ◌^◌, ◌∙◌, ◌≡◌, ◌≤◌}
 
 -- The file that a call changes, whatever it answers.
 module _ (sector : ℕ) where
@@ -31,22 +21,11 @@ module _ (sector : ℕ) where
   sound_cut n result old new sound within changed = sound_by_answer (CutTouches sector old n) (cut_to old n) n n result old new sound (fit_cut sector old n sound) (λ short. short) within changed
 
   pub sound_sync : {T : Type 0} (result : Result T DiskError) (old new : FileState) → IsSound sector old → SyncedBy sector result old new → IsSound sector new
-  sound_sync (Ok _) old new sound synced = sound_synced sector old new sound synced
-  sound_sync (Err Failed) old new sound shuffled = sound_shuffled sector old new shuffled sound
-  sound_sync (Err Stopped) old new sound same = subst (λ (s : FileState). IsSound sector s) (sym same) sound
-  sound_sync (Err TooLong) old new sound same = subst (λ (s : FileState). IsSound sector s) (sym same) sound
-  sound_sync (Err NoMemory) old new sound same = subst (λ (s : FileState). IsSound sector s) (sym same) sound
+  sound_sync result old new sound = by_sync (λ s. IsSound sector s) sector result old new (sound_synced sector old new sound) (λ shuffled. sound_shuffled sector old new shuffled sound) sound
 
 pub sound_of : (f : File) (s : DiskState) → IsSoundDisk s → IsSound s.sector (of f s)
 sound_of Db s sound = sound.db
 sound_of Log s sound = sound.log
-
-counted_fits : {T : Type 0} (result : Result T DiskError) (n : ℕ) → n < 2 ^ 64 → counted result n < 2 ^ 64
-counted_fits (Ok _) n lt = lt
-counted_fits (Err TooLong) n lt = lt
-counted_fits (Err Stopped) n lt = omega arith
-counted_fits (Err Failed) n lt = omega arith
-counted_fits (Err NoMemory) n lt = omega arith
 
 -- the disk, of its parts
 sound_by : {T : Type 0} (f : File) (result : Result T DiskError) (old new : DiskState) → IsSoundDisk old → Elsewhere f result old new → IsSound old.sector (of f new)
@@ -58,8 +37,8 @@ sound_by f result old new sound elsewhere file untorn =
     both f there left
   where
     both : (g : File) → IsSound new.sector (of g new) → IsSound new.sector (of (other g) new) → IsSoundDisk new
-    both Db a b = record { db = a; log = b; refused = subst (λ (n : ℕ). n < 2 ^ 64) (sym elsewhere.refused) (counted_fits result old.refused sound.refused); untorn = untorn }
-    both Log a b = record { db = b; log = a; refused = subst (λ (n : ℕ). n < 2 ^ 64) (sym elsewhere.refused) (counted_fits result old.refused sound.refused); untorn = untorn }
+    both Db a b = record { db = a; log = b; refused = subst (λ (n : ℕ). n < 2 ^ 64) (sym elsewhere.refused) (counted_within result old.refused sound.refused).1; untorn = untorn }
+    both Log a b = record { db = b; log = a; refused = subst (λ (n : ℕ). n < 2 ^ 64) (sym elsewhere.refused) (counted_within result old.refused sound.refused).1; untorn = untorn }
 
 -- Each call of the trait, whatever it answers.
 pub sound_writes : {T : Type 0} (f : File) (at : ℕ) (bytes : List ℕ) (result : Result T DiskError) (old new : DiskState) → IsSoundDisk old → Writes f at bytes result old new → IsSoundDisk new

@@ -1,10 +1,5 @@
 -- What holds of the lists goes on holding.
-use Rattle.std.proofs.Common.{◌≡◌, ◌⊎◌, inl, inr, ⊎_elim, ℕ, ◌+◌, ◌-◌, ◌/◌, ◌<◌, ◌≤◌, max, List, [], ◌∷◌, ◌++◌, length, get_or, refl, sym, ◌∙◌, ap, subst, arith, length-append}
-use Rattle.std.specs.List.{Contains}
-use Rattle.std.proofs.lemmas.List.Elements.{Contains-push_cases}
-use Rattle.std.proofs.lemmas.Bool.{cases_lt}
-use Rattle.std.proofs.lemmas.Bool.Decides.{nat_tests}
-use Rattle.crashdisk.specs.State.{Value, FileState, byte, IsSound, Meets, written, WriteTouches, cut_to, CutTouches, Added, Changed, IsSynced, longest}
+use Rattle.crashdisk.proofs.Words.{Added, Changed, Contains, Contains-push_cases, CutTouches, FileState, IsSound, IsSynced, List, Meets, Value, WriteTouches, [], ap, arith, byte, cases_lt, cut_to, get_or, inl, inr, length, length-append, longest, max, nat_tests, refl, subst, sym, written, ℕ, ⊎_elim, ◌++◌, ◌+◌, ◌-◌, ◌/◌, ◌<◌, ◌∙◌, ◌∷◌, ◌≡◌, ◌≤◌, ◌⊎◌}
 
 -- what a call puts there is a byte, and zero past the new end
 pub record IsFit (sector : ℕ) (touches : ℕ → Type 0) (target : Value) (end : ℕ) (old : FileState) : Type 0 where

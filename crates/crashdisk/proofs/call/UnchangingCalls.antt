@@ -1,35 +1,16 @@
 -- Calls that change no byte, or leave the log alone, one after another; and the count of refused calls.
-use Rattle.std.proofs.Common.{◌≡◌, ◌⊎◌, inl, inr, ⊎_elim, ℕ, ◌^◌, ◌<◌, ◌≤◌, Bool, true, false, List, refl, sym, ◌∙◌, ap, subst, arith}
-use Rattle.std.specs.Prelude.{Result, Err}
-use Rattle.crashdisk.specs.State.{FileState, IsImage, IsSound, longest}
-use Rattle.crashdisk.specs.Call.{DiskState, IsSoundDisk, Writes, Cuts, Looks, ArePresent, EndsWithin, counted, with_write}
-use Rattle.crashdisk.specs.Keeps.{SameFiles, Still, HadRefusal}
-use Rattle.crashdisk.specs.internal.Keeps.{KeepsLog}
-use Rattle.crashdisk.specs.declared.file.File.TheVariants.{Db}
-use Rattle.crashdisk.specs.declared.error.DiskError.{DiskError}
-use Rattle.crashdisk.specs.declared.error.DiskError.TheVariants.{TooLong}
-use Rattle.crashdisk.proofs.call.SequencesOfCalls.{no_calls, one_look, one_write, one_cut, calls_then, calls_wider}
-use Rattle.crashdisk.proofs.call.SoundDiskUnderCalls.{sound_writes, sound_cuts, sound_looks}
-use Rattle.crashdisk.proofs.call.EffectsOfCalls.{counted_grows, counted_rises}
+use Rattle.crashdisk.proofs.Facts.{ArePresent, Bool, Cuts, Db, DiskError, DiskState, EndsWithin, Err, FileState, HadRefusal, InFile, IsImage, IsSound, IsSoundDisk, KeepsLog, List, Looks, Nothing, Result, SameFiles, Still, TooLong, Writes, ap, arith, calls_then, calls_wider, counted, counted_grows, counted_rises, false, handed_db, inl, inr, longest, no_calls, one_cut, one_look, one_write, refl, sound_cuts, sound_looks, sound_writes, subst, sym, true, ℕ, ⊎_elim, ◌<◌, ◌^◌, ◌∙◌, ◌≡◌, ◌≤◌, ◌⊎◌}
 
 pub still : (s : DiskState) → IsSoundDisk s → Still s s
 still s sound = record { sector = refl; tears = refl; db = refl; log = refl; kept = refl; handed = refl; refused = omega arith; count = sound.refused; calls = no_calls s }
 
 pub still_then : (a b c : DiskState) → Still a b → Still b c → Still a c
-still_then a b c first second = record {
-  sector = second.sector ∙ first.sector;
-  tears = second.tears ∙ first.tears;
-  db = second.db ∙ first.db;
-  log = second.log ∙ first.log;
-  kept = second.kept ∙ first.kept;
-  handed = second.handed ∙ first.handed;
-  refused = omega (arith, first.refused, second.refused);
-  count = second.count;
-  calls = calls_then a b c first.calls second.calls;
-}
+still_then a b c first second =
+    let grows : a.refused ≤ c.refused = omega (arith, first.refused, second.refused) in
+    assumption (second.sector ∙ first.sector, second.tears ∙ first.tears, second.db ∙ first.db, second.log ∙ first.log, second.kept ∙ first.kept, second.handed ∙ first.handed, grows, calls_then a b c first.calls second.calls)
 
 pub same_files : (a b : DiskState) → Still a b → SameFiles a b
-same_files a b is = record { sector = is.sector; tears = is.tears; db = is.db; log = is.log; kept = is.kept; handed = is.handed; refused = is.refused; count = is.count }
+same_files a b is = assumption
 
 sound_at : (m n : ℕ) (s t : FileState) → n ≡ m → t ≡ s → IsSound m s → IsSound n t
 sound_at m n s t e f sound = subst (λ (x : ℕ). IsSound x t) (sym e) (subst (λ (x : FileState). IsSound m x) (sym f) sound)
@@ -46,17 +27,9 @@ pub still_sound : (a b : DiskState) → IsSoundDisk a → Still a b → IsSoundD
 still_sound a b sound is = same_sound a b sound (same_files a b is)
 
 pub still_looks : {T : Type 0} (end : ℕ) (result : Result T DiskError) (a b : DiskState) → IsSoundDisk a → Looks end result a b → Still a b
-still_looks end result a b sound looked = record {
-  sector = looked.sector;
-  tears = looked.tears;
-  db = looked.db;
-  log = looked.log;
-  kept = looked.kept;
-  handed = looked.handed;
-  refused = omega (arith, counted_grows result a.refused sound.refused, looked.refused);
-  count = (sound_looks end result a b sound looked).refused;
-  calls = one_look end result a b looked;
-}
+still_looks end result a b sound looked =
+    let grows : a.refused ≤ b.refused = omega (arith, counted_grows result a.refused sound.refused, looked.refused) in
+    assumption (grows, (sound_looks end result a b sound looked).refused, one_look {May = Nothing} end result a b looked)
 
 pub image_same : (old new : DiskState) → SameFiles old new → (db : List ℕ) → IsImage new.sector new.tears new.db db → IsImage old.sector old.tears old.db db
 image_same old new still db image = subst (λ (n : ℕ). IsImage n old.tears old.db db) still.sector (subst (λ (b : Bool). IsImage new.sector b old.db db) still.tears (subst (λ (s : FileState). IsImage new.sector new.tears s db) still.db image))
@@ -70,50 +43,25 @@ present_in s t w e are = subst (λ (x : FileState). ArePresent x w) (sym e) are
 -- ---- The log stays.
 
 pub keeps_still : (a b : DiskState) → IsSoundDisk a → Still a b → KeepsLog a b
-keeps_still a b sound is = record { sector = is.sector; tears = is.tears; log = is.log; kept = is.kept; handed = is.handed; refused = is.refused; sound = still_sound a b sound is; calls = calls_wider (λ change none. absurd none) a b is.calls }
+keeps_still a b sound is = assumption (still_sound a b sound is, calls_wider {Might = InFile Db} (λ change none. absurd none) a b is.calls)
 
 pub keeps_same : (s : DiskState) → IsSoundDisk s → KeepsLog s s
 keeps_same s sound = record { sector = refl; tears = refl; log = refl; kept = refl; handed = refl; refused = omega arith; sound = sound; calls = no_calls s }
 
 pub keeps_then : (a b c : DiskState) → KeepsLog a b → KeepsLog b c → KeepsLog a c
-keeps_then a b c first second = record {
-  sector = second.sector ∙ first.sector;
-  tears = second.tears ∙ first.tears;
-  log = second.log ∙ first.log;
-  kept = second.kept ∙ first.kept;
-  handed = second.handed ∙ first.handed;
-  refused = omega (arith, first.refused, second.refused);
-  sound = second.sound;
-  calls = calls_then a b c first.calls second.calls;
-}
+keeps_then a b c first second =
+    let grows : a.refused ≤ c.refused = omega (arith, first.refused, second.refused) in
+    assumption (second.sector ∙ first.sector, second.tears ∙ first.tears, second.log ∙ first.log, second.kept ∙ first.kept, second.handed ∙ first.handed, grows, calls_then a b c first.calls second.calls)
 
 pub keeps_write : {T : Type 0} (at : ℕ) (bytes : List ℕ) (result : Result T DiskError) (a b : DiskState) → IsSoundDisk a → Writes Db at bytes result a b → KeepsLog a b
-keeps_write at bytes result a b sound wrote = record {
-  sector = wrote.elsewhere.sector;
-  tears = wrote.elsewhere.tears;
-  log = wrote.elsewhere.other;
-  kept = wrote.kept;
-  handed = wrote.handed ∙ not_handed a.tears;
-  refused = omega (arith, counted_grows result a.refused sound.refused, wrote.elsewhere.refused);
-  sound = sound_writes Db at bytes result a b sound wrote;
-  calls = one_write Db at bytes result a b refl wrote;
-}
-  where
-    not_handed : (tears : Bool) → with_write tears Db result at bytes a.handed ≡ a.handed
-    not_handed true = refl
-    not_handed false = refl
+keeps_write at bytes result a b sound wrote =
+    let grows : a.refused ≤ b.refused = omega (arith, counted_grows result a.refused sound.refused, wrote.elsewhere.refused) in
+    assumption (grows, wrote.handed ∙ handed_db a.tears result at bytes a.handed, sound_writes Db at bytes result a b sound wrote, one_write {May = InFile Db} Db at bytes result a b refl wrote)
 
 pub keeps_cut : {T : Type 0} (n : ℕ) (result : Result T DiskError) (a b : DiskState) → IsSoundDisk a → Cuts Db n result a b → KeepsLog a b
-keeps_cut n result a b sound cut = record {
-  sector = cut.elsewhere.sector;
-  tears = cut.elsewhere.tears;
-  log = cut.elsewhere.other;
-  kept = cut.kept;
-  handed = cut.handed;
-  refused = omega (arith, counted_grows result a.refused sound.refused, cut.elsewhere.refused);
-  sound = sound_cuts Db n result a b sound cut;
-  calls = one_cut Db n result a b refl cut;
-}
+keeps_cut n result a b sound cut =
+    let grows : a.refused ≤ b.refused = omega (arith, counted_grows result a.refused sound.refused, cut.elsewhere.refused) in
+    assumption (grows, sound_cuts Db n result a b sound cut, one_cut {May = InFile Db} Db n result a b refl cut)
 
 -- ---- A refused call was counted.
 

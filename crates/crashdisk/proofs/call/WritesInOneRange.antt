@@ -1,16 +1,5 @@
 -- What runs of calls leave that write in one range of a file.
-use Rattle.std.proofs.Common.{inl, inr, ⊎_elim, ℕ, ◌+◌, ◌≤◌, max, Bool, List, length, refl, sym, ◌∙◌, subst, arith}
-use Rattle.std.specs.Prelude.{Result, Ok, Err}
-use Rattle.crashdisk.specs.State.{FileState, IsImage, IsSound, WriteTouches, written}
-use Rattle.crashdisk.specs.Call.{DiskState, of, Writes, Syncs, ChangedBy, SyncedBy}
-use Rattle.crashdisk.specs.internal.Facts.{Spreads, AltersFile, Alters}
-use Rattle.crashdisk.specs.declared.file.File.{File}
-use Rattle.crashdisk.specs.declared.error.DiskError.{DiskError}
-use Rattle.crashdisk.specs.declared.error.DiskError.TheVariants.{Stopped, Failed, TooLong, NoMemory}
-use Rattle.crashdisk.proofs.call.SequencesOfCalls.{no_calls, one_write, one_sync, calls_then}
-use Rattle.crashdisk.proofs.sync.ImagesAfterFailedSync.{image_shuffled}
-use Rattle.crashdisk.proofs.sync.ImagesAfterSync.{image_synced}
-use Rattle.crashdisk.proofs.byte.FixedBytes.{alters_write}
+use Rattle.crashdisk.proofs.Between.{Alters, AltersFile, Bool, ChangedBy, DiskError, DiskState, Err, Failed, File, FileState, IsImage, IsSound, List, NoMemory, Ok, Result, Spreads, Stopped, SyncedBy, Syncs, TooLong, WriteTouches, Writes, alters_write, arith, by_change, by_sync, calls_then, image_shuffled, image_synced, inl, inr, length, max, no_calls, of, one_sync, one_write, refl, subst, sym, written, ℕ, ⊎_elim, ◌+◌, ◌∙◌, ◌≤◌}
 use Rattle.crashdisk.proofs.call.SoundDiskUnderCalls.{sound_written, sound_sync}
 
 -- On the states of one file.
@@ -67,18 +56,14 @@ module _ (sector : ℕ) (tears : Bool) where
 
   file_written : {T : Type 0} (at : ℕ) (bytes : List ℕ) (result : Result T DiskError) (old new : FileState) → IsSound sector old → IsSound sector new
       → ChangedBy sector (WriteTouches sector old at bytes) (written old at bytes) (max old.len (at + length bytes)) result old new → AltersFile sector tears at (at + length bytes) old new
-  file_written at bytes (Ok _) old new sound after changed = alters_write sector tears at bytes old new sound after changed.0
-  file_written at bytes (Err Failed) old new sound after changed = alters_write sector tears at bytes old new sound after changed
-  file_written at bytes (Err Stopped) old new sound after same = subst (λ (s : FileState). AltersFile sector tears at (at + length bytes) old s) (sym same) (file_same at (at + length bytes) old sound)
-  file_written at bytes (Err TooLong) old new sound after same = subst (λ (s : FileState). AltersFile sector tears at (at + length bytes) old s) (sym same) (file_same at (at + length bytes) old sound)
-  file_written at bytes (Err NoMemory) old new sound after same = subst (λ (s : FileState). AltersFile sector tears at (at + length bytes) old s) (sym same) (file_same at (at + length bytes) old sound)
+  file_written at bytes result old new sound after = by_change (λ s. AltersFile sector tears at (at + length bytes) old s) sector (WriteTouches sector old at bytes) (written old at bytes) (max old.len (at + length bytes)) result old new
+      (alters_write sector tears at bytes old new sound after) (file_same at (at + length bytes) old sound)
 
   file_synced : {T : Type 0} (from to : ℕ) (result : Result T DiskError) (old new : FileState) → IsSound sector old → IsSound sector new → SyncedBy sector result old new → AltersFile sector tears from to old new
-  file_synced from to (Ok _) old new sound after synced = narrows from to old new after (omega (arith, synced.least, sound.least)) (omega (arith, synced.len)) (image_synced sector tears old new sound synced)
-  file_synced from to (Err Failed) old new sound after shuffled = narrows from to old new after (omega (arith, shuffled.least)) (omega (arith, shuffled.len)) (image_shuffled sector old new shuffled tears)
-  file_synced from to (Err Stopped) old new sound after same = subst (λ (s : FileState). AltersFile sector tears from to old s) (sym same) (file_same from to old sound)
-  file_synced from to (Err TooLong) old new sound after same = subst (λ (s : FileState). AltersFile sector tears from to old s) (sym same) (file_same from to old sound)
-  file_synced from to (Err NoMemory) old new sound after same = subst (λ (s : FileState). AltersFile sector tears from to old s) (sym same) (file_same from to old sound)
+  file_synced from to result old new sound after = by_sync (λ s. AltersFile sector tears from to old s) sector result old new
+      (λ synced. narrows from to old new after (omega (arith, synced.least, sound.least)) (omega (arith, synced.len)) (image_synced sector tears old new sound synced))
+      (λ shuffled. narrows from to old new after (omega (arith, shuffled.least)) (omega (arith, shuffled.len)) (image_shuffled sector old new shuffled tears))
+      (file_same from to old sound)
 
 -- Each further call, whatever it answers: cite one of these for each prefix of the calls of a function.
 module _ (f : File) (from to : ℕ) where

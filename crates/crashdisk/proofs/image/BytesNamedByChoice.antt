@@ -1,18 +1,6 @@
 -- The bytes that a choice names, put to their places.
-use Rattle.std.proofs.Common.{◌≡◌, ◌⊎◌, inl, inr, ⊎_elim, ℕ, ◌+◌, ◌-◌, ◌*◌, ◌/◌, ◌<◌, ◌≤◌, Bool, List, [], ◌++◌, length, length-append, length-drop, get_or, take, drop, map, replicate, sym, ◌∙◌, ap, arith, nat_lt, refl}
-use Rattle.std.specs.Prelude.{◌%◌}
-use Rattle.std.proofs.lemmas.List.{ext_get_or, length-replicate, take_all, take_at, drop_all, append-nil}
-use Rattle.std.proofs.lemmas.Slice.{put_mid-paste}
-use Rattle.std.proofs.lemmas.Bool.{cases_lt, cases_eq}
-use Rattle.std.proofs.Math.Nat.{le-div_iff_mul-le, div-lt_iff_lt-mul}
-use borrow.Rule.Slice.PartMut.{put_mid}
-use Rattle.crashdisk.specs.State.{FileState}
-use Rattle.crashdisk.specs.Held.{value_of, before_last, file_by, AreWhole, picked}
-use Rattle.crashdisk.specs.Choice.{Naming, named_len, torn_here, byte_by, named_byte, image_of}
-use Rattle.crashdisk.specs.internal.Choice.{Names}
-use Rattle.crashdisk.proofs.sector.PlacesInSectors.{inside, place_in}
+use Rattle.crashdisk.proofs.Between.{AreWhole, Bool, FileState, List, Names, Naming, [], ap, append-nil, arith, before_last, byte_by, cases_eq, cases_lt, div-lt_iff_lt-mul, drop, drop_all, ext_get_or, file_by, get_or, image_of, inl, inr, inside, le-div_iff_mul-le, length, length-append, length-drop, length-replicate, listed_count, map, named_byte, named_len, nat_lt, picked, place_in, put_mid, put_mid-paste, refl, replicate, sym, take, take_all, take_at, torn_here, value_of, ℕ, ⊎_elim, ◌%◌, ◌*◌, ◌++◌, ◌+◌, ◌-◌, ◌/◌, ◌<◌, ◌∙◌, ◌≡◌, ◌≤◌, ◌⊎◌}
 use Rattle.crashdisk.proofs.image.ImageNamedByChoice.{image_at, image_len, listed_at}
-use Rattle.crashdisk.proofs.sector.SectorsAfterFailedSync.{listed_count}
 
 -- a list with the bytes that are named is the file that is named
 pub image_is : (sector : ℕ) (tears : Bool) (s : FileState) (naming : Naming) (bytes : List ℕ) → length bytes ≡ named_len naming.len s.least s.len s.greatest
@@ -52,19 +40,13 @@ module _ (sector : ℕ) (tears : Bool) (naming : Naming) (xs : List (List (List 
           let range = inside sector k i positive is in
           inner i (omega (arith, so_far.long)) range.0 range.1 ∙ named_at k i is there bytes names ∙ ap (λ (j : ℕ). named_byte sector tears (file_by sector xs 0 0 0) naming j i) (sym is)
       | inr ne ↦
-          let first : i < k * sector = ⊎_elim (λ l. l) (λ le. absurd (omega (arith, div_ge le))) (cases_lt i (k * sector)) in
+          let first : i < k * sector = (div-lt_iff_lt-mul positive).0 (let less : i / sector < k = omega arith in less) in
           outer i (inl first) ∙ so_far.done i lt (omega arith)
     ];
     left = λ i lt above.
-        let far : k * sector + sector ≤ i = ⊎_elim (λ l. absurd (omega (arith, div_lt l))) (λ le. le) (cases_lt i (k * sector + sector)) in
-        outer i (inr far) ∙ so_far.left i lt (omega arith);
+        let far : (k + 1) * sector ≤ i = (le-div_iff_mul-le positive).0 above in
+        outer i (inr (omega arith)) ∙ so_far.left i lt (omega arith);
   }
-    where
-      div_ge : {j : ℕ} → k * sector ≤ j → k ≤ j / sector
-      div_ge le = (le-div_iff_mul-le positive).1 le
-
-      div_lt : {j : ℕ} → j < k * sector + sector → j / sector < k + 1
-      div_lt lt = (div-lt_iff_lt-mul positive).1 (omega arith)
 
 -- how long the part behind the old list is
 pub part_long : (all old : List ℕ) (start n : ℕ) → length old ≡ start → all ≡ old ++ replicate n 0 → length (take (length all - start) (drop start all)) ≡ n

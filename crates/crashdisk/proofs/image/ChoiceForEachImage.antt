@@ -1,21 +1,6 @@
 -- Each image is named by some choice.
-use Rattle.std.proofs.Common.{◌≡◌, inl, inr, ℕ, zero, suc, ◌+◌, ◌-◌, ◌*◌, ◌/◌, ◌^◌, ◌<◌, ◌≤◌, Bool, true, false, IsTrue, cond, List, [], ◌∷◌, length, get_or, map, refl, sym, ◌∙◌, ap, subst, arith, Option, Some, None, nat_lt, nat_eq, ◌&&◌}
-use Rattle.std.specs.Prelude.{◌%◌}
-use Rattle.std.specs.List.{range_with_len}
-use Rattle.std.proofs.lemmas.List.{get_or_past, get_or_default}
-use Rattle.std.proofs.lemmas.List.FromFn.{get_or-map-range_with_len, length-map-range_with_len}
-use Rattle.std.proofs.lemmas.Bool.{cases_lt, cases_eq, lt-ltb, eq-eqb}
-use Rattle.std.proofs.lemmas.Bool.Decides.{eqb_tells}
-use Rattle.std.proofs.lemmas.Grind.{same_number_lists}
-use Rattle.std.proofs.Math.Nat.{mod-lt, mod-eq_of_lt, div-mul-le_self, mul-le-mul_left}
-use Rattle.crashdisk.specs.State.{Value, FileState, OneListed, IsImage, IsSound}
-use Rattle.crashdisk.specs.Held.{picked}
-use Rattle.crashdisk.specs.Solid.{is_sector_size}
-use Rattle.crashdisk.specs.Choice.{Naming, or_else, last_torn, torn_here, byte_by, listed, image_of, CanBeSaid, EachImageIsNamed}
-use Rattle.crashdisk.proofs.sector.PlacesInSectors.{inside, place_in, sector_le}
+use Rattle.crashdisk.proofs.Between.{Bool, CanBeSaid, EachImageIsNamed, FileState, IsImage, IsSound, IsTrue, List, Naming, None, OneListed, Option, Some, Value, [], ap, arith, byte_by, cases_eq, cases_lt, cond, div-mul-le_self, eq-eqb, eqb_tells, false, get_or, get_or-map-range_with_len, get_or_default, get_or_past, image_of, inl, inr, inside, is_sector_size, last_torn, length, length-map-range_with_len, listed, lt-ltb, map, mod-eq_of_lt, mod-lt, mul-le-mul_left, nat_eq, nat_lt, or_else, picked, place_in, range_with_len, refl, same_number_lists, sector_le, size_least, size_positive, subst, suc, sym, torn_here, true, zero, ℕ, ◌%◌, ◌&&◌, ◌*◌, ◌+◌, ◌-◌, ◌/◌, ◌<◌, ◌^◌, ◌∙◌, ◌∷◌, ◌≡◌, ◌≤◌}
 use Rattle.crashdisk.proofs.image.ImageNamedByChoice.{image_at, image_len}
-use Rattle.crashdisk.specs.internal.SoundModel.{size_positive}
-use Rattle.crashdisk.proofs.sector.SolidityOfSoundFiles.{size_least}
 
 module _ (sector : ℕ) (tears : Bool) (s : FileState) (c : List ℕ) (positive : 0 < sector) (image : IsImage sector tears s c) where
   -- the number of the value that sector k has
@@ -91,27 +76,20 @@ module _ (sector : ℕ) (tears : Bool) (s : FileState) (c : List ℕ) (positive 
       ∙ ap (λ (n : ℕ). n % suc (length (s.earlier k))) (get_or-map-range_with_len (λ j. number_by j (image.each j)) 0 (length c / sector + 1) k k 0 lt (omega arith))
       ∙ mod-eq_of_lt (omega arith)
 
+  none_at : (i : ℕ) (b : Bool) (x : ℕ) → byte_by (cond b None None) (i % sector) x ≡ x
+  none_at i true x = refl
+  none_at i false x = refl
+
   byte_at : (k i : ℕ) → i / sector ≡ k → i < length c → (one : OneListed sector tears s c k)
       → byte_by (cond (tears && nat_lt 0 (length (s.earlier k))) (torn_by k one) None) (i % sector) (listed s k (number_by k one) i) ≡ get_or c i 0
-  byte_at k i is lt (inl shows) = none_at (tears && nat_lt 0 (length (s.earlier k))) (listed s k (length (s.earlier k)) i) ∙ ap (λ (v : Value). v i) (get_or_past (s.earlier k) (length (s.earlier k)) s.present (omega arith)) ∙ sym (shows i is lt)
-    where
-      none_at : (b : Bool) (x : ℕ) → byte_by (cond b None None) (i % sector) x ≡ x
-      none_at true x = refl
-      none_at false x = refl
-  byte_at k i is lt (inr (inl one)) = none_at (tears && nat_lt 0 (length (s.earlier k))) (listed s k one.1.0 i)
+  byte_at k i is lt (inl shows) = none_at i (tears && nat_lt 0 (length (s.earlier k))) (listed s k (length (s.earlier k)) i) ∙ ap (λ (v : Value). v i) (get_or_past (s.earlier k) (length (s.earlier k)) s.present (omega arith)) ∙ sym (shows i is lt)
+  byte_at k i is lt (inr (inl one)) = none_at i (tears && nat_lt 0 (length (s.earlier k))) (listed s k one.1.0 i)
       ∙ ap (λ (v : Value). v i) (sym (get_or_default (s.earlier k) one.1.0 one.0 s.present one.1.1) ∙ one.1.2) ∙ sym (one.2 i is lt)
-    where
-      none_at : (b : Bool) (x : ℕ) → byte_by (cond b None None) (i % sector) x ≡ x
-      none_at true x = refl
-      none_at false x = refl
   byte_at k i is lt (inr (inr torn)) =
       ap (λ (t : Bool). byte_by (cond (t && nat_lt 0 (length (s.earlier k))) (Some (bytes_of k)) None) (i % sector) (listed s k 0 i)) torn.0
       ∙ ap (λ (t : Bool). byte_by (cond (true && t) (Some (bytes_of k)) None) (i % sector) (listed s k 0 i)) (lt-ltb 0 (length (s.earlier k)) torn.1)
       ∙ get_or-map-range_with_len (λ j. get_or c (k * sector + j) 0) 0 sector (i % sector) (i % sector) 0 (mod-lt i positive) (omega arith)
-      ∙ ap (λ (j : ℕ). get_or c j 0) (back (i % sector) (k * sector) i (place_in sector k i is) (inside sector k i positive is).0)
-    where
-      back : (a b n : ℕ) → a ≡ n - b → b ≤ n → b + a ≡ n
-      back a b n e le = omega arith
+      ∙ ap (λ (j : ℕ). get_or c j 0) (let back : k * sector + i % sector ≡ i = omega (arith, place_in sector k i is, (inside sector k i positive is).0) in back)
 
   pub named : image_of sector tears s naming ≡ c
   named =

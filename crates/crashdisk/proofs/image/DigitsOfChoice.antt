@@ -1,22 +1,9 @@
 -- The digits of a choice.
-use Rattle.std.proofs.Common.{◌≡◌, ℕ, zero, suc, ◌+◌, ◌-◌, ◌*◌, ◌/◌, ◌<◌, ◌≤◌, List, [], ◌∷◌, ◌++◌, length, map, refl, sym, ◌∙◌, ap, subst, arith, true, false, Bool, cond, nat_eq, nat_lt, Some, None, Option, ◌↔◌, mul-suc, get_or, inl, inr, max, min}
-use Rattle.std.specs.Prelude.{◌%◌}
-use Rattle.std.specs.List.{range_with_len}
-use Rattle.std.proofs.lemmas.Bool.{cases_lt, lt-ltb, le-ltb}
-use Rattle.std.proofs.lemmas.Bool.Decides.{eqb_tells}
-use Rattle.std.proofs.lemmas.List.FromFn.{map-range_with_len_more, get_or-map-range_with_len, length-map-range_with_len}
-use Rattle.std.proofs.Math.Nat.{div-div-eq-div-mul, div-lt_iff_lt-mul, le-div_iff_mul-le, div-mul-le_self, lt-div-mul-add, mul-le-mul_right, suc-mul, mod-lt, mod-eq_of_lt}
-use Rattle.crashdisk.specs.State.{FileState}
-use Rattle.crashdisk.specs.Choice.{Naming, image_of, torn_here, byte_by, listed}
-use Rattle.crashdisk.specs.Held.{picked}
+use Rattle.crashdisk.proofs.Words.{Bool, FileState, HasDigits, IsSolid, IsTrue, List, Naming, None, Option, Some, [], ap, arith, byte_by, cases_lt, choice_count, cond, digit, div-div-eq-div-mul, div-lt_iff_lt-mul, div-mul-le_self, eqb_tells, false, get_or, get_or-map-range_with_len, image_of, inl, inr, is_sector_size, le-div_iff_mul-le, le-ltb, length, length-map-range_with_len, length_at, length_count, listed, lt-div-mul-add, lt-ltb, map, map-range_with_len_more, max, min, mod-eq_of_lt, mod-lt, mul-le-mul_right, mul-suc, naming_at, nat_eq, nat_lt, picked, range_with_len, refl, sector_count, size_positive, subst, suc, suc-mul, sym, torn_here, true, value_count, ways, zero, ℕ, ◌%◌, ◌*◌, ◌++◌, ◌+◌, ◌-◌, ◌/◌, ◌<◌, ◌↔◌, ◌∙◌, ◌∷◌, ◌≡◌, ◌≤◌}
 use Rattle.crashdisk.proofs.image.ImageNamedByChoice.{image_at, image_len}
-use Rattle.crashdisk.specs.Count.{ways, digit, value_count, length_count, length_at, sector_count, choice_count, naming_at, HasDigits}
 
 pub ways_more : (counts : ℕ → ℕ) (k : ℕ) → ways counts (k + 1) ≡ ways counts k * counts k
-ways_more counts k = ap (λ (n : ℕ). ways counts n) one
-  where
-    one : k + 1 ≡ suc k
-    one = omega arith
+ways_more counts k = ap (λ (n : ℕ). ways counts n) (let one : k + 1 ≡ suc k = omega arith in one)
 
 -- one sector more
 pub digits_more : (counts : ℕ → ℕ) (n k rest count : ℕ) (old new : List ℕ) → old ≡ map (digit counts n) (range_with_len 0 k) → rest ≡ n / ways counts k → count ≡ counts k → new ≡ old ++ rest % count ∷ []
@@ -54,17 +41,15 @@ some_choice sector s = some_both (ways (value_count s) (sector_count sector s.gr
     some_length false = omega arith
 
 -- nothing is left of a number exactly below the count of choices
-pub none_left : (n a b : ℕ) → 0 < a * b → (n / a / b < 1) ↔ (n < a * b)
-none_left n a b some = subst (λ (m : ℕ). (m < 1) ↔ (n < a * b)) (sym (div-div-eq-div-mul n a b)) (by (div-lt_iff_lt-mul {k = a * b} {x = n} {y = 1} some))
+pub none_left : (n a b m r : ℕ) → 0 < a → 0 < b → m ≡ n / a → r ≡ m / b → (r < 1) ↔ (n < a * b)
+none_left n a b m r some less is_m is_r =
+    subst (λ (x : ℕ). (x < 1) ↔ (n < a * b)) (sym (is_r ∙ ap (λ (x : ℕ). x / b) is_m ∙ div-div-eq-div-mul n a b)) (by (div-lt_iff_lt-mul {k = a * b} {x = n} {y = 1} (some_both a b some less)))
   where
     by : (n / (a * b) < 1) ↔ (n < 1 * (a * b)) → (n / (a * b) < 1) ↔ (n < a * b)
     by both = ((λ lt. omega (arith, both.0 lt)), (λ lt. both.1 (omega (arith, lt))))
 
 suc-times : (a b : ℕ) → (a + 1) * b ≡ a * b + b
-suc-times a b = ap (λ (m : ℕ). m * b) one ∙ suc-mul a b
-  where
-    one : a + 1 ≡ suc a
-    one = omega arith
+suc-times a b = omega arith
 
 module _ (sector : ℕ) (tears : Bool) (s : FileState) (n : ℕ) (positive : 0 < sector) (least : s.least ≤ s.len) (greatest : s.len ≤ s.greatest) where
   -- a length that is named is one between the least and the greatest
@@ -126,3 +111,8 @@ module _ (sector : ℕ) (tears : Bool) (s : FileState) (n : ℕ) (positive : 0 <
             ∙ ap (λ (torn : Option (List ℕ)). byte_by torn (i % sector) (listed s (i / sector) (picked naming.pick true (i / sector) (suc (length (s.earlier (i / sector))))) i)) (untorn tears (nat_lt 0 (length (s.earlier (i / sector)))) (i / sector))
             ∙ ap (λ (m : ℕ). listed s (i / sector) m i) (picked_is (i / sector) (sector_there i (omega (arith, long, (between j).1))));
       }
+
+-- the same of a naming that has this number
+pub named_digits : (sector : ℕ) (tears : Bool) (s : FileState) (n m : ℕ) (naming : Naming) → IsTrue (is_sector_size sector) → IsSolid sector s → naming ≡ naming_at sector s m → m ≡ n → HasDigits sector s n (image_of sector tears s naming)
+named_digits sector tears s n m naming size solid is same =
+    subst (λ (x : Naming). HasDigits sector s n (image_of sector tears s x)) (sym (is ∙ ap (λ (k : ℕ). naming_at sector s k) same)) (has_digits sector tears s n (size_positive sector size).0 solid.least solid.greatest)

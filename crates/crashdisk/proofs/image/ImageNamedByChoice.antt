@@ -1,16 +1,5 @@
 -- A crash of a modelled file leaves what the choice names.
-use Rattle.std.proofs.Common.{◌≡◌, inl, inr, ℕ, suc, ◌-◌, ◌*◌, ◌/◌, ◌<◌, ◌≤◌, Bool, true, false, cond, List, [], length, get_or, take, map, refl, sym, ◌∙◌, ap, subst, arith, Option, Some, None, nat_lt}
-use Rattle.std.specs.Prelude.{◌%◌}
-use Rattle.std.proofs.lemmas.List.{get_or_past, get_or_default, get_or-map, get_or-take, length-map}
-use Rattle.std.proofs.lemmas.List.FromFn.{get_or-map-range_with_len, length-map-range_with_len}
-use Rattle.std.proofs.lemmas.Bool.{cases_lt, ltb_from_iff, ltb-true, lt-ltb, le-ltb}
-use Rattle.std.proofs.Math.Nat.{mod-lt}
-use Rattle.crashdisk.specs.State.{Value, FileState, OneListed, IsImage, IsSound, IsSettled}
-use Rattle.crashdisk.specs.Held.{value_of, last_of, before_last, file_by, AreWhole, picked}
-use Rattle.crashdisk.specs.Choice.{Naming, named_len, torn_here, byte_by, listed, named_byte, image_of}
-use Rattle.crashdisk.specs.internal.Choice.{IsLeft}
-use Rattle.crashdisk.proofs.sector.PlacesInSectors.{inside, place_in}
-use Rattle.crashdisk.proofs.sector.SectorsAfterFailedSync.{picked_below, listed_count}
+use Rattle.crashdisk.proofs.Between.{AreWhole, Bool, FileState, IsImage, IsLeft, IsSettled, IsSound, List, Naming, None, OneListed, Option, Some, Value, [], ap, arith, before_last, byte_by, cases_lt, cond, false, file_by, get_or, get_or-map, get_or-map-range_with_len, get_or-take, get_or_default, get_or_past, image_of, inl, inr, inside, last_of, le-ltb, length, length-map, length-map-range_with_len, listed, listed_count, lt-ltb, ltb-true, ltb_from_iff, map, mod-lt, named_byte, named_len, nat_lt, picked, picked_below, place_in, refl, subst, suc, sym, take, torn_here, true, value_of, ℕ, ◌%◌, ◌*◌, ◌-◌, ◌/◌, ◌<◌, ◌∙◌, ◌≡◌, ◌≤◌}
 
 -- the named length is between the least and the greatest
 pub len_between : (n : Option ℕ) (least present greatest : ℕ) → least ≤ present → present ≤ greatest → (least ≤ named_len n least present greatest) × (named_len n least present greatest ≤ greatest)
@@ -74,11 +63,8 @@ module _ (sector : ℕ) (tears : Bool) (naming : Naming) (xs : List (List (List 
         | inr past ↦
             ap (λ (v : Value). v i) (get_or_past (map (value_of sector) (before_last vs)) n s.present past)
             ∙ ap (λ (j : ℕ). get_or (last_of (get_or xs j [])) (i % sector) 0) is
-            ∙ ap (λ (m : ℕ). get_or (get_or vs m []) (i % sector) 0) (last (length vs) n (length (map (value_of sector) (before_last vs))) same below past)
+            ∙ ap (λ (m : ℕ). get_or (get_or vs m []) (i % sector) 0) (let last : length vs - 1 ≡ n = omega (arith, same, below, past) in last)
       ]
-    where
-      last : (m n c : ℕ) → suc c ≡ m → n < m → c ≤ n → m - 1 ≡ n
-      last m n c e lt le = omega arith
 
   -- a sector that isn't there holds zeros
   pub past_byte : (k i : ℕ) → i / sector ≡ k → length xs ≤ k → named_byte sector tears (file_by sector xs len least greatest) naming k i ≡ 0

@@ -1,92 +1,10 @@
 -- Which images each call of a disk adds.
-use Rattle.std.proofs.Common.{◌≡◌, ◌⊎◌, ◌↔◌, inl, inr, ⊎_elim, ℕ, ◌+◌, ◌/◌, ◌<◌, max, Bool, List, [], ◌∷◌, length, get_or, refl, sym, ◌∙◌, ap, subst, arith, length-append}
-use Rattle.std.specs.Prelude.{IsTrue, Result, Ok, Err}
-use Rattle.std.specs.List.{Contains}
-use Rattle.std.proofs.lemmas.List.Elements.{Contains-push, Contains-push_cases, Contains-append_left}
-use Rattle.crashdisk.specs.State.{Value, Shows, FileState, OneListed, IsImage, Kept, Added, Changed, IsSynced, IsShuffled, IsSettled, written, WriteTouches, cut_to, CutTouches}
-use Rattle.crashdisk.specs.Call.{DiskState, of, other, ArePresent, ChangedBy, SyncedBy}
-use Rattle.crashdisk.specs.Images.{Image, SameImages, IsMade, IsOldOrNew, ImagesAreListed, WritesAddTheNew, CutsAddTheNew, SyncsSettle, OthersAddNothing, CrashesSettle}
-use Rattle.crashdisk.specs.declared.file.File.{File}
-use Rattle.crashdisk.specs.declared.file.File.TheVariants.{Db, Log}
-use Rattle.crashdisk.specs.declared.error.DiskError.{DiskError}
-use Rattle.crashdisk.specs.declared.error.DiskError.TheVariants.{Stopped, Failed, TooLong, NoMemory}
-use Rattle.crashdisk.proofs.byte.SettledFiles.{settled_image, settled_one}
-use Rattle.crashdisk.proofs.sync.ImagesAfterFailedSync.{image_shuffled}
+use Rattle.crashdisk.proofs.Between.{ArePresent, Bool, Changed, ChangedBy, CrashesSettle, CutTouches, CutsAddTheNew, Db, DiskError, DiskState, Err, Failed, File, FileState, Image, ImagesAreListed, IsImage, IsMade, IsSettled, IsShuffled, IsSynced, List, Log, NoMemory, Ok, OthersAddNothing, Result, SameImages, Stopped, SyncedBy, SyncsSettle, TooLong, Value, WriteTouches, WritesAddTheNew, [], ap, arith, cut_to, image_shuffled, images_changed, inl, inr, length, max, of, only_present, other, refl, settled_image, settled_one, subst, sym, written, ℕ, ◌+◌, ◌/◌, ◌<◌, ◌↔◌, ◌∙◌, ◌≡◌}
 
 pub images_listed : ImagesAreListed
 images_listed sector tears s c = (λ image. (image.least, image.greatest, image.each), λ parts. record { least = parts.0; greatest = parts.1; each = parts.2 })
 
 -- ---- A change that was made.
-
-module _ (sector : ℕ) (tears : Bool) (touches : ℕ → Type 0) (target : Value) (end : ℕ) (old new : FileState) (changed : Changed sector touches target end old new) (c : List ℕ) where
-  abbrev IsNew : ℕ → Type 0
-  IsNew k = touches k × (Shows sector k target c ⊎ (IsTrue tears × ((i : ℕ) → i / sector ≡ k → get_or c i 0 < 256)))
-
-  kept_before : (k : ℕ) → Kept sector old new k → OneListed sector tears new c k → OneListed sector tears old c k
-  kept_before k kept (inl shows) = inl (λ i e lt. shows i e lt ∙ kept.present i e)
-  kept_before k kept (inr (inl one)) = inr (inl (one.0, subst (λ (l : List Value). Contains l one.0) kept.earlier one.1, one.2))
-  kept_before k kept (inr (inr torn)) = inr (inr (torn.0, subst (λ (l : List Value). 0 < length l) kept.earlier torn.1, torn.2))
-
-  kept_after : (k : ℕ) → Kept sector old new k → OneListed sector tears old c k → OneListed sector tears new c k
-  kept_after k kept (inl shows) = inl (λ i e lt. shows i e lt ∙ sym (kept.present i e))
-  kept_after k kept (inr (inl one)) = inr (inl (one.0, subst (λ (l : List Value). Contains l one.0) (sym kept.earlier) one.1, one.2))
-  kept_after k kept (inr (inr torn)) = inr (inr (torn.0, subst (λ (l : List Value). 0 < length l) (sym kept.earlier) torn.1, torn.2))
-
-  -- one of the two values is the present one before, and the other is new
-  added_before : (k : ℕ) (listed now : Value) → touches k → Added sector old new k listed now
-      → (Shows sector k listed c → OneListed sector tears old c k ⊎ IsNew k) → (Shows sector k now c → OneListed sector tears old c k ⊎ IsNew k)
-      → OneListed sector tears new c k → OneListed sector tears old c k ⊎ IsNew k
-  added_before k listed now touched added by_listed by_now (inl shows) = by_now (λ i e lt. shows i e lt ∙ added.present i e)
-  added_before k listed now touched added by_listed by_now (inr (inl one)) =
-      elim (Contains-push_cases (old.earlier k) added.value one.0 (subst (λ (l : List Value). Contains l one.0) added.earlier one.1)) [
-        | inl was ↦ inl (inr (inl (one.0, was, one.2)))
-        | inr is ↦ by_listed (λ i e lt. one.2 i e lt ∙ ap (λ (v : Value). v i) (sym is) ∙ added.is i e)
-      ]
-  added_before k listed now touched added by_listed by_now (inr (inr torn)) = inr (touched, inr (torn.0, torn.2))
-
-  more : (k : ℕ) (listed now : Value) → Added sector old new k listed now → 0 < length (new.earlier k)
-  more k listed now added = omega (arith, ap (λ (l : List Value). length l) added.earlier, length-append (old.earlier k) (added.value ∷ []))
-
-  shows_listed : (k : ℕ) (listed now : Value) → Added sector old new k listed now → Shows sector k listed c → OneListed sector tears new c k
-  shows_listed k listed now added shows =
-      inr (inl (added.value, subst (λ (l : List Value). Contains l added.value) (sym added.earlier) (Contains-push (old.earlier k) added.value), λ i e lt. shows i e lt ∙ sym (added.is i e)))
-
-  added_after : (k : ℕ) (listed now : Value) → Added sector old new k listed now
-      → (Shows sector k old.present c → OneListed sector tears new c k) → OneListed sector tears old c k → OneListed sector tears new c k
-  added_after k listed now added by_present (inl shows) = by_present shows
-  added_after k listed now added by_present (inr (inl one)) =
-      inr (inl (one.0, subst (λ (l : List Value). Contains l one.0) (sym added.earlier) (Contains-append_left (old.earlier k) (added.value ∷ []) one.0 one.1), one.2))
-  added_after k listed now added by_present (inr (inr torn)) = inr (inr (torn.0, more k listed now added, torn.2))
-
-  new_after : (k : ℕ) (listed now : Value) → Added sector old new k listed now → (Shows sector k target c → OneListed sector tears new c k) → IsNew k → OneListed sector tears new c k
-  new_after k listed now added by_target is = ⊎_elim by_target (λ torn. inr (inr (torn.0, more k listed now added, torn.1))) is.1
-
-  shows_now : (k : ℕ) (listed now : Value) → Added sector old new k listed now → Shows sector k now c → OneListed sector tears new c k
-  shows_now k listed now added shows = inl (λ i e lt. shows i e lt ∙ sym (added.present i e))
-
-  before : (k : ℕ) → OneListed sector tears new c k → OneListed sector tears old c k ⊎ IsNew k
-  before k one = elim (changed.each k) [
-    | inl kept ↦ inl (kept_before k kept.1 one)
-    | inr touched ↦ elim touched.1 [
-      | inl taken ↦ added_before k old.present target touched.0 taken (λ shows. inl (inl shows)) (λ shows. inr (touched.0, inl shows)) one
-      | inr left ↦ added_before k target old.present touched.0 left (λ shows. inr (touched.0, inl shows)) (λ shows. inl (inl shows)) one
-    ]
-  ]
-
-  after : (k : ℕ) → OneListed sector tears old c k ⊎ IsNew k → OneListed sector tears new c k
-  after k one = elim (changed.each k) [
-    | inl kept ↦ ⊎_elim (kept_after k kept.1) (λ is. absurd (kept.0 is.0)) one
-    | inr touched ↦ elim touched.1 [
-      | inl taken ↦ ⊎_elim (added_after k old.present target taken (shows_listed k old.present target taken)) (new_after k old.present target taken (shows_now k old.present target taken)) one
-      | inr left ↦ ⊎_elim (added_after k target old.present left (shows_now k target old.present left)) (new_after k target old.present left (shows_listed k target old.present left)) one
-    ]
-  ]
-
-  pub images_changed : IsImage sector tears new c ↔ IsOldOrNew sector tears touches target end old c
-  images_changed = (
-    λ image. record { least = omega (arith, image.least, changed.least); greatest = omega (arith, image.greatest, changed.greatest); each = λ k. before k (image.each k) },
-    λ is. record { least = omega (arith, is.least, changed.least); greatest = omega (arith, is.greatest, changed.greatest); each = λ k. after k (is.each k) },
-  )
 
 changed_by_made : (sector : ℕ) (touches : ℕ → Type 0) (target : Value) (end : ℕ) (result : Result (Unit {0}) DiskError) (old new : FileState) → IsMade result → ChangedBy sector touches target end result old new → Changed sector touches target end old new
 changed_by_made sector touches target end (Ok v) old new made by = by.0
@@ -126,17 +44,8 @@ images_cut f n result old new c made cut =
 
 synced_present : (sector : ℕ) (tears : Bool) (old new : FileState) (c : List ℕ) → IsSynced old new → IsImage sector tears new c → ArePresent old c
 synced_present sector tears old new c synced image =
-    let long : length c ≡ old.len = omega (arith, image.least, image.greatest, synced.least, synced.greatest) in record {
-      len = long;
-      each = λ i lt. elim (image.each (i / sector)) [
-        | inl shows ↦ shows i refl (omega (arith, long)) ∙ synced.present i
-        | inr (inl one) ↦ absurd (none (i / sector) (omega (arith, one.1.1)))
-        | inr (inr torn) ↦ absurd (none (i / sector) torn.1)
-      ];
-    }
-  where
-    none : (k : ℕ) → 0 < length (new.earlier k) → ⊥
-    none k some = omega (arith, some, ap (λ (l : List Value). length l) (synced.earlier k))
+    let long : length c ≡ old.len = omega (arith, image.least, image.greatest, synced.least, synced.greatest) in
+    record { len = long; each = λ i lt. only_present sector tears new c synced.earlier image i (omega (arith, long)) ∙ synced.present i }
 
 present_synced : (sector : ℕ) (tears : Bool) (old new : FileState) (c : List ℕ) → IsSynced old new → ArePresent old c → IsImage sector tears new c
 present_synced sector tears old new c synced are = record {
@@ -157,23 +66,17 @@ same_images f old new sector tears is c =
 images_shuffled : (sector : ℕ) (tears : Bool) (old new : FileState) (c : List ℕ) → IsShuffled sector old new → IsImage sector tears new c ↔ IsImage sector tears old c
 images_shuffled sector tears old new c shuffled = (
   image_shuffled sector old new shuffled tears c,
-  λ image. record {
-    least = omega (arith, image.least, shuffled.least);
-    greatest = omega (arith, image.greatest, shuffled.greatest);
-    each = λ k. back k (image.each k);
-  },
+  image_shuffled sector new old (record {
+    from = shuffled.keeps;
+    present_from = shuffled.keeps_present;
+    count = λ k. sym (shuffled.count k);
+    keeps = shuffled.from;
+    keeps_present = shuffled.present_from;
+    len = sym shuffled.len;
+    least = sym shuffled.least;
+    greatest = sym shuffled.greatest;
+  }) tears c,
 )
-  where
-    back : (k : ℕ) → OneListed sector tears old c k → OneListed sector tears new c k
-    back k (inl shows) = elim (shuffled.keeps_present k) [
-      | inl same ↦ inl (λ i e lt. shows i e lt ∙ same i e)
-      | inr one ↦ inr (inl (one.0, one.1, λ i e lt. shows i e lt ∙ one.2 i e))
-    ]
-    back k (inr (inl one)) = elim (shuffled.keeps k one.0 one.1) [
-      | inl same ↦ inl (λ i e lt. one.2 i e lt ∙ same i e)
-      | inr now ↦ inr (inl (now.0, now.1, λ i e lt. one.2 i e lt ∙ now.2 i e))
-    ]
-    back k (inr (inr torn)) = inr (inr (torn.0, omega (arith, torn.1, shuffled.count k), torn.2))
 
 sync_spares : (f : File) (e : DiskError) (old new : DiskState) → new.sector ≡ old.sector → new.tears ≡ old.tears → SyncedBy {T = Unit {0}} old.sector (Err e) (of f old) (of f new) → SameImages f old new
 sync_spares f Failed old new sector tears by = λ c. at_old f old new c sector tears (images_shuffled old.sector old.tears (of f old) (of f new) c by)

@@ -1,12 +1,5 @@
 -- The images of a file that was ended.
-use Rattle.std.proofs.Common.{◌≡◌, inl, inr, ℕ, ◌*◌, ◌/◌, ◌<◌, ◌≤◌, min, max, Bool, true, false, cond, List, length, get_or, take, refl, sym, ◌∙◌, ap, subst, arith}
-use Rattle.std.specs.Prelude.{nat_lt}
-use Rattle.std.proofs.lemmas.Bool.{cases_lt, lt-ltb, le-ltb}
-use Rattle.std.proofs.lemmas.Grind.{same_number_lists}
-use Rattle.std.proofs.lemmas.List.{get_or_past, get_or_default, get_or-take, length-take}
-use Rattle.crashdisk.specs.State.{Value, FileState, OneListed, IsImage, IsSound}
-use Rattle.crashdisk.specs.Ending.{ended, IsEnded, EndsEachImage}
-use Rattle.crashdisk.proofs.image.OriginOfImages.{table, length-table, get_or-table}
+use Rattle.crashdisk.proofs.Below.{Bool, EndsEachImage, FileState, IsEnded, IsImage, IsSound, List, OneListed, Value, ap, arith, cases_lt, cond, ended, false, get_or, get_or-table, get_or-take, get_or_default, get_or_past, inl, inr, le-ltb, length, length-table, length-take, lt-ltb, max, min, nat_lt, refl, same_number_lists, subst, sym, table, take, true, ℕ, ◌*◌, ◌/◌, ◌<◌, ◌∙◌, ◌≡◌, ◌≤◌}
 
 module _ (sector n : ℕ) (tears : Bool) (old new : FileState) (c : List ℕ) (sound : IsSound sector old) (is : IsEnded sector n old new) (image : IsImage sector tears new c) where
   -- the value of the file before it that a sector took

@@ -1,14 +1,5 @@
 -- Each choice of listed values and counted lengths has a number.
-use Rattle.std.proofs.Common.{◌≡◌, ℕ, zero, suc, ◌+◌, ◌*◌, ◌/◌, ◌<◌, ◌≤◌, List, length, sym, ◌∙◌, ap, subst, arith, inl, inr, false}
-use Rattle.std.specs.Prelude.{◌%◌}
-use Rattle.std.proofs.lemmas.Bool.{cases_lt}
-use Rattle.std.proofs.lemmas.Nat.{div-mul-add, mul-add-lt, mod-mul-add}
-use Rattle.std.proofs.Math.Nat.{mul_comm, mul_assoc, add-mul}
-use Rattle.crashdisk.specs.State.{FileState}
-use Rattle.crashdisk.specs.Choice.{listed}
-use Rattle.crashdisk.specs.Solid.{IsSolid}
-use Rattle.crashdisk.specs.Count.{ways, digit, value_count, length_count, length_at, sector_count, choice_count, HasDigits, IsListed, EachIsCounted}
-use Rattle.crashdisk.proofs.image.DigitsOfChoice.{between, sector_there}
+use Rattle.crashdisk.proofs.Facts.{EachIsCounted, FileState, HasDigits, IsListed, IsSolid, List, add-mul, ap, arith, between, cases_lt, choice_count, digit, div-mul-add, false, inl, inr, length, length_at, length_count, listed, mod-mul-add, mul-add-lt, mul_assoc, mul_comm, sector_count, sector_there, subst, suc, sym, value_count, ways, zero, ℕ, ◌%◌, ◌*◌, ◌+◌, ◌/◌, ◌<◌, ◌∙◌, ◌≡◌, ◌≤◌}
 
 -- the number with these digits
 abbrev number : (counts values : ℕ → ℕ) (k : ℕ) → ℕ
@@ -28,12 +19,9 @@ has_digit counts values each zero r i lt = absurd (omega (arith, lt))
 has_digit counts values each (suc k) r i lt =
     ap (λ (n : ℕ). digit counts n i) (regroup r (values k) (counts k) (ways counts k) (number counts values k)) ∙ elim (cases_lt i k) [
       | inl less ↦ has_digit counts values each k (r * counts k + values k) i less
-      | inr past ↦ subst (λ (m : ℕ). digit counts ((r * counts k + values k) * ways counts k + number counts values k) m ≡ values m) (the_last past)
+      | inr past ↦ subst (λ (m : ℕ). digit counts ((r * counts k + values k) * ways counts k + number counts values k) m ≡ values m) (let last : k ≡ i = omega (arith, lt, past) in last)
           (ap (λ (q : ℕ). q % counts k) (div-mul-add (r * counts k + values k) (ways counts k) (number counts values k) (below counts values each k)) ∙ mod-mul-add r (counts k) (values k) (each k))
     ]
-  where
-    the_last : k ≤ i → k ≡ i
-    the_last past = omega (arith, lt, past)
 
 module _ (sector : ℕ) (s : FileState) (image : List ℕ) (positive : 0 < sector) (solid : IsSolid sector s) (is : IsListed sector s image) where
   abbrev counts : ℕ → ℕ
@@ -77,8 +65,5 @@ each_is_counted sector db log positive db_solid log_solid of_db of_log db_is log
       b * size + a,
       mul-add-lt b size a (choice_count sector log) b_below a_below,
       has_digits sector db of_db positive db_solid db_is b,
-      subst (λ (n : ℕ). HasDigits sector log n of_log) (none b ∙ sym (div-mul-add b size a a_below)) (has_digits sector log of_log positive log_solid log_is 0),
+      subst (λ (n : ℕ). HasDigits sector log n of_log) ((let none : 0 * choice_count sector log + b ≡ b = omega arith in none) ∙ sym (div-mul-add b size a a_below)) (has_digits sector log of_log positive log_solid log_is 0),
     )
-  where
-    none : (b : ℕ) → 0 * choice_count sector log + b ≡ b
-    none b = omega arith

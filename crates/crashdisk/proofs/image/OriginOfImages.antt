@@ -1,11 +1,5 @@
 -- What a crash may leave, before a call and after it.
-use Rattle.std.proofs.Common.{◌≡◌, ◌⊎◌, inl, inr, ⊎_elim, ℕ, zero, suc, ◌/◌, ◌<◌, min, max, Bool, false, List, [], ◌∷◌, ◌++◌, length, get_or, refl, sym, ◌∙◌, ap, subst, arith, length-append}
-use Rattle.std.specs.Prelude.{IsTrue}
-use Rattle.std.specs.List.{Contains}
-use Rattle.std.proofs.lemmas.List.{get_or_past, get_or_append_left, get_or_at}
-use Rattle.std.proofs.lemmas.List.Elements.{Contains-push_cases}
-use Rattle.std.proofs.lemmas.Bool.{cases_lt}
-use Rattle.crashdisk.specs.State.{Value, Same, Shows, FileState, OneListed, IsImage, IsSound, Kept, Added, Changed}
+use Rattle.crashdisk.proofs.Words.{Added, Bool, Changed, Contains, Contains-append_left, Contains-push, Contains-push_cases, FileState, IsImage, IsOldOrNew, IsSound, IsTrue, Kept, List, OneListed, Same, Shows, Value, [], ap, arith, cases_lt, false, get_or, get_or_append_left, get_or_at, get_or_past, inl, inr, length, length-append, max, min, refl, subst, suc, sym, zero, ℕ, ⊎_elim, ◌++◌, ◌/◌, ◌<◌, ◌↔◌, ◌∙◌, ◌∷◌, ◌≡◌, ◌⊎◌}
 
 -- the first n values of a function
 pub table : ℕ → (ℕ → ℕ) → List ℕ
@@ -29,6 +23,73 @@ get_or-table (suc n) v i lt = elim (cases_lt i n) [
       get_or_at (table n v) (v n) [] 0 i (length-table n v ∙ sym is) ∙ ap v (sym is)
 ]
 
+-- ---- After a change that was made a sector is as it might have been before, or new.
+
+module _ (sector : ℕ) (tears : Bool) (touches : ℕ → Type 0) (target : Value) (end : ℕ) (old new : FileState) (changed : Changed sector touches target end old new) (c : List ℕ) where
+  abbrev IsNew : ℕ → Type 0
+  IsNew k = touches k × (Shows sector k target c ⊎ (IsTrue tears × ((i : ℕ) → i / sector ≡ k → get_or c i 0 < 256)))
+
+  kept_one : (a b : FileState) (k : ℕ) → Kept sector a b k → OneListed sector tears b c k → OneListed sector tears a c k
+  kept_one a b k kept (inl shows) = inl (λ i e lt. shows i e lt ∙ kept.present i e)
+  kept_one a b k kept (inr (inl one)) = inr (inl (one.0, subst (λ (l : List Value). Contains l one.0) kept.earlier one.1, one.2))
+  kept_one a b k kept (inr (inr torn)) = inr (inr (torn.0, subst (λ (l : List Value). 0 < length l) kept.earlier torn.1, torn.2))
+
+  -- one of the two values is the present one before, and the other is new
+  added_before : (k : ℕ) (listed now : Value) → touches k → Added sector old new k listed now
+      → (Shows sector k listed c → OneListed sector tears old c k ⊎ IsNew k) → (Shows sector k now c → OneListed sector tears old c k ⊎ IsNew k)
+      → OneListed sector tears new c k → OneListed sector tears old c k ⊎ IsNew k
+  added_before k listed now touched added by_listed by_now (inl shows) = by_now (λ i e lt. shows i e lt ∙ added.present i e)
+  added_before k listed now touched added by_listed by_now (inr (inl one)) =
+      elim (Contains-push_cases (old.earlier k) added.value one.0 (subst (λ (l : List Value). Contains l one.0) added.earlier one.1)) [
+        | inl was ↦ inl (inr (inl (one.0, was, one.2)))
+        | inr is ↦ by_listed (λ i e lt. one.2 i e lt ∙ ap (λ (v : Value). v i) (sym is) ∙ added.is i e)
+      ]
+  added_before k listed now touched added by_listed by_now (inr (inr torn)) = inr (touched, inr (torn.0, torn.2))
+
+  more : (k : ℕ) (listed now : Value) → Added sector old new k listed now → 0 < length (new.earlier k)
+  more k listed now added = omega (arith, ap (λ (l : List Value). length l) added.earlier, length-append (old.earlier k) (added.value ∷ []))
+
+  shows_listed : (k : ℕ) (listed now : Value) → Added sector old new k listed now → Shows sector k listed c → OneListed sector tears new c k
+  shows_listed k listed now added shows =
+      inr (inl (added.value, subst (λ (l : List Value). Contains l added.value) (sym added.earlier) (Contains-push (old.earlier k) added.value), λ i e lt. shows i e lt ∙ sym (added.is i e)))
+
+  added_after : (k : ℕ) (listed now : Value) → Added sector old new k listed now
+      → (Shows sector k old.present c → OneListed sector tears new c k) → OneListed sector tears old c k → OneListed sector tears new c k
+  added_after k listed now added by_present (inl shows) = by_present shows
+  added_after k listed now added by_present (inr (inl one)) =
+      inr (inl (one.0, subst (λ (l : List Value). Contains l one.0) (sym added.earlier) (Contains-append_left (old.earlier k) (added.value ∷ []) one.0 one.1), one.2))
+  added_after k listed now added by_present (inr (inr torn)) = inr (inr (torn.0, more k listed now added, torn.2))
+
+  new_after : (k : ℕ) (listed now : Value) → Added sector old new k listed now → (Shows sector k target c → OneListed sector tears new c k) → IsNew k → OneListed sector tears new c k
+  new_after k listed now added by_target is = ⊎_elim by_target (λ torn. inr (inr (torn.0, more k listed now added, torn.1))) is.1
+
+  shows_now : (k : ℕ) (listed now : Value) → Added sector old new k listed now → Shows sector k now c → OneListed sector tears new c k
+  shows_now k listed now added shows = inl (λ i e lt. shows i e lt ∙ sym (added.present i e))
+
+  before : (k : ℕ) → OneListed sector tears new c k → OneListed sector tears old c k ⊎ IsNew k
+  before k one = elim (changed.each k) [
+    | inl kept ↦ inl (kept_one old new k kept.1 one)
+    | inr touched ↦ elim touched.1 [
+      | inl taken ↦ added_before k old.present target touched.0 taken (λ shows. inl (inl shows)) (λ shows. inr (touched.0, inl shows)) one
+      | inr left ↦ added_before k target old.present touched.0 left (λ shows. inr (touched.0, inl shows)) (λ shows. inl (inl shows)) one
+    ]
+  ]
+
+  after : (k : ℕ) → OneListed sector tears old c k ⊎ IsNew k → OneListed sector tears new c k
+  after k one = elim (changed.each k) [
+    | inl kept ↦ ⊎_elim (kept_one new old k (record { earlier = sym kept.1.earlier; present = λ i e. sym (kept.1.present i e) })) (λ is. absurd (kept.0 is.0)) one
+    | inr touched ↦ elim touched.1 [
+      | inl taken ↦ ⊎_elim (added_after k old.present target taken (shows_listed k old.present target taken)) (new_after k old.present target taken (shows_now k old.present target taken)) one
+      | inr left ↦ ⊎_elim (added_after k target old.present left (shows_now k target old.present left)) (new_after k target old.present left (shows_listed k target old.present left)) one
+    ]
+  ]
+
+  pub images_changed : IsImage sector tears new c ↔ IsOldOrNew sector tears touches target end old c
+  images_changed = (
+    λ image. record { least = omega (arith, image.least, changed.least); greatest = omega (arith, image.greatest, changed.greatest); each = λ k. before k (image.each k) },
+    λ is. record { least = omega (arith, is.least, changed.least); greatest = omega (arith, is.greatest, changed.greatest); each = λ k. after k (is.each k) },
+  )
+
 -- a value of a sector of the file before the call, from which the sector comes that a crash leaves after it
 pub record From (sector : ℕ) (tears : Bool) (touches : ℕ → Type 0) (target : Value) (old : FileState) (c : List ℕ) (k : ℕ) : Type 0 where
   pub value : Value
@@ -36,56 +97,21 @@ pub record From (sector : ℕ) (tears : Bool) (touches : ℕ → Type 0) (target
   -- it is the same, or the sector was touched and it was the present one
   pub comes : Shows sector k value c ⊎ (touches k × Same sector k value old.present × (Shows sector k target c ⊎ (IsTrue tears × (length (old.earlier k) ≡ 0))))
 
-module _ (sector : ℕ) (tears : Bool) (touches : ℕ → Type 0) (target : Value) (end : ℕ) (old new : FileState) (changed : Changed sector touches target end old new) (c : List ℕ) where
-  same_sector : (k : ℕ) → Kept sector old new k → OneListed sector tears new c k → From sector tears touches target old c k
-  same_sector k kept (inl shows) = record { value = old.present; listed = inl (λ i e. refl); comes = inl (λ i e lt. shows i e lt ∙ kept.present i e) }
-  same_sector k kept (inr (inl one)) = record {
-    value = one.0;
-    listed = inr (inl (one.0, subst (λ (l : List Value). Contains l one.0) kept.earlier one.1, λ i e. refl));
-    comes = inl one.2;
-  }
-  same_sector k kept (inr (inr torn)) = record {
-    value = λ i. get_or c i 0;
-    listed = inr (inr (torn.0, subst (λ (l : List Value). 0 < length l) kept.earlier torn.1, (λ i e. refl), torn.2));
-    comes = inl (λ i e lt. refl);
-  }
+module _ (sector : ℕ) (tears : Bool) (touches : ℕ → Type 0) (target : Value) (end : ℕ) (old new : FileState) (changed : Changed sector touches target end old new) (c : List ℕ) (k : ℕ) where
+  new_one : touches k → Shows sector k target c ⊎ (IsTrue tears × (length (old.earlier k) ≡ 0)) → From sector tears touches target old c k
+  new_one touched shows = record { value = old.present; listed = inl (λ i e. refl); comes = inr (touched, (λ i e. refl), shows) }
 
-  -- one of the earlier values, of which one is new
-  earlier_one : (k : ℕ) (listed now : Value) (added : Added sector old new k listed now) (one : (v : Value) × Contains (new.earlier k) v × Shows sector k v c)
-      → (Shows sector k listed c → From sector tears touches target old c k) → From sector tears touches target old c k
-  earlier_one k listed now added one new_one =
-      elim (Contains-push_cases (old.earlier k) added.value one.0 (subst (λ (l : List Value). Contains l one.0) added.earlier one.1)) [
-        | inl was ↦ record { value = one.0; listed = inr (inl (one.0, was, λ i e. refl)); comes = inl one.2 }
-        | inr is ↦ new_one (λ i e lt. one.2 i e lt ∙ ap (λ (v : Value). v i) (sym is) ∙ added.is i e)
-      ]
+  -- torn, and touched before the call
+  torn_one : IsTrue tears → 0 < length (old.earlier k) → ((i : ℕ) → i / sector ≡ k → get_or c i 0 < 256) → From sector tears touches target old c k
+  torn_one torn touched small = record { value = λ i. get_or c i 0; listed = inr (inr (torn, touched, (λ i e. refl), small)); comes = inl (λ i e lt. refl) }
 
-  present_one : (k : ℕ) → Shows sector k old.present c → From sector tears touches target old c k
-  present_one k shows = record { value = old.present; listed = inl (λ i e. refl); comes = inl shows }
-
-  new_one : (k : ℕ) → touches k → Shows sector k target c ⊎ (IsTrue tears × (length (old.earlier k) ≡ 0)) → From sector tears touches target old c k
-  new_one k touched shows = record { value = old.present; listed = inl (λ i e. refl); comes = inr (touched, (λ i e. refl), shows) }
-
-  -- torn now, and torn before the call or not
-  torn_one : (k : ℕ) → touches k → IsTrue tears → ((i : ℕ) → i / sector ≡ k → get_or c i 0 < 256) → From sector tears touches target old c k
-  torn_one k touched torn small = elim (cases_lt 0 (length (old.earlier k))) [
-    | inl before ↦ record { value = λ i. get_or c i 0; listed = inr (inr (torn, before, (λ i e. refl), small)); comes = inl (λ i e lt. refl) }
-    | inr none ↦ new_one k touched (inr (torn, omega arith))
-  ]
-
-  taken_sector : (k : ℕ) → touches k → Added sector old new k old.present target → OneListed sector tears new c k → From sector tears touches target old c k
-  taken_sector k touched added (inl shows) = new_one k touched (inl (λ i e lt. shows i e lt ∙ added.present i e))
-  taken_sector k touched added (inr (inl one)) = earlier_one k old.present target added one (present_one k)
-  taken_sector k touched added (inr (inr torn)) = torn_one k touched torn.0 torn.2
-
-  left_sector : (k : ℕ) → touches k → Added sector old new k target old.present → OneListed sector tears new c k → From sector tears touches target old c k
-  left_sector k touched added (inl shows) = present_one k (λ i e lt. shows i e lt ∙ added.present i e)
-  left_sector k touched added (inr (inl one)) = earlier_one k target old.present added one (λ shows. new_one k touched (inl shows))
-  left_sector k touched added (inr (inr torn)) = torn_one k touched torn.0 torn.2
-
-  pub from_sector : (k : ℕ) → OneListed sector tears new c k → From sector tears touches target old c k
-  from_sector k one = elim (changed.each k) [
-    | inl kept ↦ same_sector k kept.1 one
-    | inr touched ↦ elim touched.1 [ inl taken ↦ taken_sector k touched.0 taken one | inr left ↦ left_sector k touched.0 left one ]
+  pub from_sector : OneListed sector tears new c k → From sector tears touches target old c k
+  from_sector one = elim (before sector tears touches target end old new changed c k one) [
+    | inl (inl shows) ↦ record { value = old.present; listed = inl (λ i e. refl); comes = inl shows }
+    | inl (inr (inl was)) ↦ record { value = was.0; listed = inr (inl (was.0, was.1, λ i e. refl)); comes = inl was.2 }
+    | inl (inr (inr torn)) ↦ torn_one torn.0 torn.1 torn.2
+    | inr (touched, inl shows) ↦ new_one touched (inl shows)
+    | inr (touched, inr torn) ↦ elim (cases_lt 0 (length (old.earlier k))) [ inl was ↦ torn_one torn.0 was torn.1 | inr none ↦ new_one touched (inr (torn.0, omega arith)) ]
   ]
 
 pub not_torn : {tears : Bool} → tears ≡ false → IsTrue tears → ⊥

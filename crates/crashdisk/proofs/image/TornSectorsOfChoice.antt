@@ -1,6 +1,5 @@
 -- What a choice names.
-use Rattle.std.proofs.Common.{◌≡◌, ℕ, Bool, true, false, cond, List, [], ◌∷◌, ◌++◌, refl, ◌∙◌, ap, Option, Some, None, nat_eq}
-use Rattle.crashdisk.specs.Choice.{last_torn, or_else}
+use Rattle.crashdisk.proofs.Words.{Bool, List, None, Option, Some, [], ap, cond, false, last_torn, nat_eq, or_else, refl, true, ℕ, ◌++◌, ◌∙◌, ◌∷◌, ◌≡◌}
 
 -- one entry more
 pub torn_more : (torn : List (ℕ × List ℕ)) (entry : ℕ × List ℕ) (k : ℕ) → last_torn (torn ++ entry ∷ []) k ≡ cond (nat_eq entry.0 k) (Some entry.1) (last_torn torn k)

@@ -1,15 +1,6 @@
 -- On a disk that tears, a sector with a steady byte wasn't touched; and so the places of a steady page are clear.
-use Rattle.std.proofs.Common.{◌≡◌, ◌≢◌, inl, inr, ⊎_elim, ℕ, ◌+◌, ◌-◌, ◌/◌, ◌<◌, ◌≤◌, Bool, true, cond, List, length, get_or, refl, sym, ◌∙◌, subst, arith}
-use Rattle.std.specs.Prelude.{IsTrue, nat_eq}
-use Rattle.std.proofs.lemmas.Bool.{cases_lt, cases_eq}
-use Rattle.std.proofs.lemmas.Bool.Decides.{nat_tests}
-use Rattle.std.proofs.lemmas.List.{get_or_past}
-use Rattle.crashdisk.specs.State.{FileState, IsImage, IsSound}
-use Rattle.crashdisk.specs.Call.{DiskState}
-use Rattle.crashdisk.specs.internal.Facts.{IsSteady, IsClear}
-use Rattle.crashdisk.specs.Keeps.{Suits}
-use Rattle.crashdisk.proofs.image.OriginOfImages.{table, length-table, get_or-table}
-use Rattle.crashdisk.proofs.page.PlacesOfPages.{AreWhole, page_at, sector_some, are_whole, page_sector}
+use Rattle.crashdisk.proofs.Below.{Bool, DiskState, FileState, IsClear, IsImage, IsSound, IsSteady, IsTrue, List, Suits, are_whole, arith, cases_eq, cases_lt, cond, get_or, get_or-table, get_or_past, inl, inr, length, length-table, nat_eq, nat_tests, page_at, page_sector, refl, sector_some, subst, sym, table, true, ℕ, ⊎_elim, ◌+◌, ◌-◌, ◌/◌, ◌<◌, ◌∙◌, ◌≡◌, ◌≢◌, ◌≤◌}
+use Rattle.crashdisk.proofs.page.PlacesOfPages.{AreWhole}
 use Rattle.crashdisk.proofs.page.RecoverablePages.{sector_within}
 
 module _ (sector : ℕ) (s : FileState) (k b : ℕ) where

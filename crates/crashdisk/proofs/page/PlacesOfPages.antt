@@ -1,12 +1,5 @@
 -- Places of pages.
-use Rattle.std.proofs.Common.{◌≡◌, ◌≢◌, ◌⊎◌, inl, inr, ⊎_elim, ℕ, zero, suc, ◌+◌, ◌-◌, ◌*◌, ◌/◌, ◌^◌, ◌<◌, ◌≤◌, Bool, sym, ◌∙◌, ap, subst, arith, mul_assoc}
-use Rattle.std.specs.Prelude.{IsTrue}
-use Rattle.std.proofs.lemmas.Bool.{cases_lt}
-use Rattle.std.proofs.lemmas.Nat.{le-div, pow-add}
-use Rattle.std.proofs.Math.Nat.{div-mul-le_self, mul-le-mul_right, lt-div-mul-add}
-use Rattle.std.proofs.Math.Pow.{pow-lt, pow_mono}
-use Rattle.crashdisk.specs.State.{IsSectorSize, Meets}
-use Rattle.crashdisk.specs.internal.Facts.{Spreads}
+use Rattle.crashdisk.proofs.Words.{Bool, IsSectorSize, IsTrue, Meets, Spreads, ap, arith, cases_lt, div-mul-le_self, inl, inr, le-div, lt-div-mul-add, mul-le-mul_right, mul_assoc, pow-add, pow-lt, pow_mono, subst, suc, sym, zero, ℕ, ⊎_elim, ◌*◌, ◌+◌, ◌-◌, ◌/◌, ◌<◌, ◌^◌, ◌∙◌, ◌≡◌, ◌≢◌, ◌≤◌, ◌⊎◌}
 
 -- where page p begins
 abbrev pub page_at : (size p : ℕ) → ℕ

@@ -1,13 +1,5 @@
 -- A call leaves a disk one on which pages are recovered.
-use Rattle.std.proofs.Common.{◌≡◌, ⊎_elim, ◌≤◌, ℕ, true, List, sym, ◌∙◌, subst}
-use Rattle.std.specs.Prelude.{Result}
-use Rattle.std.proofs.lemmas.Bool.{cases_lt}
-use Rattle.crashdisk.specs.State.{IsSectorSize}
-use Rattle.crashdisk.specs.Call.{DiskState, IsSoundDisk, Writes, Cuts, Syncs, Looks}
-use Rattle.crashdisk.specs.Keeps.{SameFiles, Still, Suits}
-use Rattle.crashdisk.specs.declared.file.File.{File}
-use Rattle.crashdisk.specs.declared.error.DiskError.{DiskError}
-use Rattle.crashdisk.proofs.call.SoundDiskUnderCalls.{sound_writes, sound_cuts, sound_syncs, sound_looks}
+use Rattle.crashdisk.proofs.Facts.{Cuts, DiskError, DiskState, File, IsSectorSize, IsSoundDisk, List, Looks, Result, SameFiles, Still, Suits, Syncs, Writes, cases_lt, sound_cuts, sound_looks, sound_syncs, sound_writes, subst, sym, true, ℕ, ⊎_elim, ◌∙◌, ◌≡◌, ◌≤◌}
 use Rattle.crashdisk.proofs.call.UnchangingCalls.{same_sound, same_files}
 
 -- a sector that tears is no larger than a page
@@ -37,6 +29,3 @@ module _ {T : Type 0} (size : ℕ) where
 
   pub suits_syncs : (f : File) (result : Result T DiskError) (old new : DiskState) → Suits size old → Syncs f result old new → Suits size new
   suits_syncs f result old new suits synced = suits_by size old new suits (sound_syncs f result old new suits.sound synced) synced.elsewhere.sector synced.elsewhere.tears
-
-  pub suits_looks : (end : ℕ) (result : Result T DiskError) (old new : DiskState) → Suits size old → Looks end result old new → Suits size new
-  suits_looks end result old new suits looked = suits_by size old new suits (sound_looks end result old new suits.sound looked) looked.sector looked.tears

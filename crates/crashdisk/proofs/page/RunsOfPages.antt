@@ -1,16 +1,6 @@
 -- Runs of pages: k pages from page q on, written at once.
-use Rattle.std.proofs.Common.{◌≡◌, ◌⊎◌, inl, inr, ⊎_elim, ℕ, ◌+◌, ◌-◌, ◌*◌, ◌/◌, ◌<◌, ◌≤◌, Bool, List, length, get_or, sym, ◌∙◌, ap, subst, arith, mul_assoc}
-use Rattle.std.specs.Prelude.{IsTrue, Ok}
-use Rattle.std.proofs.lemmas.Bool.{cases_lt}
-use Rattle.std.proofs.lemmas.Nat.{le-div}
-use Rattle.std.proofs.Math.Nat.{div-mul-le_self, mul-le-mul_right, lt-div-mul-add, div-lt_iff_lt-mul}
-use Rattle.crashdisk.specs.State.{byte}
-use Rattle.crashdisk.specs.internal.Facts.{Spreads}
-use Rattle.crashdisk.specs.Call.{DiskState, Writes}
-use Rattle.crashdisk.specs.declared.file.File.TheVariants.{Db}
-use Rattle.crashdisk.proofs.page.PlacesOfPages.{AreWhole, page_at, page_before}
-use Rattle.crashdisk.proofs.call.SoundFileUnderChanges.{written_inside, written_outside}
-use Rattle.crashdisk.proofs.call.EffectsOfCalls.{present_written}
+use Rattle.crashdisk.proofs.Facts.{Bool, Db, DiskState, IsTrue, List, Ok, Spreads, Writes, ap, arith, byte, cases_lt, div-lt_iff_lt-mul, div-mul-le_self, get_or, inl, inr, le-div, length, lt-div-mul-add, mul-le-mul_right, mul_assoc, page_at, page_before, present_written, subst, sym, written_inside, written_outside, ℕ, ⊎_elim, ◌*◌, ◌+◌, ◌-◌, ◌/◌, ◌<◌, ◌∙◌, ◌≡◌, ◌≤◌, ◌⊎◌}
+use Rattle.crashdisk.proofs.page.PlacesOfPages.{AreWhole}
 
 times_more : (a k size : ℕ) → a * size + k * size ≡ (a + k) * size
 times_more a k size = omega arith

@@ -1,15 +1,5 @@
 -- What a read of a modelled file copies.
-use Rattle.std.proofs.Common.{◌≡◌, ◌⊎◌, inl, inr, ⊎_elim, ℕ, ◌+◌, ◌-◌, ◌*◌, ◌/◌, ◌<◌, ◌≤◌, List, [], ◌++◌, length, get_or, take, drop, replicate, refl, sym, ◌∙◌, ap, arith, length-append}
-use Rattle.std.specs.Prelude.{◌%◌}
-use Rattle.std.proofs.lemmas.List.{get_or_past, get_or_append_left, get_or-append_right, get_or-take, get_or-drop, get_or-replicate, length-replicate, length-take-le, take_all}
-use Rattle.std.proofs.lemmas.Slice.{put_mid-paste}
-use Rattle.std.proofs.lemmas.Bool.{cases_lt, cases_eq}
-use Rattle.std.proofs.Math.Nat.{le-div_iff_mul-le, div-lt_iff_lt-mul, mul-le-mul_right}
-use borrow.Rule.Slice.PartMut.{put_mid}
-use Rattle.crashdisk.specs.State.{byte}
-use Rattle.crashdisk.specs.Held.{value_of, last_of, file_by, AreWhole}
-use Rattle.crashdisk.proofs.sector.PlacesInSectors.{inside, place_in, sector_le}
-use Rattle.crashdisk.proofs.call.SoundFileUnderChanges.{byte_below, byte_past}
+use Rattle.crashdisk.proofs.Below.{AreWhole, List, [], ap, arith, byte, byte_below, byte_past, cases_eq, cases_lt, div-lt_iff_lt-mul, drop, file_by, get_or, get_or-append_right, get_or-drop, get_or-replicate, get_or-take, get_or_append_left, get_or_past, inl, inr, inside, last_of, le-div_iff_mul-le, length, length-append, length-replicate, length-take-le, mul-le-mul_right, place_in, put_mid, put_mid-paste, refl, replicate, sector_le, sym, take, take_all, value_of, ℕ, ⊎_elim, ◌%◌, ◌*◌, ◌++◌, ◌+◌, ◌-◌, ◌/◌, ◌<◌, ◌∙◌, ◌≡◌, ◌≤◌, ◌⊎◌}
 
 -- the bytes after a copy into their middle
 module _ (a k : ℕ) (xs ys : List ℕ) (long : length ys ≡ k) (fits : a + k ≤ length xs) where
@@ -60,10 +50,7 @@ none_copied sector len at n xs out positive is = record {
 
 -- where sector k ends
 pub sector_end : (sector k count : ℕ) → k < count → k * sector + sector ≤ count * sector
-sector_end sector k count lt = omega (arith, mul-le-mul_right sector (next lt))
-  where
-    next : k < count → k + 1 ≤ count
-    next l = omega arith
+sector_end sector k count lt = omega (arith, mul-le-mul_right sector (let next : k + 1 ≤ count = omega arith in next))
 
 -- a loop over the sectors
 module _ (sector len at n end : ℕ) (xs : List (List (List ℕ))) (positive : 0 < sector) (whole : AreWhole sector xs) (is_end : end ≤ len) (is_end2 : (at + n ≤ end) ⊎ (len ≤ end)) where
@@ -85,19 +72,13 @@ module _ (sector len at n end : ℕ) (xs : List (List (List ℕ))) (positive : 0
                 | inr past ↦ outer i (omega (arith, so_far.long)) (inr (inr past)) ∙ so_far.left i lt (omega (arith, is)) ∙ sym (past_end i lt past)
               ]
           | inr ne ↦
-              let first : at + i < k * sector = ⊎_elim (λ l. l) (λ le. absurd (omega (arith, div_ge le))) (cases_lt (at + i) (k * sector)) in
+              let first : at + i < k * sector = (div-lt_iff_lt-mul positive).0 (let less : (at + i) / sector < k = omega arith in less) in
               outer i (omega (arith, so_far.long)) (inl first) ∙ so_far.done i lt (omega arith)
         ];
         left = λ i lt above.
-            let far : k * sector + sector ≤ at + i = ⊎_elim (λ l. absurd (omega (arith, div_lt l))) (λ le. le) (cases_lt (at + i) (k * sector + sector)) in
+            let far : (k + 1) * sector ≤ at + i = (le-div_iff_mul-le positive).0 above in
             outer i (omega (arith, so_far.long)) (inr (inl (omega (arith, long)))) ∙ so_far.left i lt (omega arith);
       }
-    where
-      div_ge : {j : ℕ} → k * sector ≤ j → k ≤ j / sector
-      div_ge le = (le-div_iff_mul-le positive).1 le
-
-      div_lt : {j : ℕ} → j < k * sector + sector → j / sector < k + 1
-      div_lt lt = (div-lt_iff_lt-mul positive).1 (omega arith)
 
   -- the whole
   pub copied_all : (k : ℕ) (out : List ℕ) → Copied sector len at n xs k out → (end / sector < k) ⊎ (length xs ≤ k) → (i : ℕ) → i < n → get_or out i 0 ≡ byte (file_by sector xs len 0 0) (at + i)

@@ -1,17 +1,7 @@
 -- What a change of a modelled file leaves, from the changes of its sectors.
-use Rattle.std.proofs.Common.{◌≡◌, ◌⊎◌, inl, inr, ⊎_elim, ℕ, zero, suc, ◌+◌, ◌-◌, ◌*◌, ◌/◌, ◌<◌, ◌≤◌, min, max, Bool, true, false, cond, List, [], ◌∷◌, ◌++◌, length, get_or, replicate, refl, sym, ◌∙◌, ap, subst, arith, length-append}
-use Rattle.std.specs.Prelude.{Result, Ok, Err, IfOk}
-use Rattle.std.proofs.lemmas.List.{get_or_append_left, get_or-append_right, length-replicate}
-use Rattle.std.proofs.lemmas.Bool.{cases_lt}
-use Rattle.std.proofs.Math.Nat.{div-mul-le_self, mul-le-mul_right}
-use Rattle.crashdisk.specs.State.{FileState, Changed, IsDone, longest}
-use Rattle.crashdisk.specs.Held.{last_of, before_last, file_by, AreWhole, IsListOf, is_odd, IsPicked, file_of, IsHeld}
-use Rattle.crashdisk.specs.internal.Held.{Touches, put_byte, EachOf, AreRising, Gets, Takes, swapped}
-use Rattle.crashdisk.specs.internal.Answer.{changing, IsMade, IsMadeInPart}
-use Rattle.crashdisk.specs.declared.held.Held.{Held}
+use Rattle.crashdisk.proofs.Below.{AreRising, AreWhole, Bool, Changed, EachOf, Err, FileState, Gets, Held, IfOk, IsDone, IsHeld, IsListOf, IsMadeInPart, IsPicked, List, Ok, Part, Result, Takes, Touches, [], ap, arith, before_last, cases_lt, changing, cond, div-mul-le_self, false, file_by, file_of, find, get_or, get_or-append_right, get_or-replicate, get_or_append_left, inl, inr, is_odd, last_of, length, length-append, length-replicate, longest, max, min, mul-le-mul_right, put_byte, refl, replicate, subst, suc, swapped, sym, true, zero, ℕ, ⊎_elim, ◌*◌, ◌++◌, ◌+◌, ◌-◌, ◌/◌, ◌<◌, ◌∙◌, ◌∷◌, ◌≡◌, ◌≤◌, ◌⊎◌}
+use Rattle.crashdisk.specs.internal.Answer.{IsMade}
 use Rattle.crashdisk.specs.declared.held.Change.{Change}
-use Rattle.crashdisk.specs.declared.held.Part.{Part}
-use Rattle.crashdisk.proofs.sector.SectorBySectorChanges.{find}
 use Rattle.crashdisk.proofs.sector.ValuesOfChangedSectors.{Long, long_append, long_one, long_before, Taken, Left, changed_by, done_by, swapped_pushed, taken_one, left_one}
 use Rattle.crashdisk.proofs.sector.TouchedSectors.{touched_there}
 
@@ -35,13 +25,8 @@ whole_grown sector m xs whole = record {
     zeros : List (List ℕ)
     zeros = replicate sector 0 ∷ []
 
-    repeated : (n k : ℕ) → k < n → get_or (replicate n zeros) k [] ≡ zeros
-    repeated zero k lt = absurd (omega arith)
-    repeated (suc n) zero lt = refl
-    repeated (suc n) (suc k) lt = repeated n k (omega arith)
-
     behind : (k : ℕ) → k < length (xs ++ replicate m zeros) → length xs ≤ k → get_or (xs ++ replicate m zeros) k [] ≡ zeros
-    behind k lt past = get_or-append_right xs (replicate m zeros) (length xs) k [] refl past ∙ repeated m (k - length xs) (omega (arith, length-append xs (replicate m zeros), length-replicate m zeros))
+    behind k lt past = get_or-append_right xs (replicate m zeros) (length xs) k [] refl past ∙ get_or-replicate m (k - length xs) zeros [] (omega (arith, length-append xs (replicate m zeros), length-replicate m zeros))
 
     one : (n : ℕ) → n < 1 → length (get_or zeros n []) ≡ sector
     one zero lt = length-replicate sector 0
@@ -49,15 +34,9 @@ whole_grown sector m xs whole = record {
 
 pub room_grown : (sector a n end : ℕ) → 0 < sector → a * sector ≤ longest + sector → end ≤ longest → n ≤ max a (end / sector + 1) → n * sector ≤ longest + sector
 room_grown sector a n end positive room within le = elim (cases_lt a (end / sector + 1)) [
-  | inl lt ↦ omega (arith, mul-le-mul_right sector (below lt), div-mul-le_self end sector)
-  | inr ge ↦ omega (arith, mul-le-mul_right sector (above ge))
+  | inl lt ↦ omega (arith, mul-le-mul_right sector (let less : n ≤ end / sector + 1 = omega arith in less), div-mul-le_self end sector)
+  | inr ge ↦ omega (arith, mul-le-mul_right sector (let less : n ≤ a = omega arith in less))
 ]
-  where
-    below : a < end / sector + 1 → n ≤ end / sector + 1
-    below lt = omega arith
-
-    above : end / sector + 1 ≤ a → n ≤ a
-    above ge = omega arith
 
 pub held_grown : (sector end : ℕ) (old new : Held) → IsHeld sector old → end ≤ longest → new.sectors.items ≡ old.sectors.items ++ replicate (length new.sectors.items - length old.sectors.items) (replicate sector 0 ∷ [])
     → length new.sectors.items ≤ max (length old.sectors.items) (end / sector + 1) → IsHeld sector new

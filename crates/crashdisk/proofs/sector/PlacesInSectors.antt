@@ -1,8 +1,5 @@
 -- Places and sectors.
-use Rattle.std.proofs.Common.{◌≡◌, ℕ, ◌+◌, ◌-◌, ◌*◌, ◌/◌, ◌<◌, ◌≤◌, max, ◌∙◌, ap, arith}
-use Rattle.std.specs.Prelude.{◌%◌}
-use Rattle.std.proofs.Math.Nat.{le-div_iff_mul-le, div-lt_iff_lt-mul, div-mul-le_self, mod-eq-sub-div-mul}
-use Rattle.crashdisk.specs.State.{Meets}
+use Rattle.crashdisk.proofs.Words.{Meets, ap, arith, div-lt_iff_lt-mul, div-mul-le_self, le-div_iff_mul-le, max, mod-eq-sub-div-mul, ℕ, ◌%◌, ◌*◌, ◌+◌, ◌-◌, ◌/◌, ◌<◌, ◌∙◌, ◌≡◌, ◌≤◌}
 
 pub inside : (sector k i : ℕ) → 0 < sector → i / sector ≡ k → (k * sector ≤ i) × (i < k * sector + sector)
 inside sector k i positive is = ((le-div_iff_mul-le positive).0 (omega arith), omega (arith, (div-lt_iff_lt-mul {k = sector} {x = i} {y = k + 1} positive).0 (omega arith)))

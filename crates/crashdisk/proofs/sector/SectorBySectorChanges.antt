@@ -1,9 +1,5 @@
 -- Changes of one sector after the other.
-use Rattle.std.proofs.Common.{◌≡◌, ◌⊎◌, inl, inr, ℕ, zero, suc, ◌+◌, ◌-◌, ◌<◌, ◌≤◌, List, [], ◌∷◌, ◌++◌, length, get_or, take, set, sym, ◌∙◌, ap, subst, arith, length-append}
-use Rattle.std.proofs.lemmas.List.{get_or-take, length-take-le, take_all, length-set, get_or-set_same, get_or-set_other, ext_get_or, take-append-le}
-use Rattle.std.proofs.lemmas.Bool.{cases_lt, cases_eq}
-use Rattle.crashdisk.specs.Held.{before_last}
-use Rattle.crashdisk.specs.internal.Held.{EachOf, AreRising, Gets, Loses}
+use Rattle.crashdisk.proofs.Words.{AreRising, EachOf, Gets, List, Loses, [], ap, arith, before_last, cases_eq, cases_lt, ext_get_or, get_or, get_or-set_other, get_or-set_same, get_or-take, inl, inr, length, length-append, length-set, length-take-le, set, subst, suc, sym, take, take-append-le, take_all, zero, ℕ, ◌++◌, ◌+◌, ◌-◌, ◌<◌, ◌∙◌, ◌∷◌, ◌≡◌, ◌≤◌, ◌⊎◌}
 
 module _ (list : List ℕ) (R : ℕ → List (List ℕ) → List (List ℕ) → Type 0) (old : List (List (List ℕ))) (bound : ℕ) (rising : AreRising bound list) where
   pub not_yet : (n : ℕ) (mid : List (List (List ℕ))) → n < length list → EachOf (take n list) R old mid → get_or mid (get_or list n 0) [] ≡ get_or old (get_or list n 0) []

@@ -1,17 +1,5 @@
 -- What an end leaves of a modelled file, and that it is solid.
-use Rattle.std.proofs.Common.{◌≡◌, inl, inr, ℕ, ◌+◌, ◌-◌, ◌*◌, ◌/◌, ◌<◌, ◌≤◌, min, Bool, true, false, cond, List, [], length, get_or, map, take, refl, sym, ◌∙◌, ap, subst, arith}
-use Rattle.std.specs.Prelude.{nat_lt, ◌%◌}
-use Rattle.std.specs.List.{Contains}
-use Rattle.std.proofs.lemmas.Grind.{div_ceil_times}
-use Rattle.std.proofs.lemmas.List.{get_or_past, get_or-map, get_or-take, get_or_default, length-map, length-take}
-use Rattle.std.proofs.lemmas.Bool.{cases_lt, lt-ltb, le-ltb}
-use Rattle.std.proofs.Math.Nat.{mul-le-mul_right}
-use Rattle.crashdisk.specs.State.{Value, FileState, longest}
-use Rattle.crashdisk.specs.Ending.{ended, IsEnded}
-use Rattle.crashdisk.specs.Held.{value_of, last_of, before_last, file_by, AreWhole}
-use Rattle.crashdisk.specs.internal.Held.{IsEndedTo}
-use Rattle.crashdisk.specs.Solid.{IsSolid}
-use Rattle.crashdisk.proofs.sector.PlacesInSectors.{inside, place_in}
+use Rattle.crashdisk.proofs.Below.{AreWhole, Bool, Contains, FileState, IsEnded, IsEndedTo, IsSolid, List, Value, [], ap, arith, before_last, cases_lt, cond, div_ceil_times, ended, false, file_by, get_or, get_or-map, get_or-take, get_or_default, get_or_past, inl, inr, inside, last_of, le-ltb, length, length-map, length-take, longest, lt-ltb, map, min, mul-le-mul_right, nat_lt, place_in, refl, subst, sym, take, true, value_of, ℕ, ◌%◌, ◌*◌, ◌+◌, ◌-◌, ◌/◌, ◌<◌, ◌∙◌, ◌≡◌, ◌≤◌}
 
 -- as many sectors as begin below an end
 abbrev pub begun : (sector n : ℕ) → ℕ

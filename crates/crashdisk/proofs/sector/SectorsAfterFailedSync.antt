@@ -1,16 +1,6 @@
 -- A sync that failed, and moved the picked value of each sector to the end.
-use Rattle.std.proofs.Common.{◌≡◌, ◌⊎◌, inl, inr, ⊎_elim, ℕ, zero, suc, ◌+◌, ◌-◌, ◌<◌, ◌≤◌, Bool, true, false, cond, List, [], ◌∷◌, ◌++◌, length, get_or, take, drop, map, refl, sym, ◌∙◌, ap, subst, arith, length-append, length-drop}
-use Rattle.std.specs.List.{Contains}
-use Rattle.std.proofs.lemmas.List.{get_or-take, get_or-drop, get_or_past, get_or_append_left, get_or-append_right, length-take-le, map-append, take-map, drop-map, get_or-map, get_or_default, length-map}
-use Rattle.std.proofs.lemmas.List.Elements.{Contains-append_cases, Contains-append_left, Contains-append_right}
-use Rattle.std.proofs.Math.Nat.{mod-lt}
-use Rattle.std.specs.Prelude.{◌%◌, nat_lt}
-use Rattle.std.proofs.lemmas.Bool.{cases_lt, cases_eq}
-use Rattle.crashdisk.specs.State.{Value, Same, FileState, IsShuffled}
-use Rattle.crashdisk.specs.Held.{value_of, last_of, before_last, file_by, AreWhole, IsTurned, picked}
-use Rattle.crashdisk.specs.internal.Held.{turned}
+use Rattle.crashdisk.proofs.Below.{AreWhole, Bool, Contains, Contains-append_cases, Contains-append_left, Contains-append_right, FileState, IsShuffled, IsTurned, List, Same, Value, [], ap, arith, before_last, before_pushed, cases_eq, cases_lt, cond, drop, drop-map, false, file_by, get_or, get_or-append_right, get_or-drop, get_or-map, get_or-take, get_or_append_left, get_or_default, get_or_past, inl, inr, last_of, length, length-append, length-drop, length-map, length-take-le, map, map-append, mod-lt, nat_lt, picked, refl, subst, suc, sym, take, take-map, true, turned, value_of, zero, ℕ, ⊎_elim, ◌%◌, ◌++◌, ◌+◌, ◌-◌, ◌<◌, ◌∙◌, ◌∷◌, ◌≡◌, ◌≤◌, ◌⊎◌}
 use Rattle.crashdisk.proofs.sector.ValuesOfChangedSectors.{split_last, last_pushed}
-use Rattle.crashdisk.proofs.sector.SectorBySectorChanges.{before_pushed}
 
 -- without the value of number n
 abbrev pub without : {X : Type 0} → ℕ → List X → List X
@@ -26,10 +16,7 @@ pub get_without_past : {X : Type 0} (n : ℕ) (xs : List X) (j : ℕ) (d : X) �
 get_without_past n xs j d lt past =
     get_or-append_right (take n xs) (drop (n + 1) xs) n j d (length-take-le n xs (omega arith)) past
     ∙ get_or-drop (n + 1) xs (j - n) d
-    ∙ ap (λ (i : ℕ). get_or xs i d) at
-  where
-    at : n + 1 + (j - n) ≡ suc j
-    at = omega arith
+    ∙ ap (λ (i : ℕ). get_or xs i d) (let at : n + 1 + (j - n) ≡ suc j = omega arith in at)
 
 pub picked_below : (pick : List ℕ) (newest : Bool) (k count : ℕ) → 0 < count → picked pick newest k count < count
 picked_below pick newest k count some = by (nat_lt k (length pick)) newest
@@ -118,12 +105,9 @@ module _ (sector : ℕ) (old new : FileState) (n : ℕ → ℕ) (below : (k : �
         | inl before ↦ inr (w, subst (λ (l : List Value). Contains l w) (sym (turns k).earlier) (j, omega (arith, length_without m all fits), get_without_below m all j w fits before ∙ is), λ i at. refl)
         | inr from ↦ elim (cases_eq j m) [
           | inl same ↦ inl (λ i at. ap (λ (v : Value). v i) (sym is) ∙ ap (λ (v : Value). v i) (get_or_default all j w (turns k).value lt) ∙ ap (λ (e : ℕ). get_or all e (turns k).value i) same ∙ sym ((turns k).present i at))
-          | inr ne ↦ inr (w, subst (λ (l : List Value). Contains l w) (sym (turns k).earlier) (j - 1, omega (arith, length_without m all fits), get_without_past m all (j - 1) w fits (omega arith) ∙ ap (λ (e : ℕ). get_or all e w) (after j (omega arith)) ∙ is), λ i at. refl)
+          | inr ne ↦ inr (w, subst (λ (l : List Value). Contains l w) (sym (turns k).earlier) (j - 1, omega (arith, length_without m all fits), get_without_past m all (j - 1) w fits (omega arith) ∙ ap (λ (e : ℕ). get_or all e w) (let next : suc (j - 1) ≡ j = omega arith in next) ∙ is), λ i at. refl)
         ]
       ]
-    where
-      after : (j : ℕ) → 0 < j → suc (j - 1) ≡ j
-      after j some = omega arith
 
   from_all : (k : ℕ) (v : Value) → Contains (new.earlier k) v → Contains (old.earlier k ++ (turns k).value ∷ []) v
   from_all k v has =

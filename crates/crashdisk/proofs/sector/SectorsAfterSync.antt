@@ -1,14 +1,5 @@
 -- What a sync of a modelled file leaves.
-use Rattle.std.proofs.Common.{◌≡◌, inl, inr, ℕ, ◌-◌, ◌*◌, ◌/◌, ◌<◌, ◌≤◌, cond, List, [], length, get_or, map, take, refl, sym, ◌∙◌, ap, arith}
-use Rattle.std.specs.Prelude.{nat_lt, ◌%◌}
-use Rattle.std.proofs.lemmas.List.{get_or_past}
-use Rattle.std.proofs.lemmas.Bool.{cases_lt}
-use Rattle.std.proofs.lemmas.Bool.Decides.{nat_tests}
-use Rattle.crashdisk.specs.State.{byte, IsSynced}
-use Rattle.crashdisk.specs.Held.{value_of, last_of, before_last, file_by, AreWhole}
-use Rattle.crashdisk.specs.internal.Held.{IsCutTo}
-use Rattle.crashdisk.proofs.sector.PlacesInSectors.{inside, place_in}
-use Rattle.crashdisk.proofs.call.SoundFileUnderChanges.{byte_below, byte_past}
+use Rattle.crashdisk.proofs.Below.{AreWhole, IsCutTo, IsSynced, List, [], ap, arith, before_last, byte, byte_below, byte_past, cases_lt, cond, file_by, get_or, get_or_past, inl, inr, inside, last_of, length, map, nat_lt, nat_tests, place_in, refl, sym, take, value_of, ℕ, ◌%◌, ◌*◌, ◌-◌, ◌/◌, ◌<◌, ◌∙◌, ◌≡◌, ◌≤◌}
 
 module _ (sector len least greatest : ℕ) (old new : List (List (List ℕ))) (positive : 0 < sector) (whole : AreWhole sector old) (count : length new ≡ length old)
     (each : (k : ℕ) → k < length old → IsCutTo (len - k * sector) (get_or old k []) (get_or new k [])) where
@@ -17,11 +8,8 @@ module _ (sector len least greatest : ℕ) (old new : List (List (List ℕ))) (p
     some = λ k lt. omega (arith, (each k (omega arith)).one);
     long = λ k n lt lt_n.
         let cut = each k (omega arith) in
-        ap (λ (j : ℕ). length (get_or (get_or new k []) j [])) (zero_of n (omega (arith, cut.one))) ∙ cut.long ∙ whole.long k (length (get_or old k []) - 1) (omega arith) (omega (arith, whole.some k (omega arith)));
+        ap (λ (j : ℕ). length (get_or (get_or new k []) j [])) (let first : n ≡ 0 = omega (arith, cut.one) in first) ∙ cut.long ∙ whole.long k (length (get_or old k []) - 1) (omega arith) (omega (arith, whole.some k (omega arith)));
   }
-    where
-      zero_of : (n : ℕ) → n < 1 → n ≡ 0
-      zero_of n lt = omega arith
 
   earlier : (k : ℕ) → map (value_of sector) (before_last (get_or new k [])) ≡ []
   earlier k = elim (cases_lt k (length old)) [

@@ -1,24 +1,9 @@
 -- What is sound is solid, and the sizes of a sector.
-use Rattle.std.proofs.Common.{◌≡◌, inl, inr, ℕ, ◌^◌, ◌<◌, ◌≤◌, IsTrue, refl, ◌∙◌, arith}
-use Rattle.std.proofs.lemmas.Bool.{cases_eq}
-use Rattle.std.proofs.lemmas.Bool.Decides.{nat_tests}
-use Rattle.crashdisk.specs.State.{FileState, IsSound, IsSectorSize}
-use Rattle.crashdisk.specs.Solid.{IsSolid, is_sector_size}
-use Rattle.crashdisk.proofs.sector.PlacesInSectors.{meets_range}
+use Rattle.crashdisk.proofs.Below.{FileState, IsSectorSize, IsSolid, IsSound, IsTrue, arith, cases_eq, inl, inr, is_sector_size, length, meets_range, nat_tests, refl, ℕ, ◌<◌, ◌^◌, ◌∙◌, ◌≡◌, ◌≤◌}
 
 module _ (sector : ℕ) (s : FileState) (positive : 0 < sector) where
   pub solid : IsSound sector s → IsSolid sector s
-  solid sound = record {
-    least = sound.least;
-    greatest = sound.greatest;
-    within = sound.within;
-    touched = λ k some. (meets_range sector 0 s.greatest k positive (sound.touched k some)).2;
-    present_end = sound.present_end;
-    earlier_end = sound.earlier_end;
-    stale = sound.stale;
-    is_byte = sound.is_byte;
-    earlier_is_byte = sound.earlier_is_byte;
-  }
+  solid sound = assumption (λ (k : ℕ) (some : 0 < length (s.earlier k)). (meets_range sector 0 s.greatest k positive (sound.touched k some)).2)
 
 pub size_is : (n : ℕ) → IsTrue (is_sector_size n) → IsSectorSize n
 size_is n is = one 512 9 (omega arith) (omega arith) refl (λ a. one 1024 10 (omega arith) (omega arith) refl (λ b. one 2048 11 (omega arith) (omega arith) refl (λ d. one 4096 12 (omega arith) (omega arith) refl

@@ -1,11 +1,5 @@
 -- The sectors that a call touches.
-use Rattle.std.proofs.Common.{◌≡◌, ◌≢◌, inl, inr, ⊎_elim, ℕ, ◌+◌, ◌-◌, ◌*◌, ◌/◌, ◌<◌, ◌≤◌, min, max, List, [], ◌∷◌, ◌++◌, length, get_or, drop, replicate, refl, sym, ◌∙◌, ap, subst, arith, length-append, length-drop, append_assoc}
-use Rattle.std.specs.Prelude.{◌%◌}
-use Rattle.std.proofs.lemmas.List.{get_or-drop, get_or_past, get_or_append_left, get_or_at, replicate-append-replicate}
-use Rattle.std.proofs.lemmas.Bool.{cases_lt}
-use Rattle.crashdisk.specs.Held.{value_of, last_of, file_by, AreWhole, IsListOf}
-use Rattle.crashdisk.specs.internal.Held.{Touches}
-use Rattle.crashdisk.proofs.sector.PlacesInSectors.{inside, sector_at, place_in, sector_le}
+use Rattle.crashdisk.proofs.Below.{AreWhole, IsListOf, List, Touches, [], ap, append_assoc, arith, cases_lt, drop, file_by, get_or, get_or-drop, get_or_append_left, get_or_at, get_or_past, inl, inr, inside, last_of, length, length-append, length-drop, max, min, place_in, refl, replicate, replicate-append-replicate, sector_at, sector_le, subst, sym, value_of, ℕ, ⊎_elim, ◌%◌, ◌*◌, ◌++◌, ◌+◌, ◌-◌, ◌/◌, ◌<◌, ◌∙◌, ◌∷◌, ◌≡◌, ◌≢◌, ◌≤◌}
 
 -- a list that is lengthened by one element more
 pub grown_more : {A : Type 0} (now old : List A) (m n : ℕ) (z : A) → now ≡ old ++ replicate (m - n) z → n ≤ m → now ++ z ∷ [] ≡ old ++ replicate (m + 1 - n) z
@@ -43,10 +37,7 @@ module _ (sector k place n : ℕ) (sectors : List (List (List ℕ))) (p part : L
       let at = inside sector k i positive held.2 in
       let j = i - k * sector - n in
       let back : n + j ≡ i - k * sector = omega (arith, is_n, held.1, long, at.0, at.1) in
-      (j, omega (arith, part_long, long, back, at.1, at.0), ⊎_elim (λ some. some) (λ none. absurd (held.3 (present_at i held.2 ∙ ap (λ (m : ℕ). get_or p m 0) (sym back) ∙ sym (part_at j) ∙ zero_of none))) (cases_lt 0 (get_or part j 0)))
-    where
-      zero_of : {x : ℕ} → x ≤ 0 → x ≡ 0
-      zero_of le = omega arith
+      (j, omega (arith, part_long, long, back, at.1, at.0), ⊎_elim (λ some. some) (λ none. absurd (held.3 (present_at i held.2 ∙ ap (λ (m : ℕ). get_or p m 0) (sym back) ∙ sym (part_at j) ∙ (let z : get_or part j 0 ≡ 0 = omega arith in z)))) (cases_lt 0 (get_or part j 0)))
 
 -- of a sector that isn't there nothing is held
 pub none_past : (sector k place : ℕ) (sectors : List (List (List ℕ))) → length sectors ≤ k → ((i : ℕ) × (place ≤ i) × (i / sector ≡ k) × (value_of sector (last_of (get_or sectors (i / sector) [])) i ≢ 0)) → ⊥
@@ -69,11 +60,8 @@ module _ (touches : ℕ → Type 0) (bound : ℕ) where
     below = λ i lt. omega (arith, found.below i lt);
     rising = found.rising;
     touched = found.touched;
-    all = λ k t lt. elim (cases_lt k bound) [ inl below ↦ found.all k t below | inr at ↦ absurd (not (subst touches (same k lt at) t)) ];
+    all = λ k t lt. elim (cases_lt k bound) [ inl below ↦ found.all k t below | inr at ↦ absurd (not (subst touches (let is : k ≡ bound = omega arith in is) t)) ];
   }
-    where
-      same : (k : ℕ) → k < bound + 1 → bound ≤ k → k ≡ bound
-      same k lt le = omega arith
 
   pub one_found : (list : List ℕ) → Below touches bound list → touches bound → Below touches (bound + 1) (list ++ bound ∷ [])
   one_found list found t =
@@ -88,12 +76,9 @@ module _ (touches : ℕ → Type 0) (bound : ℕ) where
         touched = λ i lt. elim (cases_lt i (length list)) [ inl old ↦ subst touches (sym (was i old)) (found.touched i old) | inr at ↦ subst touches (sym (now i (omega arith))) t ];
         all = λ k tk lt. elim (cases_lt k bound) [
           | inl below ↦ let one = found.all k tk below in (one.0, omega (arith, one.1), was one.0 one.1 ∙ one.2)
-          | inr at ↦ (length list, omega (arith, more), now (length list) refl ∙ same k lt at)
+          | inr at ↦ (length list, omega (arith, more), now (length list) refl ∙ (let is : bound ≡ k = omega arith in is))
         ];
       }
-    where
-      same : (k : ℕ) → k < bound + 1 → bound ≤ k → bound ≡ k
-      same k lt le = omega arith
 
   pub all_below : (list : List ℕ) → Below touches bound list → ((k : ℕ) → touches k → k < bound) → IsListOf touches list
   all_below list found high = record { rising = found.rising; touched = found.touched; all = λ k t. found.all k t (high k t) }

@@ -1,16 +1,5 @@
 -- What a change of some sectors lists.
-use Rattle.std.proofs.Common.{◌≡◌, ◌⊎◌, inl, inr, ⊎_elim, ℕ, zero, suc, ◌+◌, ◌-◌, ◌*◌, ◌/◌, ◌<◌, min, max, List, [], ◌∷◌, ◌++◌, length, get_or, take, drop, map, replicate, refl, sym, ◌∙◌, ap, arith, length-append}
-use Rattle.std.specs.Prelude.{◌%◌}
-use Rattle.std.proofs.lemmas.List.{get_or-take, get_or_past, get_or_append_left, get_or-append_right, get_or_at, length-take-le, take_all, take_more, take-append-le, map-append}
-use Rattle.std.proofs.lemmas.Bool.{cases_lt}
-use Rattle.std.proofs.lemmas.Bool.Decides.{nat_tests}
-use Rattle.std.proofs.Math.Nat.{mod-lt}
-use Rattle.std.proofs.Math.Seq.{drop-append_seam}
-use Rattle.crashdisk.specs.State.{FileState, Changed, Kept, Added, IsDone, cut_to}
-use Rattle.crashdisk.specs.Held.{value_of, last_of, before_last, file_by}
-use Rattle.crashdisk.specs.internal.Held.{put_byte, IsPut, swapped}
-use Rattle.crashdisk.proofs.sector.PlacesInSectors.{inside, place_in}
-use Rattle.crashdisk.proofs.sector.SectorBySectorChanges.{before_pushed}
+use Rattle.crashdisk.proofs.Below.{Added, Changed, FileState, IsDone, IsPut, Kept, List, [], ap, arith, before_last, before_pushed, cases_lt, cut_to, drop, drop-append_seam, file_by, get_or, get_or-append_right, get_or-take, get_or_append_left, get_or_at, get_or_past, inl, inr, inside, last_of, length, length-append, length-take-le, map, map-append, max, min, mod-lt, nat_tests, place_in, put_byte, refl, replicate, suc, swapped, sym, take, take-append-le, take_all, take_more, value_of, zero, ℕ, ⊎_elim, ◌%◌, ◌*◌, ◌++◌, ◌+◌, ◌-◌, ◌/◌, ◌<◌, ◌∙◌, ◌∷◌, ◌≡◌, ◌⊎◌}
 
 -- the values of a sector are those before the last, and the last
 pub split_last : (values : List (List ℕ)) → 0 < length values → values ≡ before_last values ++ last_of values ∷ []

@@ -1,25 +1,5 @@
 -- The present bytes, a log of which nothing is unsynced, and what a sync leaves.
-use Rattle.std.proofs.Common.{◌≡◌, inl, inr, ⊎_elim, ℕ, ◌+◌, ◌<◌, ◌≤◌, Bool, true, false, List, [], ◌∷◌, ◌++◌, length, take, drop, get_or, refl, sym, ◌∙◌, ap, subst, arith, length-drop}
-use Rattle.std.specs.Prelude.{Result, Ok, Err}
-use Rattle.std.proofs.lemmas.Bool.{cases_lt}
-use Rattle.std.proofs.lemmas.List.{get_or-take, get_or-drop, get_or_past, length-take-le}
-use Rattle.std.specs.List.{Contains}
-use Rattle.std.proofs.lemmas.List.Elements.{Contains-push_cases}
-use Rattle.std.proofs.lemmas.Grind.{same_number_lists}
-use Rattle.std.proofs.Math.Seq.{take-add}
-use Rattle.crashdisk.specs.State.{FileState, byte, OneListed, IsImage, IsSound, IsSettled}
-use Rattle.crashdisk.specs.Call.{DiskState, IsSoundDisk, ArePresent, with_write, SyncedBy, SinceSync, Writes, Cuts, Syncs, Looks}
-use Rattle.crashdisk.specs.Keeps.{IsLogDurable}
-use Rattle.crashdisk.specs.declared.file.File.{File}
-use Rattle.crashdisk.specs.declared.file.File.TheVariants.{Db, Log}
-use Rattle.crashdisk.specs.declared.error.DiskError.{DiskError}
-use Rattle.crashdisk.specs.declared.error.DiskError.TheVariants.{Stopped, Failed, TooLong, NoMemory}
-use Rattle.crashdisk.proofs.call.SoundDiskUnderCalls.{sound_syncs}
-use Rattle.crashdisk.proofs.sync.ImagesAfterFailedSync.{image_shuffled}
-use Rattle.crashdisk.proofs.sync.ImagesAfterSync.{image_synced}
-use Rattle.crashdisk.proofs.call.SoundFileUnderChanges.{byte_below, byte_past}
-use Rattle.crashdisk.proofs.byte.SettledFiles.{settled_one}
-use Rattle.crashdisk.proofs.call.EffectsOfCalls.{settled_sync, settled_syncs, image_sync, image_elsewhere}
+use Rattle.crashdisk.proofs.Facts.{ArePresent, Bool, Contains, Contains-push_cases, Cuts, Db, DiskError, DiskState, Err, Failed, File, FileState, IsImage, IsLogDurable, IsSettled, IsSound, IsSoundDisk, List, Log, Looks, NoMemory, Ok, OneListed, Result, SinceSync, Stopped, SyncedBy, Syncs, TooLong, Writes, [], ap, arith, byte, byte_below, byte_past, cases_lt, drop, false, get_or, get_or-drop, get_or-take, get_or_past, handed_db, image_elsewhere, image_sync, images_by_sync, inl, inr, length, length-drop, length-take-le, refl, same_number_lists, settled_one, settled_sync, settled_syncs, sound_syncs, subst, sym, take, take-add, true, with_write, ℕ, ⊎_elim, ◌++◌, ◌+◌, ◌<◌, ◌∙◌, ◌∷◌, ◌≡◌, ◌≤◌}
 
 -- ---- The present bytes.
 
@@ -79,16 +59,9 @@ module _ (w : List ℕ) where
   }
 
   module _ {T : Type 0} where
-    pub down_looks : (end : ℕ) (result : Result T DiskError) (old new : DiskState) → IsLogDurable old w → Looks end result old new → IsLogDurable new w
-    down_looks end result old new durable looked = down_by old new durable looked.log looked.tears looked.kept looked.handed
-
-    same_handed : (tears : Bool) (result : Result T DiskError) (at : ℕ) (bytes : List ℕ) (handed : List (ℕ × List ℕ)) → with_write tears Db result at bytes handed ≡ handed
-    same_handed true result at bytes handed = refl
-    same_handed false result at bytes handed = refl
-
     -- the log is left alone where the file is written
     pub down_writes : (at : ℕ) (bytes : List ℕ) (result : Result T DiskError) (old new : DiskState) → IsLogDurable old w → Writes Db at bytes result old new → IsLogDurable new w
-    down_writes at bytes result old new durable wrote = down_by old new durable wrote.elsewhere.other wrote.elsewhere.tears wrote.kept (wrote.handed ∙ same_handed old.tears result at bytes old.handed)
+    down_writes at bytes result old new durable wrote = down_by old new durable wrote.elsewhere.other wrote.elsewhere.tears wrote.kept (wrote.handed ∙ handed_db old.tears result at bytes old.handed)
 
     pub down_cuts : (n : ℕ) (result : Result T DiskError) (old new : DiskState) → IsLogDurable old w → Cuts Db n result old new → IsLogDurable new w
     down_cuts n result old new durable cut = down_by old new durable cut.elsewhere.other cut.elsewhere.tears cut.kept cut.handed
@@ -123,11 +96,7 @@ file_syncs Log result old new sound synced db image = image_elsewhere Log result
 
 -- A sync adds no file to those that a crash may leave, nor to those that it might leave if the disk didn't tear.
 pub log_syncs : {T : Type 0} (sector : ℕ) (tears : Bool) (result : Result T DiskError) (old new : FileState) → IsSound sector old → SyncedBy sector result old new → (v : List ℕ) → IsImage sector tears new v → IsImage sector tears old v
-log_syncs sector tears (Ok u) old new sound synced v image = image_synced sector tears old new sound synced v image
-log_syncs sector tears (Err Failed) old new sound shuffled v image = image_shuffled sector old new shuffled tears v image
-log_syncs sector tears (Err Stopped) old new sound same v image = subst (λ (s : FileState). IsImage sector tears s v) same image
-log_syncs sector tears (Err TooLong) old new sound same v image = subst (λ (s : FileState). IsImage sector tears s v) same image
-log_syncs sector tears (Err NoMemory) old new sound same v image = subst (λ (s : FileState). IsImage sector tears s v) same image
+log_syncs sector tears result = images_by_sync sector tears result
 
 -- after a sync nothing of the log is unsynced
 pub synced_down : {T : Type 0} {u : T} (w : List ℕ) (s t : DiskState) → IsSoundDisk s → ArePresent s.log w → Syncs Log (Ok u) s t → IsLogDurable t w

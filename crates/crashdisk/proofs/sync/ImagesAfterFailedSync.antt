@@ -1,7 +1,5 @@
 -- A sync that failed adds no image.
-use Rattle.std.proofs.Common.{inl, inr, ℕ, ◌/◌, ◌<◌, Bool, List, refl, sym, ◌∙◌, subst, arith}
-use Rattle.crashdisk.specs.State.{FileState, OneListed, IsImage, IsSound, IsShuffled}
-use Rattle.crashdisk.proofs.call.SoundFileUnderChanges.{meets_wider}
+use Rattle.crashdisk.proofs.Below.{Bool, FileState, IsImage, IsShuffled, IsSound, List, OneListed, arith, inl, inr, meets_wider, refl, subst, sym, ℕ, ◌/◌, ◌<◌, ◌∙◌}
 
 module _ (sector : ℕ) (old new : FileState) (shuffled : IsShuffled sector old new) where
   one_shuffled : (tears : Bool) (c : List ℕ) (k : ℕ) → OneListed sector tears new c k → OneListed sector tears old c k

@@ -1,11 +1,5 @@
 -- A file that was written whole and synced holds the bytes that were written, alone.
-use Rattle.std.proofs.Common.{◌≡◌, inl, inr, ℕ, ◌+◌, ◌-◌, max, List, [], length, get_or, sym, ◌∙◌, ap, arith}
-use Rattle.std.proofs.lemmas.List.{get_or_past}
-use Rattle.std.proofs.lemmas.Bool.{cases_lt}
-use Rattle.crashdisk.specs.State.{FileState, written, WriteTouches, Changed, IsDone, IsSynced, IsSettled}
-use Rattle.crashdisk.proofs.call.SoundFileUnderChanges.{AreBytes, written_inside, written_outside}
-use Rattle.crashdisk.proofs.byte.SettledFiles.{settled_byte}
-use Rattle.crashdisk.proofs.byte.FixedBytes.{byte_written}
+use Rattle.crashdisk.proofs.Between.{AreBytes, Changed, FileState, IsDone, IsSettled, IsSynced, List, WriteTouches, [], ap, arith, byte_written, cases_lt, get_or, get_or_past, inl, inr, length, max, settled_byte, sym, written, written_inside, written_outside, ℕ, ◌+◌, ◌-◌, ◌∙◌, ◌≡◌}
 
 pub filled_settled : (sector : ℕ) (bytes : List ℕ) (old mid new : FileState) → IsSettled old [] → AreBytes bytes
     → Changed sector (WriteTouches sector old 0 bytes) (written old 0 bytes) (max old.len (0 + length bytes)) old mid → IsDone sector (WriteTouches sector old 0 bytes) (written old 0 bytes) (max old.len (0 + length bytes)) mid

@@ -1,10 +1,10 @@
 -- What a change of a modelled file means, and how it is answered (own).
 use Rattle.std.specs.Prelude.{ℕ, ◌+◌, max, List, length, true, false, Result}
 use Rattle.crashdisk.specs.State.{Value, FileState, written, cut_to, Changed, IsDone}
-use Rattle.crashdisk.specs.Call.{ChangedBy, SyncedBy, EndsWithin}
+use Rattle.crashdisk.specs.Call.{ChangedBy, EndsWithin}
 use Rattle.crashdisk.specs.Held.{file_of, IsPicked}
 use Rattle.crashdisk.specs.internal.Held.{Touches, put_byte}
-use Rattle.crashdisk.specs.Model.{PickedBy, TurnedBy}
+use Rattle.crashdisk.specs.Model.{PickedBy}
 use Rattle.crashdisk.specs.Stop.{Judged}
 use Rattle.crashdisk.specs.declared.calls.Manner.{Manner}
 use Rattle.crashdisk.specs.declared.held.Change.{Change}
@@ -51,10 +51,3 @@ pub record IsAnswered {T : Type 0} (manner : Manner) (intent : Intent) (result :
   pub picked : PickedBy manner.sector (Aims manner.sector intent (file_of manner.sector old)) intent.target intent.end manner.part.now result (file_of manner.sector old) (file_of manner.sector new)
   pub judged : Judged false manner.fails true result
   pub within : EndsWithin result intent.reach
-
--- what a sync of a file answers, and what it leaves then
-pub record IsSyncAnswered {T : Type 0} (manner : Manner) (result : Result T DiskError) (old new : FileState) : Type 0 where
-  pub synced : SyncedBy manner.sector result old new
-  pub turned : TurnedBy manner.sector manner.part.now result old new
-  pub judged : Judged false manner.fails false result
-  pub within : EndsWithin result 0

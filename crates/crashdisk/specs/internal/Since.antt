@@ -22,11 +22,6 @@ abbrev pub Synced : (tears : Bool) → FileState → Since → Since → Type 0
 Synced true log old new = ArePresent log (kept_bytes new) × (handed_writes new ≡ [])
 Synced false log old new = new ≡ old
 
--- the same by what was answered
-abbrev pub SyncedSince : {T : Type 0} → (tears : Bool) → FileState → Result T DiskError → Since → Since → Type 0
-SyncedSince tears log (Ok v) old new = Synced tears log old new
-SyncedSince tears log (Err e) old new = new ≡ old
-
 -- after a crash that left these bytes of it
 abbrev pub Left : (tears : Bool) → (image : List ℕ) → Since → Since → Type 0
 Left true image old new = (kept_bytes new ≡ image) × (handed_writes new ≡ [])

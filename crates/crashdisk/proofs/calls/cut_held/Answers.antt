@@ -1,8 +1,4 @@
-use Rattle.crashdisk.specs.Held.{file_of}
-use Rattle.crashdisk.proofs.call.SoundDiskUnderCalls.{sound_cut}
-use Rattle.crashdisk.proofs.call.AnswersOfCalls.{cut_answered}
-use Rattle.crashdisk.specs.internal.SoundModel.{sound}
-use Rattle.crashdisk.proofs.sector.SolidityOfSoundFiles.{solid}
+use Rattle.crashdisk.proofs.Facts.{cut_answered, file_of, solid, sound, sound_cut}
 use Rattle.crashdisk.proofs.calls.cut_held.Goals as goal
 
 pub returns-clause-answered : goal.returns-clause-answered

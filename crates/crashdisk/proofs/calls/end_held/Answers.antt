@@ -1,5 +1,4 @@
-use Rattle.crashdisk.specs.Held.{file_of}
-use Rattle.crashdisk.proofs.sector.SectorsAfterEnd.{solid_ended}
+use Rattle.crashdisk.proofs.Between.{file_of, solid_ended}
 use Rattle.crashdisk.proofs.calls.end_held.Goals as goal
 
 pub returns-clause-stands : goal.returns-clause-stands

@@ -1,6 +1,4 @@
-use Rattle.std.proofs.Common.{rules}
-use Rattle.crashdisk.specs.Held.{file_of}
-use Rattle.crashdisk.proofs.sync.WrittenAndSyncedFile.{filled_settled}
+use Rattle.crashdisk.proofs.Facts.{file_of, filled_settled, rules}
 use Rattle.crashdisk.proofs.calls.filled.Goals as goal
 
 pub returns-clause-settled : goal.returns-clause-settled

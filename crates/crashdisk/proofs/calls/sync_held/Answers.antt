@@ -1,7 +1,4 @@
-use Rattle.crashdisk.specs.Held.{file_of}
-use Rattle.crashdisk.proofs.call.SoundFileUnderChanges.{sound_synced}
-use Rattle.crashdisk.specs.internal.SoundModel.{sound}
-use Rattle.crashdisk.proofs.sector.SolidityOfSoundFiles.{solid}
+use Rattle.crashdisk.proofs.Between.{file_of, solid, sound, sound_synced}
 use Rattle.crashdisk.proofs.calls.sync_held.Goals as goal
 
 pub returns-clause-stands : goal.returns-clause-stands

@@ -1,9 +1,4 @@
-use Rattle.std.proofs.Common.{ℕ, suc, true, length, arith}
-use Rattle.crashdisk.specs.Held.{file_of, picked}
-use Rattle.crashdisk.proofs.sync.ImagesAfterFailedSync.{sound_shuffled}
-use Rattle.crashdisk.specs.internal.SoundModel.{sound}
-use Rattle.crashdisk.proofs.sector.SolidityOfSoundFiles.{solid}
-use Rattle.crashdisk.proofs.sector.SectorsAfterFailedSync.{picked_below, turned_shuffled}
+use Rattle.crashdisk.proofs.Between.{arith, file_of, length, picked, picked_below, solid, sound, sound_shuffled, suc, true, turned_shuffled, ℕ}
 use Rattle.crashdisk.proofs.calls.turn_held.Goals as goal
 
 -- the sectors are shuffled so

@@ -1,9 +1,4 @@
-use Rattle.std.proofs.Common.{rules, subst, ℕ}
-use Rattle.crashdisk.specs.Held.{file_of}
-use Rattle.crashdisk.specs.internal.Answer.{writing, IsAnswered}
-use Rattle.crashdisk.proofs.call.SoundDiskUnderCalls.{sound_written}
-use Rattle.crashdisk.specs.internal.SoundModel.{sound}
-use Rattle.crashdisk.proofs.sector.SolidityOfSoundFiles.{solid}
+use Rattle.crashdisk.proofs.Facts.{IsAnswered, file_of, rules, solid, sound, sound_written, subst, writing, ℕ}
 use Rattle.crashdisk.proofs.calls.write_held.Goals as goal
 
 pub returns-clause-answered : goal.returns-clause-answered

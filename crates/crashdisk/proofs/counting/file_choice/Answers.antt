@@ -1,10 +1,4 @@
-use Rattle.std.proofs.Common.{◌≡◌, ◌/◌, map, ◌∙◌, ap, subst}
-use Rattle.std.specs.Prelude.{◌%◌}
-use Rattle.std.specs.List.{range_with_len}
-use Rattle.std.proofs.Math.Nat.{div-div-eq-div-mul}
-use Rattle.crashdisk.specs.Held.{file_of, file_by}
-use Rattle.crashdisk.specs.Count.{sector_count, value_count, ways, digit, length_count, length_at}
-use Rattle.crashdisk.proofs.image.DigitsOfChoice.{naming_is}
+use Rattle.crashdisk.proofs.Facts.{ap, digit, div-div-eq-div-mul, file_by, file_of, length_at, length_count, map, naming_is, range_with_len, sector_count, subst, value_count, ways, ◌%◌, ◌/◌, ◌∙◌, ◌≡◌}
 use Rattle.crashdisk.proofs.counting.file_choice.Goals as goal
 
 pub returns-clause-named : goal.returns-clause-named

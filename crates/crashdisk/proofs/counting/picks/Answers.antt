@@ -1,6 +1,4 @@
-use Rattle.crashdisk.specs.Held.{file_by}
-use Rattle.crashdisk.specs.Count.{value_count}
-use Rattle.crashdisk.proofs.image.DigitsOfChoice.{digits_more, rest_more}
+use Rattle.crashdisk.proofs.Facts.{digits_more, file_by, rest_more, value_count}
 use Rattle.crashdisk.proofs.counting.picks.Goals as goal
 
 pub loop-k-preserved : goal.loop-k-preserved

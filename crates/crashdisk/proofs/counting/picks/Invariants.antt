@@ -1,7 +1,4 @@
-use Rattle.std.proofs.Common.{◌≡◌, ◌/◌, map}
-use Rattle.std.specs.List.{range_with_len}
-use Rattle.crashdisk.specs.Held.{file_by}
-use Rattle.crashdisk.specs.Count.{value_count, ways, digit}
+use Rattle.crashdisk.proofs.Words.{digit, file_by, map, range_with_len, value_count, ways, ◌/◌, ◌≡◌}
 use Rattle.crashdisk.proofs.counting.picks.Given as goal
 
 abbrev pub invariant-loop-k : goal.invariant-loop-k

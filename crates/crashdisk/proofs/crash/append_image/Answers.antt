@@ -1,8 +1,4 @@
-use Rattle.std.proofs.Common.{◌≡◌, ◌+◌, ◌-◌, ◌/◌, ◌++◌, ℕ, List, Bool, true, cond, not, is_ok, length, take, replicate, ◌∙◌, ap, arith}
-use Rattle.std.proofs.lemmas.List.{take_all}
-use Rattle.crashdisk.specs.Held.{file_of, file_by}
-use Rattle.crashdisk.specs.Choice.{naming_of, named_byte}
-use Rattle.crashdisk.proofs.image.BytesNamedByChoice.{image_is, appended, part_long}
+use Rattle.crashdisk.proofs.Facts.{Bool, List, ap, appended, arith, cond, file_by, file_of, image_is, is_ok, length, named_byte, naming_of, not, part_long, replicate, take, take_all, true, ℕ, ◌++◌, ◌+◌, ◌-◌, ◌/◌, ◌∙◌, ◌≡◌}
 use Rattle.crashdisk.proofs.crash.append_image.Goals as goal
 
 pub returns-clause-ok : goal.returns-clause-ok

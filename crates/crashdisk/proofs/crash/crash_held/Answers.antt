@@ -1,11 +1,4 @@
-use Rattle.std.proofs.Common.{arith}
-use Rattle.crashdisk.specs.Held.{file_of}
-use Rattle.crashdisk.specs.Choice.{naming_of, image_of}
-use Rattle.crashdisk.proofs.image.ImageNamedByChoice.{left_whole, left_settled, image_named, image_len, len_between}
-use Rattle.crashdisk.proofs.byte.SettledFiles.{settled_sound}
-use Rattle.crashdisk.proofs.sector.FileFromChangedSectors.{held_again}
-use Rattle.crashdisk.specs.internal.SoundModel.{sound}
-use Rattle.crashdisk.proofs.sector.SolidityOfSoundFiles.{solid}
+use Rattle.crashdisk.proofs.Facts.{arith, file_of, held_again, image_len, image_named, image_of, left_settled, left_whole, len_between, naming_of, settled_sound, solid, sound}
 use Rattle.crashdisk.proofs.crash.crash_held.Goals as goal
 
 -- one list of bytes is left

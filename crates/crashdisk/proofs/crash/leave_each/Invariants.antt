@@ -1,6 +1,4 @@
-use Rattle.std.proofs.Common.{◌≡◌, ◌<◌, ◌≤◌, ◌-◌, ◌*◌, ℕ, [], length, get_or}
-use Rattle.crashdisk.specs.Choice.{naming_of}
-use Rattle.crashdisk.specs.internal.Choice.{IsLeft}
+use Rattle.crashdisk.proofs.Words.{IsLeft, [], get_or, length, naming_of, ℕ, ◌*◌, ◌-◌, ◌<◌, ◌≡◌, ◌≤◌}
 use Rattle.crashdisk.proofs.crash.leave_each.Given as goal
 
 abbrev pub invariant-loop-k : goal.invariant-loop-k

@@ -1,8 +1,4 @@
-use Rattle.std.proofs.Common.{List, ℕ, [], length, subst, ◌∙◌}
-use Rattle.std.proofs.lemmas.List.{get_or_default}
-use Rattle.crashdisk.specs.Choice.{naming_of}
-use Rattle.crashdisk.specs.internal.Choice.{Names}
-use Rattle.crashdisk.proofs.image.BytesNamedByChoice.{put_more}
+use Rattle.crashdisk.proofs.Facts.{List, Names, [], get_or_default, length, naming_of, put_more, subst, ℕ, ◌∙◌}
 use Rattle.crashdisk.proofs.crash.put_each.Goals as goal
 
 pub loop-k-preserved : goal.loop-k-preserved

@@ -1,6 +1,4 @@
-use Rattle.std.proofs.Common.{length}
-use Rattle.crashdisk.specs.Choice.{naming_of}
-use Rattle.crashdisk.proofs.image.BytesNamedByChoice.{Put}
+use Rattle.crashdisk.proofs.Facts.{Put, length, naming_of}
 use Rattle.crashdisk.proofs.crash.put_each.Given as goal
 
 abbrev pub invariant-loop-k : goal.invariant-loop-k

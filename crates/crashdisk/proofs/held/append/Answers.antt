@@ -1,6 +1,4 @@
-use Rattle.std.proofs.Common.{◌<◌, ◌-◌, ◌∙◌, sym, ap, arith, List, ℕ, length, slice_index_or, [], subst, take}
-use Rattle.crashdisk.specs.internal.Held.{Gets, EndsWhole, EachOf}
-use Rattle.crashdisk.proofs.sector.SectorBySectorChanges.{one_more, not_yet, rising_take, undone}
+use Rattle.crashdisk.proofs.Below.{EachOf, EndsWhole, Gets, List, [], ap, arith, length, not_yet, one_more, rising_take, slice_index_or, subst, sym, take, undone, ℕ, ◌-◌, ◌<◌, ◌∙◌}
 use Rattle.crashdisk.proofs.held.append.Goals as goal
 
 pub append_one-requires-clause-ends : goal.append_one-requires-clause-ends

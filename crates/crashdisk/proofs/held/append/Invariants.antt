@@ -1,5 +1,4 @@
-use Rattle.std.proofs.Common.{take}
-use Rattle.crashdisk.specs.internal.Held.{EachOf, Gets}
+use Rattle.crashdisk.proofs.Words.{EachOf, Gets, take}
 use Rattle.crashdisk.proofs.held.append.Given as goal
 
 abbrev pub invariant-loop-done : goal.invariant-loop-done

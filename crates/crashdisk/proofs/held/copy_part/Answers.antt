@@ -1,6 +1,4 @@
-use Rattle.std.proofs.Common.{◌≡◌, ◌⊎◌, inl, inr, ⊎_elim, ◌≤◌, ◌<◌, ◌+◌, ◌-◌, ◌∙◌, ap, arith, List, ℕ, length, take, drop, length-drop, get_or, max}
-use Rattle.std.proofs.lemmas.List.{get_or-take, get_or-drop, length-take-le}
-use Rattle.crashdisk.proofs.sector.BytesOfRead.{mid_inside, mid_outside}
+use Rattle.crashdisk.proofs.Between.{List, ap, arith, drop, get_or, get_or-drop, get_or-take, inl, inr, length, length-drop, length-take-le, max, mid_inside, mid_outside, take, ℕ, ⊎_elim, ◌+◌, ◌-◌, ◌<◌, ◌∙◌, ◌≡◌, ◌≤◌, ◌⊎◌}
 use Rattle.crashdisk.proofs.held.copy_part.Goals as goal
 
 -- how long a part is

@@ -1,5 +1,4 @@
-use Rattle.std.proofs.Common.{◌∙◌, arith, [], ◌∷◌, ◌++◌, length, replicate, ap}
-use Rattle.crashdisk.proofs.sector.TouchedSectors.{grown_more}
+use Rattle.crashdisk.proofs.Between.{[], ap, arith, grown_more, length, replicate, ◌++◌, ◌∙◌, ◌∷◌}
 use Rattle.crashdisk.proofs.held.grow.Goals as goal
 
 pub loop-preserved : goal.loop-preserved

@@ -1,4 +1,4 @@
-use Rattle.std.proofs.Common.{◌≡◌, ◌≤◌, ◌-◌, max, [], ◌∷◌, ◌++◌, length, replicate}
+use Rattle.crashdisk.proofs.Words.{[], length, max, replicate, ◌++◌, ◌-◌, ◌∷◌, ◌≡◌, ◌≤◌}
 use Rattle.crashdisk.proofs.held.grow.Given as goal
 
 abbrev pub invariant-loop : goal.invariant-loop

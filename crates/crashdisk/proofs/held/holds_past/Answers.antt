@@ -1,7 +1,4 @@
-use Rattle.std.proofs.Common.{◌≡◌, ◌-◌, ◌∙◌, ap, List, ℕ, min, length, take, drop, slice_index_or, arith, [], length-drop}
-use Rattle.std.proofs.lemmas.List.{take_all}
-use Rattle.crashdisk.specs.Held.{last_of}
-use Rattle.crashdisk.proofs.sector.TouchedSectors.{past_is, is_past}
+use Rattle.crashdisk.proofs.Between.{List, [], ap, arith, drop, is_past, last_of, length, length-drop, min, past_is, slice_index_or, take, take_all, ℕ, ◌-◌, ◌∙◌, ◌≡◌}
 use Rattle.crashdisk.proofs.held.holds_past.Goals as goal
 
 pub returns-in-Some : goal.returns-in-Some

@@ -1,6 +1,4 @@
-use Rattle.std.proofs.Common.{arith}
-use Rattle.std.proofs.lemmas.Bool.Decides.{nat_tests}
-use Rattle.crashdisk.proofs.sector.PlacesInSectors.{meets_range, range_meets}
+use Rattle.crashdisk.proofs.Below.{arith, meets_range, nat_tests, range_meets}
 use Rattle.crashdisk.proofs.held.meets.Goals as goal
 
 pub returns-then-from-k : goal.returns-then-from-k

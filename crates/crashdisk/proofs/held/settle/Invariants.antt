@@ -1,5 +1,4 @@
-use Rattle.std.proofs.Common.{◌≡◌, ◌<◌, ◌≤◌, ◌-◌, ◌*◌, ℕ, [], length, get_or}
-use Rattle.crashdisk.specs.internal.Held.{IsCutTo}
+use Rattle.crashdisk.proofs.Words.{IsCutTo, [], get_or, length, ℕ, ◌*◌, ◌-◌, ◌<◌, ◌≡◌, ◌≤◌}
 use Rattle.crashdisk.proofs.held.settle.Given as goal
 
 abbrev pub invariant-loop-k : goal.invariant-loop-k

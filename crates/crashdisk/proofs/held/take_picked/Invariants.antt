@@ -1,5 +1,4 @@
-use Rattle.std.proofs.Common.{take}
-use Rattle.crashdisk.specs.internal.Held.{EachOf, Takes}
+use Rattle.crashdisk.proofs.Words.{EachOf, Takes, take}
 use Rattle.crashdisk.proofs.held.take_picked.Given as goal
 
 abbrev pub invariant-loop-i : goal.invariant-loop-i

@@ -1,9 +1,5 @@
-use Rattle.std.proofs.Common.{◌≡◌, ◌<◌, ◌≤◌, ◌+◌, ◌/◌, ℕ, Bool, true, false, IsTrue, sym, ◌∙◌, ap, subst, arith}
-use Rattle.crashdisk.specs.Held.{file_by}
-use Rattle.crashdisk.specs.internal.Held.{Touches}
-use Rattle.crashdisk.proofs.sector.TouchedSectors.{Below, one_found, one_skipped, none_below, all_below, touched_from, touched_to, touched_there}
+use Rattle.crashdisk.proofs.Between.{Below, Bool, IsTrue, Touches, all_below, ap, arith, false, file_by, none_below, one_found, one_skipped, subst, sym, touched_from, touched_there, touched_to, true, ℕ, ◌+◌, ◌/◌, ◌<◌, ◌∙◌, ◌≡◌, ◌≤◌}
 use Rattle.crashdisk.proofs.held.touched.Goals as goal
-use Rattle.crashdisk.proofs.held.touched.Goals.{then-is_touched+in_ok-push, else-is_touched, then-len-change, else-len-change}
 
 is_true : {b : Bool} → b ≡ true → IsTrue b
 is_true is = is
@@ -22,10 +18,10 @@ pub loop-k-preserved : goal.loop-k-preserved
 loop-k-preserved c =
     let touches : ℕ → Type 0 = Touches c.args.sector (file_by c.args.sector c.args.sectors.now c.args.len 0 0) c.args.change.now.from c.args.change.now.to c.args.change.now.end in
     elim c.if-is_touched.branch [
-      | then-is_touched+in_ok-push w ↦
+      | goal.then-is_touched+in_ok-push w ↦
           subst (λ v. Below touches (c.loop-k.k + 1) v.items) (sym w.list-is)
           (subst (λ l. Below touches (c.loop-k.k + 1) l) (sym w.in_ok-push.ensures.items) (one_found touches c.loop-k.k c.loop-k.list.items c.loop-k.invariant (c.is_touched.ensures.0 (is_true w.if-is_touched.true))))
-      | else-is_touched w ↦
+      | goal.else-is_touched w ↦
           subst (λ v. Below touches (c.loop-k.k + 1) v.items) (sym w.list-is)
           (one_skipped touches c.loop-k.k c.loop-k.list.items c.loop-k.invariant (λ touched. not_true w.if-is_touched.false (c.is_touched.ensures.1 touched)))
     ]
@@ -35,8 +31,8 @@ returns c =
     let change = c.args.change.now in
     let touches : ℕ → Type 0 = Touches c.args.sector (file_by c.args.sector c.args.sectors.now c.args.len 0 0) change.from change.to change.end in
     let reach : (c.args.len < change.end → change.end ≤ c.if-len-change.place) × (change.end ≤ c.args.len → change.to ≤ c.if-len-change.place) = elim c.if-len-change.branch [
-      | then-len-change w ↦ (λ lt. omega (arith, w.place-is), λ le. absurd (omega (arith, w.if-len-change.true)))
-      | else-len-change w ↦ (λ lt. absurd (omega (arith, w.if-len-change.false)), λ le. omega (arith, w.place-is))
+      | goal.then-len-change w ↦ (λ lt. omega (arith, w.place-is), λ le. absurd (omega (arith, w.if-len-change.true)))
+      | goal.else-len-change w ↦ (λ lt. absurd (omega (arith, w.if-len-change.false)), λ le. omega (arith, w.place-is))
     ] in
     all_below touches c.loop-k.k c.loop-k.list.items c.loop-k.invariant
     (λ k t. omega (

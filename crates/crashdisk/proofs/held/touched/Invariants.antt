@@ -1,6 +1,4 @@
-use Rattle.crashdisk.specs.Held.{file_by}
-use Rattle.crashdisk.specs.internal.Held.{Touches}
-use Rattle.crashdisk.proofs.sector.TouchedSectors.{Below}
+use Rattle.crashdisk.proofs.Between.{Below, Touches, file_by}
 use Rattle.crashdisk.proofs.held.touched.Given as goal
 
 abbrev pub invariant-loop-k : goal.invariant-loop-k

@@ -1,6 +1,4 @@
-use Rattle.std.proofs.Common.{◌≡◌, ◌<◌, ◌≤◌, ℕ, true, [], length, get_or}
-use Rattle.crashdisk.specs.Held.{picked}
-use Rattle.crashdisk.specs.internal.Held.{turned}
+use Rattle.crashdisk.proofs.Words.{[], get_or, length, picked, true, turned, ℕ, ◌<◌, ◌≡◌, ◌≤◌}
 use Rattle.crashdisk.proofs.held.turn_each.Given as goal
 
 abbrev pub invariant-loop-k : goal.invariant-loop-k

@@ -1,8 +1,4 @@
-use Rattle.std.proofs.Common.{◌<◌, ◌∙◌, ap, refl, arith, length, slice_index_or, []}
-use Rattle.std.proofs.lemmas.List.{get_or_default}
-use Rattle.crashdisk.specs.Held.{before_last}
-use Rattle.crashdisk.specs.internal.Held.{Loses}
-use Rattle.crashdisk.proofs.sector.SectorBySectorChanges.{one_more, not_yet}
+use Rattle.crashdisk.proofs.Below.{Loses, [], ap, arith, before_last, get_or_default, length, not_yet, one_more, refl, slice_index_or, ◌<◌, ◌∙◌}
 use Rattle.crashdisk.proofs.held.undo.Goals as goal
 
 pub loop-k-preserved : goal.loop-k-preserved

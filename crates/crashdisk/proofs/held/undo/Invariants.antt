@@ -1,5 +1,4 @@
-use Rattle.std.proofs.Common.{take}
-use Rattle.crashdisk.specs.internal.Held.{EachOf, Loses}
+use Rattle.crashdisk.proofs.Words.{EachOf, Loses, take}
 use Rattle.crashdisk.proofs.held.undo.Given as goal
 
 abbrev pub invariant-loop-k : goal.invariant-loop-k

@@ -1,4 +1,4 @@
-use Rattle.crashdisk.proofs.image.ImagesOfEndedFile.{ends_each_image}
+use Rattle.crashdisk.proofs.Between.{ends_each_image}
 use Rattle.crashdisk.proofs.laws.what_an_end_leaves.Goals as goal
 
 pub returns : goal.returns

@@ -1,10 +1,4 @@
-use Rattle.std.proofs.Common.{◌≤◌, ◌+◌, max, length, arith, ◌∙◌, sym, ap}
-use Rattle.crashdisk.specs.Call.{with_write}
-use Rattle.crashdisk.specs.Held.{file_of}
-use Rattle.crashdisk.specs.Since.{handed_writes}
-use Rattle.crashdisk.specs.internal.Since.{by_answer}
-use Rattle.crashdisk.specs.declared.file.File.TheVariants.{Log}
-use Rattle.crashdisk.proofs.call.AnswersOfCalls.{greatest_changed, answered_handed}
+use Rattle.crashdisk.proofs.Between.{Log, answered_handed, ap, arith, by_answer, file_of, greatest_changed, handed_writes, length, max, sym, with_write, ◌+◌, ◌∙◌, ◌≤◌}
 use Rattle.crashdisk.proofs.log.write_log.Goals as goal
 
 pub returns-in-Ok-clause-stands : goal.returns-in-Ok-clause-stands

@@ -1,4 +1,4 @@
-use Rattle.crashdisk.proofs.image.ChoiceForEachImage.{each_image_is_named}
+use Rattle.crashdisk.proofs.Facts.{each_image_is_named}
 use Rattle.crashdisk.proofs.choice.Choice.names_each_image.Goals as goal
 
 pub returns : goal.returns

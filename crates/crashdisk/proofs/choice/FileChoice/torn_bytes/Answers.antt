@@ -1,11 +1,5 @@
-use Rattle.std.proofs.Common.{◌≡◌, ◌<◌, ◌+◌, ◌++◌, ◌∷◌, [], ℕ, List, Bool, cond, nat_eq, Option, Some, None, MatchOption, Vec, Global, Bor, inl, inr, length, get_or, take, map, sym, ◌∙◌, ap, subst}
-use Rattle.std.proofs.lemmas.List.{take_more, map-append}
-use Rattle.std.proofs.lemmas.Bool.{eq-eqb}
-use Rattle.std.proofs.lemmas.Bool.Decides.{eqb_tells}
-use Rattle.crashdisk.specs.Choice.{last_torn}
-use Rattle.crashdisk.proofs.image.TornSectorsOfChoice.{torn_more}
+use Rattle.crashdisk.proofs.Below.{Bool, Bor, Global, List, MatchOption, None, Option, Some, Vec, [], ap, cond, eq-eqb, eqb_tells, get_or, inl, inr, last_torn, length, map, map-append, nat_eq, subst, sym, take, take_more, torn_more, ℕ, ◌++◌, ◌+◌, ◌<◌, ◌∙◌, ◌∷◌, ◌≡◌}
 use Rattle.crashdisk.proofs.choice.FileChoice.torn_bytes.Goals as goal
-use Rattle.crashdisk.proofs.choice.FileChoice.torn_bytes.Goals.{then-entry-k, else-entry-k}
 
 pair_of : ℕ × Vec ℕ Global → ℕ × List ℕ
 pair_of entry = (entry.0, entry.1.items)
@@ -35,8 +29,8 @@ loop-entry-preserved c =
     let now : Option (List ℕ) = last_torn (map (λ entry. (entry.0, entry.1.items)) (take (i + 1) all)) k in
     let more = step c.deref-entry-items.result.now all i k e c.deref-entry-items.ensures.value c.loop-entry-test.true c.entry-item.is in
     elim c.if-entry-k.branch [
-      | then-entry-k w ↦ subst (λ (found : Option (Bor (List ℕ))). MatchOption found (now ≡ None) (λ bytes. now ≡ Some bytes.now)) (sym w.found-is) (more ∙ here e.0 k was e.1.items w.if-entry-k.true ∙ ap (λ (x : List ℕ). Some x) (sym w.as_slice.ensures.value))
-      | else-entry-k w ↦
+      | goal.then-entry-k w ↦ subst (λ (found : Option (Bor (List ℕ))). MatchOption found (now ≡ None) (λ bytes. now ≡ Some bytes.now)) (sym w.found-is) (more ∙ here e.0 k was e.1.items w.if-entry-k.true ∙ ap (λ (x : List ℕ). Some x) (sym w.as_slice.ensures.value))
+      | goal.else-entry-k w ↦
           subst (λ (found : Option (Bor (List ℕ))). MatchOption found (now ≡ None) (λ bytes. now ≡ Some bytes.now)) (sym w.found-is)
           (subst (λ (t : Option (List ℕ)). MatchOption c.loop-entry.found (t ≡ None) (λ bytes. t ≡ Some bytes.now)) (sym (more ∙ there e.0 k was e.1.items w.if-entry-k.false)) c.loop-entry.invariant)
     ]

@@ -1,5 +1,4 @@
-use Rattle.std.proofs.Common.{◌≡◌, None, Some, MatchOption, take, map}
-use Rattle.crashdisk.specs.Choice.{last_torn}
+use Rattle.crashdisk.proofs.Words.{MatchOption, None, Some, last_torn, map, take, ◌≡◌}
 use Rattle.crashdisk.proofs.choice.FileChoice.torn_bytes.Given as goal
 
 abbrev pub invariant-loop-entry : goal.invariant-loop-entry

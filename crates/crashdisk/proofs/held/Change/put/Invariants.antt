@@ -1,5 +1,4 @@
-use Rattle.std.proofs.Common.{◌≡◌, ◌<◌, ◌≤◌, ◌+◌, ℕ, get_or}
-use Rattle.crashdisk.specs.internal.Held.{put_byte}
+use Rattle.crashdisk.proofs.Words.{get_or, put_byte, ℕ, ◌+◌, ◌<◌, ◌≡◌, ◌≤◌}
 use Rattle.crashdisk.proofs.held.Change.put.Given as goal
 
 abbrev pub invariant-loop-j : goal.invariant-loop-j

@@ -1,5 +1,4 @@
-use Rattle.std.proofs.Common.{refl}
-use Rattle.crashdisk.proofs.sector.FileFromChangedSectors.{held_made, is_made}
+use Rattle.crashdisk.proofs.Between.{held_made, is_made, refl}
 use Rattle.crashdisk.proofs.held.Held.carry_out.Goals as goal
 
 pub returns-clause-held : goal.returns-clause-held

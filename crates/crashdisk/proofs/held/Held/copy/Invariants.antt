@@ -1,4 +1,4 @@
-use Rattle.std.proofs.Common.{◌≡◌, take}
+use Rattle.crashdisk.proofs.Words.{take, ◌≡◌}
 use Rattle.crashdisk.proofs.held.Held.copy.Given as goal
 
 abbrev pub invariant-loop-values : goal.invariant-loop-values

@@ -1,7 +1,4 @@
-use Rattle.std.proofs.Common.{◌≤◌, ℕ, List, length, take, ◌∙◌, ap, arith, rules}
-use Rattle.std.proofs.lemmas.List.{length-take}
-use Rattle.std.proofs.Math.Nat.{mul-le-mul_right}
-use Rattle.crashdisk.proofs.sector.SectorsAfterEnd.{ended_whole, ended_room, ended_lists}
+use Rattle.crashdisk.proofs.Between.{List, ap, arith, ended_lists, ended_room, ended_whole, length, length-take, mul-le-mul_right, rules, take, ℕ, ◌∙◌, ◌≤◌}
 use Rattle.crashdisk.proofs.held.Held.end.Goals as goal
 
 pub end_each-requires : goal.end_each-requires

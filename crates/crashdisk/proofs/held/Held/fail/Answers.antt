@@ -1,4 +1,4 @@
-use Rattle.crashdisk.proofs.sector.FileFromChangedSectors.{two_made, held_in_part, made_in_part}
+use Rattle.crashdisk.proofs.Between.{held_in_part, made_in_part, two_made}
 use Rattle.crashdisk.proofs.held.Held.fail.Goals as goal
 
 pub take_picked-requires-clause-two : goal.take_picked-requires-clause-two

@@ -1,9 +1,4 @@
-use Rattle.std.proofs.Common.{◌≡◌, IfOk, ◌-◌, ◌∙◌, ap, subst, arith, List, ℕ, length, [], ◌∷◌, ◌++◌, replicate}
-use Rattle.crashdisk.specs.State.{FileState}
-use Rattle.crashdisk.specs.Held.{file_by, IsListOf}
-use Rattle.crashdisk.specs.internal.Held.{Touches}
-use Rattle.crashdisk.proofs.sector.ValuesOfChangedSectors.{grown_same}
-use Rattle.crashdisk.proofs.sector.FileFromChangedSectors.{held_grown, all_there, if_ok}
+use Rattle.crashdisk.proofs.Between.{FileState, IfOk, IsListOf, List, Touches, [], all_there, ap, arith, file_by, grown_same, held_grown, if_ok, length, replicate, subst, ℕ, ◌++◌, ◌-◌, ◌∙◌, ◌∷◌, ◌≡◌}
 use Rattle.crashdisk.proofs.held.Held.prepare.Goals as goal
 
 -- what is listed is the same with more sectors of zeros

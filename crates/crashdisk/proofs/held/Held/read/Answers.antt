@@ -1,8 +1,4 @@
-use Rattle.std.proofs.Common.{◌≡◌, ◌⊎◌, inl, inr, ⊎_elim, ◌≤◌, ◌<◌, ◌+◌, ◌-◌, ◌/◌, min, ◌∙◌, ap, arith, List, ℕ, [], length, slice_index_or}
-use Rattle.std.proofs.lemmas.List.{get_or_default}
-use Rattle.std.proofs.lemmas.Bool.{cases_lt}
-use Rattle.crashdisk.specs.Held.{last_of}
-use Rattle.crashdisk.proofs.sector.BytesOfRead.{none_copied, sector_end, copied_more, copied_all}
+use Rattle.crashdisk.proofs.Between.{List, [], ap, arith, cases_lt, copied_all, copied_more, get_or_default, inl, inr, last_of, length, min, none_copied, sector_end, slice_index_or, ℕ, ⊎_elim, ◌+◌, ◌-◌, ◌/◌, ◌<◌, ◌∙◌, ◌≡◌, ◌≤◌, ◌⊎◌}
 use Rattle.crashdisk.proofs.held.Held.read.Goals as goal
 
 pub loop-k-init : goal.loop-k-init

@@ -1,5 +1,4 @@
-use Rattle.std.proofs.Common.{length}
-use Rattle.crashdisk.proofs.sector.BytesOfRead.{Copied}
+use Rattle.crashdisk.proofs.Between.{Copied, length}
 use Rattle.crashdisk.proofs.held.Held.read.Given as goal
 
 abbrev pub invariant-loop-k : goal.invariant-loop-k

@@ -1,5 +1,4 @@
-use Rattle.crashdisk.proofs.sector.FileFromChangedSectors.{held_again}
-use Rattle.crashdisk.proofs.sector.SectorsAfterSync.{settled_whole, settled_lists}
+use Rattle.crashdisk.proofs.Between.{held_again, settled_lists, settled_whole}
 use Rattle.crashdisk.proofs.held.Held.sync.Goals as goal
 
 pub returns-clause-held : goal.returns-clause-held

@@ -1,4 +1,4 @@
-use Rattle.crashdisk.proofs.sector.SectorsAfterFailedSync.{turned_each}
+use Rattle.crashdisk.proofs.Between.{turned_each}
 use Rattle.crashdisk.proofs.held.Held.turn.Goals as goal
 
 pub returns-clause-turned : goal.returns-clause-turned

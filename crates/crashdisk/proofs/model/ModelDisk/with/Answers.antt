@@ -1,4 +1,4 @@
-use Rattle.std.proofs.Common.{refl, arith}
+use Rattle.crashdisk.proofs.Words.{arith, refl}
 use Rattle.crashdisk.proofs.model.ModelDisk.with.Goals as goal
 
 pub invariant_of-result : goal.invariant_of-result

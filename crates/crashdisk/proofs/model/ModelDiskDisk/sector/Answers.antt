@@ -1,6 +1,4 @@
-use Rattle.crashdisk.specs.Model.{state_of}
-use Rattle.crashdisk.specs.internal.SoundModel.{sound_disk}
-use Rattle.crashdisk.proofs.sector.SolidityOfSoundFiles.{size_is}
+use Rattle.crashdisk.proofs.Between.{size_is, sound_disk, state_of}
 use Rattle.crashdisk.proofs.model.ModelDiskDisk.sector.Goals as goal
 
 pub returns-clause-is_size : goal.returns-clause-is_size

@@ -1,4 +1,4 @@
-use Rattle.std.proofs.Common.{◌≡◌, take, map, ℕ, List}
+use Rattle.crashdisk.proofs.Words.{List, map, take, ℕ, ◌≡◌}
 use Rattle.crashdisk.proofs.since.Since.copy.Given as goal
 
 abbrev pub invariant-loop-at : goal.invariant-loop-at

@@ -1,5 +1,4 @@
-use Rattle.std.proofs.Common.{◌≡◌, ◌<◌, ◌≤◌, ℕ, [], length, get_or, cond}
-use Rattle.std.specs.Prelude.{nat_lt}
+use Rattle.crashdisk.proofs.Words.{[], cond, get_or, length, nat_lt, ℕ, ◌<◌, ◌≡◌, ◌≤◌}
 use Rattle.crashdisk.proofs.values.Values.end.Given as goal
 
 abbrev pub invariant-loop-k : goal.invariant-loop-k
