@@ -1,35 +1,30 @@
 -- How a change of a table's rows is written (own).
 use Rattle.std.specs.Prelude.{◌≡◌, ◌≢◌, ◌⊎◌, ℕ, suc, zero, ◌<◌, max, Bool, true, false, List, [], ◌∷◌, ◌++◌, length, map, codes, slice_get, Option, Some, None, ℤ}
-use Rattle.std.specs.Fmt.{decimal}
 use Rattle.sqval.specs.Datum.{Datum}
 use Rattle.sqrows.specs.Rows.{Row}
 use Rattle.sqtables.specs.declared.columns.Columns.{Columns}
 use Rattle.sqtables.specs.Columns.{shown, shown_at}
 use Rattle.cli_row_text.specs.declared.form.Form.{Form}
 use Rattle.cli_row_text.specs.declared.form.Form.TheVariants.{Json, Sql}
-use Rattle.cli_row_text.specs.Lines.{AreTexts, IsLine, IsText, between_marks, integer_text}
+use Rattle.cli_row_text.specs.Lines.{AreTexts, IsLine, IsText}
 use Rattle.cli_row_text.specs.Printed.{led_by}
 use Rattle.sqdiff.specs.Changes.{Change, inserted, deleted, changed}
+use Rattle.sqkeydiff.specs.declared.key.KeyOrder.{KeyOrder}
 use Rattle.cli_change_text.specs.declared.style.Writing.{Writing}
 use Rattle.cli_change_text.specs.declared.style.Writing.TheVariants.{Line, Object, Removal, Arrival}
 use Rattle.cli_change_text.specs.declared.style.Style.{Style}
-
-abbrev pub names_of : Columns → List (List ℕ)
-names_of columns = map (λ n. n.items) columns.names.items
-
-abbrev pub rowid_text : Form → (rowid : Option ℤ) → List ℕ
-rowid_text form (Some id) = integer_text form id
-rowid_text form None = []
+use Rattle.cli_change_text.specs.declared.style.Naming.TheVariants.{InLine, InObject, InCondition}
+use Rattle.cli_change_text.specs.Names.{IsRowName, column_text, names_of}
 
 -- what the line of a row begins with that came, or went
 abbrev pub sign_of : (comes : Bool) → List ℕ
 sign_of true = codes "+ "
 sign_of false = codes "- "
 
--- A line: the sign, the rowid, and the values as they stand in SQL.
-abbrev pub IsLineOf : (sign : List ℕ) → List (List ℕ) → (rowid : Option ℤ) → List Datum → List ℕ → Type 0
-IsLineOf sign names rowid values t =
-    (all : List ℕ) × AreTexts Sql names 0 values all × (t ≡ sign ++ (rowid_text Sql rowid ++ (codes ": " ++ (all ++ codes "\n"))))
+-- A line: the sign, what names the row, and the values as they stand in SQL.
+abbrev pub IsLineOf : (sign : List ℕ) → List (List ℕ) → (name : List ℕ) → List Datum → List ℕ → Type 0
+IsLineOf sign names name values t =
+    (all : List ℕ) × AreTexts Sql names 0 values all × (t ≡ sign ++ (name ++ (codes ": " ++ (all ++ codes "\n"))))
 
 -- the word for it in an object, and what the member begins with that has the row
 abbrev pub word_of : (comes : Bool) → List ℕ
@@ -45,35 +40,32 @@ abbrev pub IsMember : (member : List ℕ) → List (List ℕ) → List Datum →
 IsMember member names values t = (all : List ℕ) × AreTexts Json names 0 values all × (t ≡ member ++ (all ++ codes "}"))
 
 -- what stands in an object before its rows
-abbrev pub object_start : (head word : List ℕ) → (rowid : Option ℤ) → List ℕ
-object_start head word rowid = head ++ (word ++ (codes "\",\"rowid\":" ++ rowid_text Json rowid))
+abbrev pub object_start : (head word name : List ℕ) → List ℕ
+object_start head word name = head ++ (word ++ name)
 
--- An object: the table, what happened, the rowid and the row.
-abbrev pub IsObjectOf : (head : List ℕ) → (comes : Bool) → List (List ℕ) → (rowid : Option ℤ) → List Datum → List ℕ → Type 0
-IsObjectOf head comes names rowid values t =
-    (one : List ℕ) × IsMember (member_of comes) names values one × (t ≡ object_start head (word_of comes) rowid ++ (one ++ codes "}\n"))
+-- An object: the table, what happened, what names the row, and the row.
+abbrev pub IsObjectOf : (head : List ℕ) → (comes : Bool) → List (List ℕ) → (name : List ℕ) → List Datum → List ℕ → Type 0
+IsObjectOf head comes names name values t =
+    (one : List ℕ) × IsMember (member_of comes) names values one × (t ≡ object_start head (word_of comes) name ++ (one ++ codes "}\n"))
 
--- the DELETE of the row of a rowid
-abbrev pub removal_text : (head : List ℕ) → (rowid : Option ℤ) → List ℕ
-removal_text head rowid = head ++ (rowid_text Sql rowid ++ codes ";\n")
+-- the DELETE of the row that is named so
+abbrev pub removal_text : (head name : List ℕ) → List ℕ
+removal_text head name = head ++ (name ++ codes ";\n")
 
 -- the INSERT of a row
 abbrev pub IsArrival : (head : List ℕ) → List (List ℕ) → (leads : Bool) → (rowid : Option ℤ) → List Datum → List ℕ → Type 0
 IsArrival head names leads rowid values t = IsLine Sql head names (led_by leads rowid) values t
 
 -- The text of a row that came or went. In a script the DELETEs stand before the INSERTs, each in a text of its own.
-abbrev pub IsOneText : Writing → (head : List ℕ) → List (List ℕ) → (leads comes : Bool) → (rowid : Option ℤ) → List Datum → List ℕ → Type 0
-IsOneText Line head names leads comes rowid values t = IsLineOf (sign_of comes) names rowid values t
-IsOneText (Object commit) head names leads comes rowid values t = IsObjectOf head comes names rowid values t
-IsOneText Removal head names leads true rowid values t = t ≡ []
-IsOneText Removal head names leads false rowid values t = t ≡ removal_text head rowid
-IsOneText Arrival head names leads true rowid values t = IsArrival head names leads rowid values t
-IsOneText Arrival head names leads false rowid values t = t ≡ []
-
--- a column's name in quotes, or c1, c2 and so on where none is known
-abbrev pub column_text : Option (List ℕ) → (j : ℕ) → List ℕ
-column_text (Some name) j = between_marks 34 name
-column_text None j = codes "c" ++ decimal (suc j)
+abbrev pub IsOneText : Writing → (head : List ℕ) → Columns → (leads : Bool) → (key : Option KeyOrder) → (comes : Bool) → Row → List Datum → List ℕ → Type 0
+IsOneText Line head columns leads key comes row values t =
+    (name : List ℕ) × IsRowName InLine columns key row name × IsLineOf (sign_of comes) (names_of columns) name values t
+IsOneText (Object commit) head columns leads key comes row values t =
+    (name : List ℕ) × IsRowName InObject columns key row name × IsObjectOf head comes (names_of columns) name values t
+IsOneText Removal head columns leads key true row values t = t ≡ []
+IsOneText Removal head columns leads key false row values t = (name : List ℕ) × IsRowName InCondition columns key row name × (t ≡ removal_text head name)
+IsOneText Arrival head columns leads key true row values t = IsArrival head (names_of columns) leads row.rowid values t
+IsOneText Arrival head columns leads key false row values t = t ≡ []
 
 -- what stands before a column's change
 abbrev pub mark_of : (begun : Bool) → List ℕ
@@ -99,23 +91,24 @@ abbrev pub column_count : Columns → (old new : Row) → ℕ
 column_count columns old new = max (max (length old.values) (length new.values)) (length columns.names.items)
 
 -- The text of a row that has other values now.
-abbrev pub IsChangedText : Writing → (head : List ℕ) → Columns → (leads : Bool) → (old new : Row) → List ℕ → Type 0
-IsChangedText Line head columns leads old new t =
-    (all : List ℕ) × AreDifferences columns old new false 0 (column_count columns old new) all
-    × (t ≡ codes "~ " ++ (rowid_text Sql new.rowid ++ (codes ": " ++ (all ++ codes "\n"))))
-IsChangedText (Object commit) head columns leads old new t =
-    (was is : List ℕ) × IsMember (member_of false) (names_of columns) (shown columns old) was × IsMember (member_of true) (names_of columns) (shown columns new) is
-    × (t ≡ object_start head (codes "update") new.rowid ++ (was ++ (is ++ codes "}\n")))
-IsChangedText Removal head columns leads old new t = t ≡ removal_text head old.rowid
-IsChangedText Arrival head columns leads old new t = IsArrival head (names_of columns) leads new.rowid (shown columns new) t
+abbrev pub IsChangedText : Writing → (head : List ℕ) → Columns → (leads : Bool) → (key : Option KeyOrder) → (old new : Row) → List ℕ → Type 0
+IsChangedText Line head columns leads key old new t =
+    (name all : List ℕ) × IsRowName InLine columns key new name × AreDifferences columns old new false 0 (column_count columns old new) all
+    × (t ≡ codes "~ " ++ (name ++ (codes ": " ++ (all ++ codes "\n"))))
+IsChangedText (Object commit) head columns leads key old new t =
+    (name was is : List ℕ) × IsRowName InObject columns key new name
+    × IsMember (member_of false) (names_of columns) (shown columns old) was × IsMember (member_of true) (names_of columns) (shown columns new) is
+    × (t ≡ object_start head (codes "update") name ++ (was ++ (is ++ codes "}\n")))
+IsChangedText Removal head columns leads key old new t = (name : List ℕ) × IsRowName InCondition columns key old name × (t ≡ removal_text head name)
+IsChangedText Arrival head columns leads key old new t = IsArrival head (names_of columns) leads new.rowid (shown columns new) t
 
 -- The text of a change.
-abbrev pub IsChangeText : Writing → (head : List ℕ) → Columns → (leads : Bool) → Change → List ℕ → Type 0
-IsChangeText writing head columns leads (inserted row) t = IsOneText writing head (names_of columns) leads true row.rowid (shown columns row) t
-IsChangeText writing head columns leads (deleted row) t = IsOneText writing head (names_of columns) leads false row.rowid (shown columns row) t
-IsChangeText writing head columns leads (changed old new) t = IsChangedText writing head columns leads old new t
+abbrev pub IsChangeText : Writing → (head : List ℕ) → Columns → (leads : Bool) → (key : Option KeyOrder) → Change → List ℕ → Type 0
+IsChangeText writing head columns leads key (inserted row) t = IsOneText writing head columns leads key true row (shown columns row) t
+IsChangeText writing head columns leads key (deleted row) t = IsOneText writing head columns leads key false row (shown columns row) t
+IsChangeText writing head columns leads key (changed old new) t = IsChangedText writing head columns leads key old new t
 
 -- the same behind what stands before the first one
 abbrev pub IsTextIn : Style → Change → List ℕ → Type 0
 IsTextIn style c t =
-    (own : List ℕ) × IsChangeText style.writing style.head.now style.columns.now style.leads c own × (t ≡ style.before.now ++ own)
+    (own : List ℕ) × IsChangeText style.writing style.head.now style.columns.now style.leads style.key c own × (t ≡ style.before.now ++ own)

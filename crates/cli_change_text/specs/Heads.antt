@@ -1,9 +1,9 @@
 -- What stands before changes, and what they begin with (own).
-use Rattle.std.specs.Prelude.{ℕ, List, [], ◌++◌, codes, slice_get, Option, Some, None}
+use Rattle.std.specs.Prelude.{ℕ, List, [], ◌++◌, codes, Option, Some, None}
 use Rattle.std.specs.Fmt.{decimal}
 use Rattle.sqtables.specs.declared.columns.Columns.{Columns}
 use Rattle.cli_row_text.specs.Lines.{between_marks, json_string}
-use Rattle.cli_change_text.specs.Changes.{names_of}
+use Rattle.cli_change_text.specs.Names.{name_at}
 
 -- the line that names a table
 abbrev pub title_text : (table : List ℕ) → List ℕ
@@ -22,14 +22,14 @@ abbrev pub alias_text : Option (List ℕ) → List ℕ
 alias_text (Some name) = between_marks 34 name
 alias_text None = []
 
-abbrev pub alias_name : Columns → Option ℕ → Option (List ℕ)
-alias_name columns (Some i) = slice_get (names_of columns) i
-alias_name columns None = None
-
 abbrev pub key_text : Columns → (rowid : Option (List ℕ)) → List ℕ
 key_text columns (Some name) = name
-key_text columns None = alias_text (alias_name columns columns.alias)
+key_text columns None = alias_text (name_at columns columns.alias)
 
--- what the DELETE of a row begins with
+-- what the DELETE of a row begins with, before its condition
+abbrev pub removal_start : (table : List ℕ) → List ℕ
+removal_start table = codes "DELETE FROM " ++ (between_marks 34 table ++ codes " WHERE ")
+
+-- and before its rowid
 abbrev pub removal_head : (table : List ℕ) → Columns → (rowid : Option (List ℕ)) → List ℕ
-removal_head table columns rowid = codes "DELETE FROM " ++ (between_marks 34 table ++ (codes " WHERE " ++ (key_text columns rowid ++ codes "=")))
+removal_head table columns rowid = removal_start table ++ (key_text columns rowid ++ codes "=")

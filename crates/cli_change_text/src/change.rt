@@ -10,23 +10,21 @@ ghost use Rattle.cli_change_text.specs.Refusals.{IsKept, IsUnwritable, IsUnwrita
 ghost use Rattle.cli_change_text.specs.internal.Steps.{IsBegunChanged, IsBegunOne, IsChangedObject};
 
 use crate::differences::write_differences;
-use crate::one::{
-    write_arrival, write_member, write_object_start, write_one, write_removal, write_rowid,
-};
-use crate::style::{Style, Writing};
-use cli_row_text::Form;
+use crate::name::write_row_name;
+use crate::one::{write_arrival, write_member, write_object_start, write_one, write_removal};
+use crate::style::{Naming, Style, Writing};
 use cli_show_rows::Stop;
 use sqrows::Row;
 use sqval::Value;
 use std::alloc::Global;
 use std::io::{self, Write};
 
-/// Refused where a row has no rowid, not each value of it is known, or an INSERT can't have them all.
+/// Refused where nothing names a row, not each value of it is known, or an INSERT can't have them all.
 fn written_whole(row: &Row<'_>, style: Style<'_>) -> Result<(), Stop>
-    ensures { IfErr result (IsUnwritable style.entry.writing style.entry.columns.now
+    ensures { IfErr result (IsUnwritable style.entry.writing style.entry.key style.entry.columns.now
         (record { rowid = row.now.rowid; values = row.now.values })) }
 {
-    if row.rowid.is_none() {
+    if row.rowid.is_none() && style.key.is_none() {
         return Err(Stop::NotUnderstood);
     }
     if row.values.len() < style.columns.needed {
@@ -51,11 +49,12 @@ fn write_begun<W: Write>(
         × Appends (W.contents out.old) (W.contents out.new) t) }
 {
     out.write_all(style.before)?;
-    write_one(out, style, comes, row.rowid, values)
+    write_one(out, style, comes, row, values)
 }
 
-/// Writes a row that came, or that went, in this style. Refused by `NotUnderstood` where it has no rowid, by `Default`
-/// where it lacks a column whose default isn't known, and by `Behind` where an INSERT can't name all of its columns.
+/// Writes a row that came, or that went, in this style. Refused by `NotUnderstood` where it has no rowid and the order
+/// of its table's keys isn't known, by `Default` where it lacks a column whose default isn't known, and by `Behind`
+/// where an INSERT can't name all of its columns.
 pub fn write_one_side<W: Write>(
     alloc: Global,
     row: &Row<'_>,
@@ -66,7 +65,7 @@ pub fn write_one_side<W: Write>(
     ensures ok { OnOk result ((t : List ℕ) × IsTextIn style.entry
         (side_of comes (record { rowid = row.now.rowid; values = row.now.values })) t
         × Appends (W.contents out.old) (W.contents out.new) t) }
-    ensures err { IfErr result (IsUnwritten style.entry.writing style.entry.columns.now
+    ensures err { IfErr result (IsUnwritten style.entry.writing style.entry.key style.entry.columns.now
         (side_of comes (record { rowid = row.now.rowid; values = row.now.values }))) }
     ensures kept { IfErr result (λ stop. IsKept stop (W.contents out.old) (W.contents out.new)) }
 {
@@ -92,12 +91,12 @@ fn write_changed_line<W: Write>(
     new: &Row<'_>,
 ) -> io::Result<()>
     ensures { OnOk result ((t : List ℕ) × IsChangedText Writing.Line style.entry.head.now style.entry.columns.now
-        style.entry.leads (record { rowid = old.now.rowid; values = old.now.values })
+        style.entry.leads style.entry.key (record { rowid = old.now.rowid; values = old.now.values })
         (record { rowid = new.now.rowid; values = new.now.values }) t
         × Appends (W.contents out.old) (W.contents out.new) t) }
 {
     out.write_all(b"~ ")?;
-    write_rowid(out, Form::Sql, new.rowid)?;
+    write_row_name(out, Naming::InLine, style, new)?;
     out.write_all(b": ")?;
     write_differences(out, style.columns, old, new)?;
     out.write_all(b"\n")
@@ -107,15 +106,16 @@ fn write_changed_line<W: Write>(
 fn write_changed_object<W: Write>(
     out: &mut W,
     style: Style<'_>,
-    rowid: Option<i64>,
+    row: &Row<'_>,
     was: &[Value<'_>],
     is: &[Value<'_>],
 ) -> io::Result<()>
-    ensures { OnOk result ((t : List ℕ) × IsChangedObject style.entry rowid (row_of was.now) (row_of is.now) t
+    ensures { OnOk result ((t : List ℕ) × IsChangedObject style.entry
+        (record { rowid = row.now.rowid; values = row.now.values }) (row_of was.now) (row_of is.now) t
         × Appends (W.contents out.old) (W.contents out.new) t) }
 {
     let names = &style.columns.names;
-    write_object_start(out, style.head, "update", rowid)?;
+    write_object_start(out, style, "update", row)?;
     write_member(out, ",\"old\":{", names, was)?;
     write_member(out, ",\"new\":{", names, is)?;
     out.write_all(b"}\n")
@@ -141,15 +141,15 @@ fn write_changed_values<W: Write>(
     out.write_all(style.before)?;
     match style.writing {
         Writing::Line => write_changed_line(out, style, old, new),
-        Writing::Object(_) => write_changed_object(out, style, new.rowid, was, is),
-        Writing::Removal => write_removal(out, style.head, old.rowid),
+        Writing::Object(_) => write_changed_object(out, style, new, was, is),
+        Writing::Removal => write_removal(out, style, old),
         Writing::Arrival => write_arrival(out, style, new.rowid, is),
     }
 }
 
 /// Refused where one of two rows is.
 fn both_whole(old: &Row<'_>, new: &Row<'_>, style: Style<'_>) -> Result<(), Stop>
-    ensures { IfErr result (IsUnwritableChange style.entry.writing style.entry.columns.now
+    ensures { IfErr result (IsUnwritableChange style.entry.writing style.entry.key style.entry.columns.now
         (changed (record { rowid = old.now.rowid; values = old.now.values })
         (record { rowid = new.now.rowid; values = new.now.values }))) }
 {
@@ -171,7 +171,7 @@ pub fn write_changed<W: Write>(
         (changed (record { rowid = old.now.rowid; values = old.now.values })
         (record { rowid = new.now.rowid; values = new.now.values })) t
         × Appends (W.contents out.old) (W.contents out.new) t) }
-    ensures err { IfErr result (IsUnwritten style.entry.writing style.entry.columns.now
+    ensures err { IfErr result (IsUnwritten style.entry.writing style.entry.key style.entry.columns.now
         (changed (record { rowid = old.now.rowid; values = old.now.values })
         (record { rowid = new.now.rowid; values = new.now.values }))) }
     ensures kept { IfErr result (λ stop. IsKept stop (W.contents out.old) (W.contents out.new)) }

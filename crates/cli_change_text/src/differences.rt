@@ -1,12 +1,14 @@
 //! What changed in a row, column by column.
-ghost use Rattle.std.specs.Prelude.{◌≡◌, ◌↔◌, ℕ, ◌+◌, ◌<◌, ◌^◌, List, OnOk, IfOk, IsTrue, false, map, option_map};
+ghost use Rattle.std.specs.Prelude.{◌≡◌, ◌↔◌, ℕ, ◌+◌, ◌<◌, ◌^◌, List, OnOk, IfOk, IsTrue, false, map};
 ghost use Rattle.std.specs.Prelude.{slice_get};
 ghost use Rattle.std.specs.Io.KnownBytes.{Appends};
 ghost use Rattle.sqval.specs.Datum.{datum_of};
-ghost use Rattle.cli_change_text.specs.Changes.{AreDifferences, IsDifference, column_count, column_text, mark_of};
+ghost use Rattle.cli_change_text.specs.Changes.{AreDifferences, IsDifference, column_count, mark_of};
+ghost use Rattle.cli_change_text.specs.Names.{column_text};
 ghost use Rattle.cli_change_text.specs.internal.Steps.{TakesColumn};
 
-use cli_row_text::{Form, write_between, write_value};
+use crate::name::write_name;
+use cli_row_text::{Form, write_value};
 use sqrows::Row;
 use sqtables::Columns;
 use sqval::Value;
@@ -24,21 +26,6 @@ fn write_mark<W: Write>(out: &mut W, begun: bool) -> io::Result<()>
     ensures { OnOk result (Appends (W.contents out.old) (W.contents out.new) (mark_of begun)) }
 {
     if begun { out.write_all(b", ") } else { Ok(()) }
-}
-
-/// The name of column `j`, if it has one.
-fn write_name<W: Write>(out: &mut W, name: Option<&Vec<u8>>, j: usize) -> io::Result<()>
-    requires { j + 1 < 2 ^ 64 }
-    ensures { OnOk result (Appends (W.contents out.old) (W.contents out.new)
-        (column_text (option_map (λ n. n.now.items) name.entry) j)) }
-{
-    match name {
-        Some(name) => write_between(out, b'"', name),
-        None => {
-            let number = j + 1;
-            write!(out, "c{number}")
-        }
-    }
 }
 
 /// The name of column `j`.

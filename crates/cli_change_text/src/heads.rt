@@ -2,9 +2,10 @@
 ghost use Rattle.std.specs.Prelude.{◌≡◌, OnOk, MatchOption, map, option_map};
 ghost use Rattle.std.specs.Io.KnownBytes.{Appends};
 ghost use Rattle.cli_row_text.specs.Inserts.{rowid_name};
-ghost use Rattle.cli_change_text.specs.Heads.{alias_name, alias_text, key_text, object_head, opening_text};
-ghost use Rattle.cli_change_text.specs.Heads.{removal_head, title_text};
+ghost use Rattle.cli_change_text.specs.Heads.{alias_text, key_text, object_head, opening_text};
+ghost use Rattle.cli_change_text.specs.Heads.{removal_head, removal_start, title_text};
 
+use crate::name::name_at;
 use cli_row_text::{write_between, write_string};
 use sqtables::Columns;
 use std::io::{self, Write};
@@ -38,16 +39,6 @@ pub fn write_object_head<W: Write>(out: &mut W, commit: Option<u32>, table: &[u8
     out.write_all(b",\"change\":\"")
 }
 
-/// The column that is another name for the rowid.
-fn alias_of(columns: &Columns) -> Option<&Vec<u8>>
-    ensures { option_map (λ n. n.now.items) result ≡ alias_name columns.now columns.now.alias }
-{
-    match columns.alias {
-        Some(i) => columns.names.get(i),
-        None => None,
-    }
-}
-
 /// The name of a column in quotes.
 fn write_alias<W: Write>(out: &mut W, name: Option<&Vec<u8>>) -> io::Result<()>
     ensures { OnOk result (Appends (W.contents out.old) (W.contents out.new)
@@ -66,8 +57,17 @@ fn write_key<W: Write>(out: &mut W, columns: &Columns, rowid: Option<&str>) -> i
 {
     match rowid {
         Some(name) => out.write_all(name.as_bytes()),
-        None => write_alias(out, alias_of(columns)),
+        None => write_alias(out, name_at(columns, columns.alias)),
     }
+}
+
+/// What the DELETE of a row of a table begins with, before its condition. An error of the writer.
+pub fn write_removal_start<W: Write>(out: &mut W, table: &[u8]) -> io::Result<()>
+    ensures { OnOk result (Appends (W.contents out.old) (W.contents out.new) (removal_start table.now)) }
+{
+    out.write_all(b"DELETE FROM ")?;
+    write_between(out, b'"', table)?;
+    out.write_all(b" WHERE ")
 }
 
 /// What the DELETE of a row of a table begins with, whose rowid has this name, or a column is another name for it. An
@@ -81,9 +81,7 @@ pub fn write_removal_head<W: Write>(
     ensures { OnOk result (Appends (W.contents out.old) (W.contents out.new)
         (removal_head table.now columns.now (rowid_name rowid.entry))) }
 {
-    out.write_all(b"DELETE FROM ")?;
-    write_between(out, b'"', table)?;
-    out.write_all(b" WHERE ")?;
+    write_removal_start(out, table)?;
     write_key(out, columns, rowid)?;
     out.write_all(b"=")
 }

@@ -4,23 +4,16 @@ ghost use Rattle.std.specs.Io.KnownBytes.{Appends};
 ghost use Rattle.sqval.specs.Datum.{row_of};
 ghost use Rattle.cli_row_text.specs.Printed.{led_by};
 ghost use Rattle.cli_change_text.specs.Changes.{IsArrival, IsLineOf, IsMember, IsObjectOf, IsOneText, object_start};
-ghost use Rattle.cli_change_text.specs.Changes.{removal_text};
-ghost use Rattle.cli_change_text.specs.Changes.{member_of, rowid_text, sign_of, word_of};
+ghost use Rattle.cli_change_text.specs.Changes.{member_of, removal_text, sign_of, word_of};
+ghost use Rattle.cli_change_text.specs.Names.{IsRowName, names_of};
+ghost use Rattle.cli_change_text.specs.declared.style.Naming.{Naming};
 
-use crate::style::{Style, Writing};
-use cli_row_text::{Form, write_integer, write_line, write_values};
+use crate::name::write_row_name;
+use crate::style::{Naming, Style, Writing};
+use cli_row_text::{Form, write_line, write_values};
+use sqrows::Row;
 use sqval::Value;
 use std::io::{self, Write};
-
-/// The rowid of a row.
-pub(crate) fn write_rowid<W: Write>(out: &mut W, form: Form, rowid: Option<i64>) -> io::Result<()>
-    ensures { OnOk result (Appends (W.contents out.old) (W.contents out.new) (rowid_text form rowid)) }
-{
-    match rowid {
-        Some(id) => write_integer(out, form, id),
-        None => Ok(()),
-    }
-}
 
 /// The sign of a row that came, or went.
 fn sign_of(comes: bool) -> &'static str
@@ -47,17 +40,19 @@ fn member_of(comes: bool) -> &'static str
 fn write_row<W: Write>(
     out: &mut W,
     sign: &str,
-    names: &[Vec<u8>],
-    rowid: Option<i64>,
+    style: Style<'_>,
+    row: &Row<'_>,
     values: &[Value<'_>],
 ) -> io::Result<()>
-    ensures { OnOk result ((t : List ℕ) × IsLineOf sign.now (map (λ n. n.items) names.now) rowid (row_of values.now) t
+    ensures { OnOk result ((t : List ℕ) × ((name : List ℕ) × IsRowName Naming.InLine style.entry.columns.now
+        style.entry.key (record { rowid = row.now.rowid; values = row.now.values }) name
+        × IsLineOf sign.now (names_of style.entry.columns.now) name (row_of values.now) t)
         × Appends (W.contents out.old) (W.contents out.new) t) }
 {
     out.write_all(sign.as_bytes())?;
-    write_rowid(out, Form::Sql, rowid)?;
+    write_row_name(out, Naming::InLine, style, row)?;
     out.write_all(b": ")?;
-    write_values(out, Form::Sql, names, values)?;
+    write_values(out, Form::Sql, &style.columns.names, values)?;
     out.write_all(b"\n")
 }
 
@@ -79,45 +74,49 @@ pub(crate) fn write_member<W: Write>(
 /// What stands in an object before the rows.
 pub(crate) fn write_object_start<W: Write>(
     out: &mut W,
-    head: &[u8],
+    style: Style<'_>,
     word: &str,
-    rowid: Option<i64>,
+    row: &Row<'_>,
 ) -> io::Result<()>
-    ensures { OnOk result (Appends (W.contents out.old) (W.contents out.new) (object_start head.now word.now rowid)) }
+    ensures { OnOk result ((name : List ℕ) × IsRowName Naming.InObject style.entry.columns.now style.entry.key
+        (record { rowid = row.now.rowid; values = row.now.values }) name
+        × Appends (W.contents out.old) (W.contents out.new) (object_start style.entry.head.now word.now name)) }
 {
-    out.write_all(head)?;
+    out.write_all(style.head)?;
     out.write_all(word.as_bytes())?;
-    out.write_all(b"\",\"rowid\":")?;
-    write_rowid(out, Form::Json, rowid)
+    write_row_name(out, Naming::InObject, style, row)
 }
 
 /// The object of a row that came or went.
 fn write_object<W: Write>(
     out: &mut W,
-    head: &[u8],
+    style: Style<'_>,
     comes: bool,
-    names: &[Vec<u8>],
-    rowid: Option<i64>,
+    row: &Row<'_>,
     values: &[Value<'_>],
 ) -> io::Result<()>
-    ensures { OnOk result ((t : List ℕ) × IsObjectOf head.now comes (map (λ n. n.items) names.now) rowid
-        (row_of values.now) t × Appends (W.contents out.old) (W.contents out.new) t) }
+    ensures { OnOk result ((t : List ℕ) × ((name : List ℕ) × IsRowName Naming.InObject style.entry.columns.now
+        style.entry.key (record { rowid = row.now.rowid; values = row.now.values }) name
+        × IsObjectOf style.entry.head.now comes (names_of style.entry.columns.now) name (row_of values.now) t)
+        × Appends (W.contents out.old) (W.contents out.new) t) }
 {
-    write_object_start(out, head, word_of(comes), rowid)?;
-    write_member(out, member_of(comes), names, values)?;
+    write_object_start(out, style, word_of(comes), row)?;
+    write_member(out, member_of(comes), &style.columns.names, values)?;
     out.write_all(b"}\n")
 }
 
-/// The DELETE of the row of a rowid.
+/// The DELETE of a row.
 pub(crate) fn write_removal<W: Write>(
     out: &mut W,
-    head: &[u8],
-    rowid: Option<i64>,
+    style: Style<'_>,
+    row: &Row<'_>,
 ) -> io::Result<()>
-    ensures { OnOk result (Appends (W.contents out.old) (W.contents out.new) (removal_text head.now rowid)) }
+    ensures { OnOk result ((name : List ℕ) × IsRowName Naming.InCondition style.entry.columns.now style.entry.key
+        (record { rowid = row.now.rowid; values = row.now.values }) name
+        × Appends (W.contents out.old) (W.contents out.new) (removal_text style.entry.head.now name)) }
 {
-    out.write_all(head)?;
-    write_rowid(out, Form::Sql, rowid)?;
+    out.write_all(style.head)?;
+    write_row_name(out, Naming::InCondition, style, row)?;
     out.write_all(b";\n")
 }
 
@@ -155,20 +154,19 @@ pub(crate) fn write_one<W: Write>(
     out: &mut W,
     style: Style<'_>,
     comes: bool,
-    rowid: Option<i64>,
+    row: &Row<'_>,
     values: &[Value<'_>],
 ) -> io::Result<()>
-    ensures { OnOk result ((t : List ℕ) × IsOneText style.entry.writing style.entry.head.now
-        (map (λ n. n.items) style.entry.columns.now.names.items) style.entry.leads comes rowid (row_of values.now) t
-        × Appends (W.contents out.old) (W.contents out.new) t) }
+    ensures { OnOk result ((t : List ℕ) × IsOneText style.entry.writing style.entry.head.now style.entry.columns.now
+        style.entry.leads style.entry.key comes (record { rowid = row.now.rowid; values = row.now.values })
+        (row_of values.now) t × Appends (W.contents out.old) (W.contents out.new) t) }
 {
-    let names = &style.columns.names;
     match style.writing {
-        Writing::Line => write_row(out, sign_of(comes), names, rowid, values),
-        Writing::Object(_) => write_object(out, style.head, comes, names, rowid, values),
+        Writing::Line => write_row(out, sign_of(comes), style, row, values),
+        Writing::Object(_) => write_object(out, style, comes, row, values),
         Writing::Removal if comes => Ok(()),
-        Writing::Removal => write_removal(out, style.head, rowid),
-        Writing::Arrival if comes => write_arrival(out, style, rowid, values),
+        Writing::Removal => write_removal(out, style, row),
+        Writing::Arrival if comes => write_arrival(out, style, row.rowid, values),
         Writing::Arrival => Ok(()),
     }
 }

@@ -1,4 +1,5 @@
 //! How changes are written (own).
+use sqkeydiff::KeyOrder;
 use sqtables::Columns;
 
 /// As what a change is written.
@@ -26,4 +27,17 @@ pub struct Style<'a> {
     pub head: &'a [u8],
     /// Whether the rowid stands before the values of an INSERT.
     pub leads: bool,
+    /// How the rows of a table WITHOUT ROWID are sorted, which their keys name then. Rowids do where there is none.
+    pub key: Option<KeyOrder>,
+}
+
+/// Where a row is named.
+#[derive(Clone, Copy, Debug, PartialEq, Eq)]
+pub(crate) enum Naming {
+    /// In a line.
+    InLine,
+    /// In an object of JSON.
+    InObject,
+    /// In the condition of a statement.
+    InCondition,
 }

@@ -64,13 +64,14 @@ window.addEventListener('load', () => {
     const table = put(parent, 'table', undefined, 'rows');
     table.setAttribute('aria-label', 'rows of ' + name);
     const head = put(put(table, 'thead'), 'tr');
-    for (const word of ['change', 'rowid', 'values']) put(head, 'th', word, 'dim').scope = 'col';
+    const named = parsed(rows[0][1]).key ? 'key' : 'rowid';
+    for (const word of ['change', named, 'values']) put(head, 'th', word, 'dim').scope = 'col';
     const body = put(table, 'tbody');
     for (const [kind, line] of rows) {
       const change = parsed(line), row = put(body, 'tr', undefined, kind);
       const [, word, sign] = KINDS.find(known => known[0] === kind);
       put(row, 'td', sign + ' ' + word);
-      put(row, 'td', shown(change.rowid));
+      put(row, 'td', change.key ? values(change.key) : shown(change.rowid));
       put(row, 'td', contents[kind](change));
     }
   };

@@ -6,9 +6,10 @@ use Rattle.sqval.specs.Database.{Database}
 use Rattle.cli_show_rows.specs.declared.stop.Stop.{Stop}
 use Rattle.cli_show_rows.specs.declared.stop.Stop.TheVariants.{Fault, Record, TooLong, NotUnderstood, Default, Behind, Encoding, NoSuchTable, NoMemory, Write}
 use Rattle.cli_show_rows.specs.Stops.{WrittenUntil}
-use Rattle.sqdiff.specs.Changes.{Change, HasChanges}
-use Rattle.sqdiff.specs.DiffCursor.{ChangesLeft}
-use Rattle.sqdiff.specs.declared.diff.Diff.{Diff}
+use Rattle.sqdiff.specs.Changes.{Change}
+use Rattle.cli_show_diff.specs.Sorted.{HasChangesBy}
+use Rattle.cli_show_diff.specs.internal.TableDiffs.{ChangesLeft}
+use Rattle.cli_show_diff.specs.declared.table_diff.TableDiff.{TableDiff}
 use Rattle.cli_change_text.specs.declared.style.Style.{Style}
 use Rattle.cli_change_text.specs.Changes.{IsChangeText}
 use Rattle.cli_change_text.specs.Refusals.{IsKept}
@@ -17,7 +18,7 @@ use Rattle.cli_show_diff.specs.Stops.{AreBothToldUntil}
 use Rattle.cli_show_diff.specs.internal.Walks.{AreWritten, NextRefused, TellsNext, before_next}
 
 pub texts_snoc : (style : Style) (cs : List Change) (c : Change) (t own : List ℕ) → AreChangeTexts style cs t
-    → IsChangeText style.writing style.head.now style.columns.now style.leads c own → AreChangeTexts style (cs ++ c ∷ []) (t ++ own)
+    → IsChangeText style.writing style.head.now style.columns.now style.leads style.key c own → AreChangeTexts style (cs ++ c ∷ []) (t ++ own)
 texts_snoc style [] c t own are is = (own, [], is, refl, ap (λ z. z ++ own) are ∙ sym (append-nil own))
 texts_snoc style (x ∷ cs) c t own are is =
     (are.0, are.1 ++ own, are.2, texts_snoc style cs c are.1 own are.3 is, ap (λ z. z ++ own) are.4 ∙ append_assoc are.0 are.1 own)
@@ -57,7 +58,7 @@ kept_same NoMemory out = refl
 kept_same (Write e) out = tt
 
 module _ (d : Database) (old_root : ℕ) (e : Database) (new_root : ℕ) (style : Style) where
-  pub none_written : (diff : Diff) (out : Option (List ℕ)) → ((cs : List Change) → HasChanges d old_root e new_root cs ↔ ChangesLeft d e diff cs)
+  pub none_written : (diff : TableDiff) (out : Option (List ℕ)) → ((cs : List Change) → HasChangesBy style.key d old_root e new_root cs ↔ ChangesLeft d e diff cs)
       → AreWritten d old_root e new_root style style.before.now diff out out
   none_written diff out all = record {
     cs = [];
@@ -69,7 +70,7 @@ module _ (d : Database) (old_root : ℕ) (e : Database) (new_root : ℕ) (style 
     first_of = λ cs has. (cs, refl, (all cs).0 has);
   }
 
-  pub one_written : (b : Bor (List ℕ)) (old new : Diff) (before mid after : Option (List ℕ))
+  pub one_written : (b : Bor (List ℕ)) (old new : TableDiff) (before mid after : Option (List ℕ))
       → AreWritten d old_root e new_root style b.now old before mid
       → TellsNext d e true (record style { before = b }) old new mid after
       → AreWritten d old_root e new_root style [] new before after
@@ -85,24 +86,24 @@ module _ (d : Database) (old_root : ℕ) (e : Database) (new_root : ℕ) (style 
         told = texts_snoc style w.cs c w.texts own w.told next.2.1;
         nexts = sym (next_none style.before.now w.cs c);
         appended = subst (Appends before after) (sym (start_more style style.before.now w.cs c w.texts own w.told)) all;
-        all_of = λ rest left. subst (HasChanges d old_root e new_root) (sym (append_assoc w.cs (c ∷ []) rest)) (w.all_of (c ∷ rest) (next.4 rest left));
+        all_of = λ rest left. subst (HasChangesBy style.key d old_root e new_root) (sym (append_assoc w.cs (c ∷ []) rest)) (w.all_of (c ∷ rest) (next.4 rest left));
         first_of = λ cs has.
             let a = w.first_of cs has in
             let n = next.5 a.0 a.2 in
             (n.0, a.1 ∙ ap (λ z. w.cs ++ z) n.1 ∙ sym (append_assoc w.cs (c ∷ []) n.0), n.2);
       }
 
-  pub all_written : (next : List ℕ) (b : Bor (List ℕ)) (old new : Diff) (before mid after : Option (List ℕ))
+  pub all_written : (next : List ℕ) (b : Bor (List ℕ)) (old new : TableDiff) (before mid after : Option (List ℕ))
       → AreWritten d old_root e new_root style next old before mid → TellsNext d e false (record style { before = b }) old new mid after
       → (t : List ℕ) × AreBothTold d old_root e new_root style t × Appends before after t
   all_written next b old new before mid after w ended = (
     start_of style.before.now w.cs ++ w.texts,
-    (w.cs, subst (HasChanges d old_root e new_root) (append-nil w.cs) (w.all_of [] ended.0), (w.texts, w.told, refl)),
+    (w.cs, subst (HasChangesBy style.key d old_root e new_root) (append-nil w.cs) (w.all_of [] ended.0), (w.texts, w.told, refl)),
     subst (λ o. Appends before o (start_of style.before.now w.cs ++ w.texts)) ended.1 w.appended,
   )
 
-  pub told_until : (next : List ℕ) (diff : Diff) (stop : Stop) (before mid after : Option (List ℕ))
-      → AreWritten d old_root e new_root style next diff before mid → NextRefused d e style.writing style.columns.now diff stop → IsKept stop mid after
+  pub told_until : (next : List ℕ) (diff : TableDiff) (stop : Stop) (before mid after : Option (List ℕ))
+      → AreWritten d old_root e new_root style next diff before mid → NextRefused d e style.writing style.key style.columns.now diff stop → IsKept stop mid after
       → AreBothToldUntil d old_root e new_root style stop before after
   told_until next diff stop before mid after w refused kept = (
     w.cs,

@@ -1,6 +1,7 @@
 pub mod Answered
 pub mod ChangesTold
 pub mod ChangesStopped
+pub mod ChangesOfDiffs
 pub mod ChangesFound
 pub mod RowsTold
 pub mod TurnsTaken

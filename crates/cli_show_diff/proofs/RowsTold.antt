@@ -22,6 +22,7 @@ use Rattle.cli_show_rows.specs.declared.stop.Stop.{Stop}
 use Rattle.cli_show_rows.specs.declared.stop.Stop.TheVariants.{Fault, Record, TooLong, NotUnderstood, Default, Behind, Encoding, NoSuchTable, NoMemory, Write}
 use Rattle.cli_show_rows.specs.internal.Stopping.{stop_of_row}
 use Rattle.sqdiff.specs.Changes.{Change}
+use Rattle.sqkeydiff.specs.declared.key.KeyOrder.{KeyOrder}
 use Rattle.cli_change_text.specs.declared.style.Style.{Style}
 use Rattle.cli_change_text.specs.declared.style.Writing.{Writing}
 use Rattle.cli_change_text.specs.Refusals.{IsKept, IsUnwritten, side_of}
@@ -79,21 +80,21 @@ module _ (d : Database) (root : ℕ) (comes : Bool) (style : Style) where
   )
 
   row_stops : (cursor : Rows) (rows : List Row) (stop : Stop) → cursor.limit ≡ most_bytes → ArePassed d root cursor rows
-      → RowStops d style.writing style.columns.now cursor stop → StopsAt d root style.writing style.columns.now (length rows) stop
+      → RowStops d style.writing style.key style.columns.now cursor stop → StopsAt d root style.writing style.key style.columns.now (length rows) stop
   row_stops cursor rows (Fault f) limit passed h = (h.0, λ other. holds_at d root cursor rows (HasNoPayload d) passed (h.1 other))
   row_stops cursor rows (Record error) limit passed h = holds_at d root cursor rows (IsNoRecord d error) passed h
   row_stops cursor rows TooLong limit passed h =
       subst (λ (l : ℕ). HoldsAt d root (length rows) (IsAbove l)) limit (holds_at d root cursor rows (IsAbove cursor.limit) passed h)
-  row_stops cursor rows NotUnderstood limit passed h = holds_at d root cursor rows (HasUnwritable d style.writing style.columns.now NotUnderstood) passed h
-  row_stops cursor rows Default limit passed h = holds_at d root cursor rows (HasUnwritable d style.writing style.columns.now Default) passed h
-  row_stops cursor rows Behind limit passed h = holds_at d root cursor rows (HasUnwritable d style.writing style.columns.now Behind) passed h
-  row_stops cursor rows Encoding limit passed h = holds_at d root cursor rows (HasUnwritable d style.writing style.columns.now Encoding) passed h
-  row_stops cursor rows NoSuchTable limit passed h = holds_at d root cursor rows (HasUnwritable d style.writing style.columns.now NoSuchTable) passed h
+  row_stops cursor rows NotUnderstood limit passed h = holds_at d root cursor rows (HasUnwritable d style.writing style.key style.columns.now NotUnderstood) passed h
+  row_stops cursor rows Default limit passed h = holds_at d root cursor rows (HasUnwritable d style.writing style.key style.columns.now Default) passed h
+  row_stops cursor rows Behind limit passed h = holds_at d root cursor rows (HasUnwritable d style.writing style.key style.columns.now Behind) passed h
+  row_stops cursor rows Encoding limit passed h = holds_at d root cursor rows (HasUnwritable d style.writing style.key style.columns.now Encoding) passed h
+  row_stops cursor rows NoSuchTable limit passed h = holds_at d root cursor rows (HasUnwritable d style.writing style.key style.columns.now NoSuchTable) passed h
   row_stops cursor rows NoMemory limit passed h = tt
   row_stops cursor rows (Write error) limit passed h = tt
 
   pub told_until : (next : List ℕ) (cursor : Rows) (stop : Stop) (before mid after : Option (List ℕ)) → cursor.limit ≡ most_bytes
-      → AreRowsWritten d root comes style next cursor before mid → RowStops d style.writing style.columns.now cursor stop → IsKept stop mid after
+      → AreRowsWritten d root comes style next cursor before mid → RowStops d style.writing style.key style.columns.now cursor stop → IsKept stop mid after
       → IsOneToldUntil d root comes style stop before after
   told_until next cursor stop before mid after limit w refused kept = (
     w.rows,
@@ -108,29 +109,29 @@ module _ (d : Database) (root : ℕ) (comes : Bool) (style : Style) where
   none_told f out refused = ([], [], (λ xs tree. ([], xs, refl, refl)), ([], refl, refl), Appends-nil out, tree_fault d root 0 f refused)
 
 -- why the next row isn't read, or its text isn't written
-pub read_stops : (d : Database) (writing : Writing) (columns : Columns) (cursor : Rows) (error : RowsError) → RowsRefused d cursor error
-    → RowStops d writing columns cursor (stop_of_row error)
-read_stops d writing columns cursor (Tree f) h = (h.0, λ other xs left. absurd (h.1 other xs left))
-read_stops d writing columns cursor (Payload (Chain f)) h = h
-read_stops d writing columns cursor (Payload PayloadTooLong) h = h
+pub read_stops : (d : Database) (writing : Writing) (key : Option KeyOrder) (columns : Columns) (cursor : Rows) (error : RowsError) → RowsRefused d cursor error
+    → RowStops d writing key columns cursor (stop_of_row error)
+read_stops d writing key columns cursor (Tree f) h = (h.0, λ other xs left. absurd (h.1 other xs left))
+read_stops d writing key columns cursor (Payload (Chain f)) h = h
+read_stops d writing key columns cursor (Payload PayloadTooLong) h = h
 
-pub write_stops : (d : Database) (writing : Writing) (columns : Columns) (comes : Bool) (old new : Rows) (row : Row) (stop : Stop) → Passes d old new row
-    → IsUnwritten writing columns (side_of comes row) stop → RowStops d writing columns old stop
-write_stops d writing columns true old new row (Fault f) passes h = absurd h
-write_stops d writing columns false old new row (Fault f) passes h = absurd h
-write_stops d writing columns true old new row (Record error) passes h = absurd h
-write_stops d writing columns false old new row (Record error) passes h = absurd h
-write_stops d writing columns true old new row TooLong passes h = absurd h
-write_stops d writing columns false old new row TooLong passes h = absurd h
-write_stops d writing columns comes old new row NoMemory passes h = tt
-write_stops d writing columns comes old new row (Write error) passes h = tt
-write_stops d writing columns true old new row Encoding passes h = absurd h
-write_stops d writing columns false old new row Encoding passes h = absurd h
-write_stops d writing columns true old new row NoSuchTable passes h = absurd h
-write_stops d writing columns false old new row NoSuchTable passes h = absurd h
-write_stops d writing columns true old new row NotUnderstood passes h = λ xs left. let n = passes xs left in (n.0, n.1, n.2, (row, n.3, h))
-write_stops d writing columns false old new row NotUnderstood passes h = λ xs left. let n = passes xs left in (n.0, n.1, n.2, (row, n.3, h))
-write_stops d writing columns true old new row Default passes h = λ xs left. let n = passes xs left in (n.0, n.1, n.2, (row, n.3, h))
-write_stops d writing columns false old new row Default passes h = λ xs left. let n = passes xs left in (n.0, n.1, n.2, (row, n.3, h))
-write_stops d writing columns true old new row Behind passes h = λ xs left. let n = passes xs left in (n.0, n.1, n.2, (row, n.3, h))
-write_stops d writing columns false old new row Behind passes h = λ xs left. let n = passes xs left in (n.0, n.1, n.2, (row, n.3, h))
+pub write_stops : (d : Database) (writing : Writing) (key : Option KeyOrder) (columns : Columns) (comes : Bool) (old new : Rows) (row : Row) (stop : Stop) → Passes d old new row
+    → IsUnwritten writing key columns (side_of comes row) stop → RowStops d writing key columns old stop
+write_stops d writing key columns true old new row (Fault f) passes h = absurd h
+write_stops d writing key columns false old new row (Fault f) passes h = absurd h
+write_stops d writing key columns true old new row (Record error) passes h = absurd h
+write_stops d writing key columns false old new row (Record error) passes h = absurd h
+write_stops d writing key columns true old new row TooLong passes h = absurd h
+write_stops d writing key columns false old new row TooLong passes h = absurd h
+write_stops d writing key columns comes old new row NoMemory passes h = tt
+write_stops d writing key columns comes old new row (Write error) passes h = tt
+write_stops d writing key columns true old new row Encoding passes h = absurd h
+write_stops d writing key columns false old new row Encoding passes h = absurd h
+write_stops d writing key columns true old new row NoSuchTable passes h = absurd h
+write_stops d writing key columns false old new row NoSuchTable passes h = absurd h
+write_stops d writing key columns true old new row NotUnderstood passes h = λ xs left. let n = passes xs left in (n.0, n.1, n.2, (row, n.3, h))
+write_stops d writing key columns false old new row NotUnderstood passes h = λ xs left. let n = passes xs left in (n.0, n.1, n.2, (row, n.3, h))
+write_stops d writing key columns true old new row Default passes h = λ xs left. let n = passes xs left in (n.0, n.1, n.2, (row, n.3, h))
+write_stops d writing key columns false old new row Default passes h = λ xs left. let n = passes xs left in (n.0, n.1, n.2, (row, n.3, h))
+write_stops d writing key columns true old new row Behind passes h = λ xs left. let n = passes xs left in (n.0, n.1, n.2, (row, n.3, h))
+write_stops d writing key columns false old new row Behind passes h = λ xs left. let n = passes xs left in (n.0, n.1, n.2, (row, n.3, h))

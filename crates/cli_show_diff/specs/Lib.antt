@@ -1,3 +1,4 @@
+pub mod Sorted
 pub mod Told
 pub mod Stops
 pub mod Tables

@@ -1,3 +1,4 @@
 -- What no public clause reaches.
 pub mod Stopping
+pub mod TableDiffs
 pub mod Walks

@@ -5,33 +5,34 @@ ghost use Rattle.sqval.specs.Record.{most_bytes};
 ghost use Rattle.sqpage.specs.Source.{KeepsPages};
 ghost use Rattle.sqdiff.specs.Changes.{Change};
 ghost use Rattle.sqdiff.specs.declared.diff.Kind.{Kind};
-ghost use Rattle.sqdiff.specs.DiffCursor.{AreStanding};
 ghost use Rattle.cli_change_text.specs.Changes.{IsTextIn};
 ghost use Rattle.cli_change_text.specs.Refusals.{IsKept};
 ghost use Rattle.cli_show_diff.specs.Told.{AreBothTold};
 ghost use Rattle.cli_show_diff.specs.Stops.{AreBothToldUntil};
+ghost use Rattle.cli_show_diff.specs.internal.TableDiffs.{AreStanding, new_rows, old_rows};
 ghost use Rattle.cli_show_diff.specs.internal.Walks.{FoundRefused, IsOnlyChange, NextRefused, TellsNext};
 
 use crate::stop::of_diff;
+use crate::table_diff::TableDiff;
 use cli_change_text::{Style, write_changed, write_one_side};
 use cli_show_rows::Stop;
-use sqdiff::{Diff, Kind};
+use sqdiff::Kind;
 use sqpage::PageSource;
-use sqval::MOST_BYTES;
 use std::alloc::Global;
 use std::io::Write;
 
 /// Writes the row that came.
 fn write_inserted<W: Write>(
     alloc: Global,
-    diff: &Diff,
+    diff: &TableDiff,
     style: Style<'_>,
     out: &mut W,
 ) -> Result<(), Stop>
     ensures ok { OnOk result ((c : Change) × (t : List ℕ) × IsOnlyChange diff.now Kind.Inserted c
         × IsTextIn style.entry c t
         × Appends (W.contents out.old) (W.contents out.new) t) }
-    ensures err { IfErr result (FoundRefused diff.now Kind.Inserted style.entry.writing style.entry.columns.now) }
+    ensures err { IfErr result (FoundRefused diff.now Kind.Inserted style.entry.writing style.entry.key
+        style.entry.columns.now) }
     ensures kept { IfErr result (λ stop. IsKept stop (W.contents out.old) (W.contents out.new)) }
 {
     match diff.new_row() {
@@ -43,14 +44,15 @@ fn write_inserted<W: Write>(
 /// Writes the row that went.
 fn write_deleted<W: Write>(
     alloc: Global,
-    diff: &Diff,
+    diff: &TableDiff,
     style: Style<'_>,
     out: &mut W,
 ) -> Result<(), Stop>
     ensures ok { OnOk result ((c : Change) × (t : List ℕ) × IsOnlyChange diff.now Kind.Deleted c
         × IsTextIn style.entry c t
         × Appends (W.contents out.old) (W.contents out.new) t) }
-    ensures err { IfErr result (FoundRefused diff.now Kind.Deleted style.entry.writing style.entry.columns.now) }
+    ensures err { IfErr result (FoundRefused diff.now Kind.Deleted style.entry.writing style.entry.key
+        style.entry.columns.now) }
     ensures kept { IfErr result (λ stop. IsKept stop (W.contents out.old) (W.contents out.new)) }
 {
     match diff.old_row() {
@@ -62,14 +64,15 @@ fn write_deleted<W: Write>(
 /// Writes the row that has other values now.
 fn write_both<W: Write>(
     alloc: Global,
-    diff: &Diff,
+    diff: &TableDiff,
     style: Style<'_>,
     out: &mut W,
 ) -> Result<(), Stop>
     ensures ok { OnOk result ((c : Change) × (t : List ℕ) × IsOnlyChange diff.now Kind.Changed c
         × IsTextIn style.entry c t
         × Appends (W.contents out.old) (W.contents out.new) t) }
-    ensures err { IfErr result (FoundRefused diff.now Kind.Changed style.entry.writing style.entry.columns.now) }
+    ensures err { IfErr result (FoundRefused diff.now Kind.Changed style.entry.writing style.entry.key
+        style.entry.columns.now) }
     ensures kept { IfErr result (λ stop. IsKept stop (W.contents out.old) (W.contents out.new)) }
 {
     let old = match diff.old_row() {
@@ -86,14 +89,15 @@ fn write_both<W: Write>(
 /// Writes the change that the walk is at.
 fn write_found<W: Write>(
     alloc: Global,
-    diff: &Diff,
+    diff: &TableDiff,
     kind: Kind,
     style: Style<'_>,
     out: &mut W,
 ) -> Result<(), Stop>
     ensures ok { OnOk result ((c : Change) × (t : List ℕ) × IsOnlyChange diff.now kind c × IsTextIn style.entry c t
         × Appends (W.contents out.old) (W.contents out.new) t) }
-    ensures err { IfErr result (FoundRefused diff.now kind style.entry.writing style.entry.columns.now) }
+    ensures err { IfErr result (FoundRefused diff.now kind style.entry.writing style.entry.key
+        style.entry.columns.now) }
     ensures kept { IfErr result (λ stop. IsKept stop (W.contents out.old) (W.contents out.new)) }
 {
     match kind {
@@ -126,13 +130,13 @@ fn print_next<S: PageSource, T: PageSource, W: Write>(
     alloc: Global,
     old: &mut S,
     new: &mut T,
-    diff: &mut Diff,
+    diff: &mut TableDiff,
     walk: Walk<'_>,
     out: &mut W,
 ) -> Result<bool, Stop>
-    requires sized { (S.size old.old ≡ diff.old.old_side.rows.cells.size)
-        × (T.size new.old ≡ diff.old.new_side.rows.cells.size) }
-    requires limited { (diff.old.old_side.rows.limit ≡ most_bytes) × (diff.old.new_side.rows.limit ≡ most_bytes) }
+    requires sized { (S.size old.old ≡ (old_rows diff.old).cells.size)
+        × (T.size new.old ≡ (new_rows diff.old).cells.size) }
+    requires limited { ((old_rows diff.old).limit ≡ most_bytes) × ((new_rows diff.old).limit ≡ most_bytes) }
     ensures ok { S.gives_pages old.old → T.gives_pages new.old → AreStanding (S.pages old.old)
         (T.pages new.old) diff.old
         → IfOk result (λ found. AreStanding (S.pages old.old) (T.pages new.old) diff.new
@@ -141,12 +145,12 @@ fn print_next<S: PageSource, T: PageSource, W: Write>(
     ensures err { S.gives_pages old.old → T.gives_pages new.old → AreStanding (S.pages old.old)
         (T.pages new.old) diff.old
         → IfErr result (NextRefused (S.pages old.old)
-        (T.pages new.old) walk.entry.style.writing walk.entry.style.columns.now diff.old) }
+        (T.pages new.old) walk.entry.style.writing walk.entry.style.key walk.entry.style.columns.now diff.old) }
     ensures kept { IfErr result (λ stop. IsKept stop (W.contents out.old) (W.contents out.new)) }
-    ensures same { (diff.new.old_side.rows.cells.size ≡ diff.old.old_side.rows.cells.size)
-        × (diff.new.new_side.rows.cells.size ≡ diff.old.new_side.rows.cells.size)
-        × (diff.new.old_side.rows.limit ≡ diff.old.old_side.rows.limit)
-        × (diff.new.new_side.rows.limit ≡ diff.old.new_side.rows.limit) }
+    ensures same { ((old_rows diff.new).cells.size ≡ (old_rows diff.old).cells.size)
+        × ((new_rows diff.new).cells.size ≡ (new_rows diff.old).cells.size)
+        × ((old_rows diff.new).limit ≡ (old_rows diff.old).limit)
+        × ((new_rows diff.new).limit ≡ (new_rows diff.old).limit) }
     ensures keeps { KeepsPages S.pages S.size S.reads_right S.gives_pages old.old old.new
         × KeepsPages T.pages T.size T.reads_right T.gives_pages new.old new.new }
 {
@@ -156,7 +160,8 @@ fn print_next<S: PageSource, T: PageSource, W: Write>(
         Err(error) => {
             let columns = walk.style.columns;
             let has_rowids = !columns.names.is_empty() && columns.places.is_empty();
-            return Err(of_diff(error, walk.roots, has_rowids));
+            let has_order = has_rowids || walk.style.key.is_some();
+            return Err(of_diff(error, walk.roots, has_order));
         }
     };
     match write_found(alloc, diff, kind, walk.style, out) {
@@ -165,9 +170,9 @@ fn print_next<S: PageSource, T: PageSource, W: Write>(
     }
 }
 
-/// Writes the changes between two tables whose roots are these pages, by rowid, each once. Refused as `Diff::advance`
-/// does, by `KeyOrder` at its root where the rowids of a table don't rise, and as a change is; behind the changes that
-/// stand before.
+/// Writes the changes between two tables whose roots are these pages, by rowid or by key, each once. Refused as
+/// `TableDiff::advance` is, by `KeyOrder` at its root where the rowids or keys of a table don't rise, and as a change
+/// is; behind the changes that stand before.
 pub(crate) fn print_both<S: PageSource, T: PageSource, W: Write>(
     alloc: Global,
     old: &mut S,
@@ -185,7 +190,7 @@ pub(crate) fn print_both<S: PageSource, T: PageSource, W: Write>(
     ensures keeps { KeepsPages S.pages S.size S.reads_right S.gives_pages old.old old.new
         × KeepsPages T.pages T.size T.reads_right T.gives_pages new.old new.new }
 {
-    let mut diff = match Diff::new(alloc, old, roots.0, new, roots.1, MOST_BYTES as u64) {
+    let mut diff = match TableDiff::new(alloc, old, new, roots, style.key) {
         Ok(diff) => diff,
         Err(error) => return Err(of_diff(error, roots, true)),
     };

@@ -232,12 +232,12 @@ fn print_framed<S: PageSource, T: PageSource, W: Write>(
 }
 
 /// Prints which rows differ between an old database and a new one, of the tables that are named, in that order, or of
-/// each: the user's before SQLite's own, those that the old database has before those that it lacks, and each by rowid.
-/// Tables are matched by name; where only one has a table, or their texts differ, all rows went and all came.
-/// In SQL all of it is a script in one transaction. Refused by the faults of both schemas, by `Encoding` where texts
-/// aren't UTF-8, by `NoSuchTable`, by `NotUnderstood` where a table WITHOUT ROWID has rows and in SQL where there is a
-/// virtual table or the text of a table with changes isn't understood, and by faults of trees and rows behind what
-/// stands before them.
+/// each: the user's before SQLite's own, those that the old database has before those that it lacks, and each by rowid,
+/// or by key in one WITHOUT ROWID. Tables are matched by name; where only one has a table, or their texts differ, all
+/// rows went and all came. In SQL all of it is a script in one transaction. Refused by the faults of both schemas, by
+/// `Encoding` where texts aren't UTF-8, by `NoSuchTable`, by `NotUnderstood` where it isn't known how the rows of a
+/// table WITHOUT ROWID are sorted and it has some, and in SQL where there is a virtual table or the text of a table
+/// with changes isn't understood, and by faults of trees and rows behind what stands before them.
 pub fn print_changes<S: PageSource, T: PageSource, W: Write>(
     alloc: Global,
     old: &mut S,

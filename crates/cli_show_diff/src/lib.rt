@@ -7,8 +7,10 @@ mod form;
 mod frame;
 mod one;
 mod pair;
+mod sorted;
 mod stop;
 mod table;
+mod table_diff;
 mod turn;
 
 pub use changes::{Selected, print_changes};

@@ -33,7 +33,8 @@ fn print_next<S: PageSource, W: Write>(
         TellsRow (S.pages source.old) found comes style.entry rows.old rows.new
         (W.contents out.old) (W.contents out.new)) }
     ensures err { S.gives_pages source.old → IsOver (S.pages source.old) rows.old.cells
-        → IfErr result (RowStops (S.pages source.old) style.entry.writing style.entry.columns.now rows.old) }
+        → IfErr result (RowStops (S.pages source.old) style.entry.writing style.entry.key style.entry.columns.now
+        rows.old) }
     ensures kept { IfErr result (λ stop. IsKept stop (W.contents out.old) (W.contents out.new)) }
     ensures size { (rows.new.cells.size ≡ rows.old.cells.size) × (rows.new.cells.usable ≡ rows.old.cells.usable)
         × (rows.new.limit ≡ rows.old.limit) }

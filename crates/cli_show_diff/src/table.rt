@@ -3,14 +3,19 @@ ghost use Rattle.std.specs.Prelude.{◌≡◌, ◌++◌, OnOk, IfOk, IfErr, IsTr
 ghost use Rattle.sqpage.specs.Source.{KeepsPages};
 ghost use Rattle.cli_row_text.specs.Inserts.{rowid_name as rowid_named};
 ghost use Rattle.cli_show_diff.specs.Tables.{IsKeptPrinted, IsSidePrinted, IsUnnamed, before_text, head_text};
-ghost use Rattle.cli_show_diff.specs.Tables.{IsKeptStopped, IsSideStopped, IsStyleOf};
+ghost use Rattle.cli_show_diff.specs.Tables.{IsKeptStopped, IsSideStopped, IsStyleOf, condition_start};
+ghost use Rattle.cli_show_diff.specs.Sorted.{AreSortedBy, IsSortedBy, format_of};
 ghost use Rattle.cli_show_rows.specs.declared.stop.Stop.{Stop};
 
 use crate::both::print_both;
 use crate::one::print_one;
-use cli_change_text::{Style, Writing, write_object_head, write_removal_head, write_title};
+use crate::sorted::{sorted_between, sorted_in};
+use cli_change_text::{
+    Style, Writing, write_object_head, write_removal_head, write_removal_start, write_title,
+};
 use cli_row_text::write_insert;
 use cli_show_rows::{Stop, known_columns, rowid_name};
+use sqkeydiff::KeyOrder;
 use sqpage::PageSource;
 use sqtables::{Columns, Object};
 use std::alloc::Global;
@@ -26,21 +31,47 @@ fn write_before(out: &mut Vec<u8>, writing: Writing, table: &[u8]) -> io::Result
     }
 }
 
+/// What tells the rows of a table from one another.
+#[derive(Clone, Copy)]
+pub(crate) struct Naming<'a> {
+    /// What their rowids are called, where a name is free.
+    pub(crate) rowid: Option<&'a str>,
+    /// How they are sorted by their keys, in one WITHOUT ROWID.
+    pub(crate) key: Option<KeyOrder>,
+}
+
+/// What the DELETE of a row begins with, before its rowid or its key.
+fn write_condition_start(
+    out: &mut Vec<u8>,
+    table: &[u8],
+    columns: &Columns,
+    naming: Naming<'_>,
+) -> io::Result<()>
+    ensures { OnOk result (out.new.items ≡ out.old.items ++ condition_start table.now columns.now
+        (rowid_named naming.entry.rowid) naming.entry.key) }
+{
+    match naming.key {
+        Some(_) => write_removal_start(out, table),
+        None => write_removal_head(out, table, columns, naming.rowid),
+    }
+}
+
 /// What each of them begins with.
 fn write_head(
     out: &mut Vec<u8>,
     writing: Writing,
     table: &[u8],
     columns: &Columns,
-    rowid: Option<&str>,
+    naming: Naming<'_>,
 ) -> io::Result<()>
     ensures { OnOk result (out.new.items ≡ out.old.items ++ head_text writing table.now columns.now
-        (rowid_named rowid.entry)) }
+        (rowid_named naming.entry.rowid) naming.entry.key) }
 {
+    let rowid = naming.rowid;
     match writing {
         Writing::Line => Ok(()),
         Writing::Object(commit) => write_object_head(out, commit, table),
-        Writing::Removal => write_removal_head(out, table, columns, rowid),
+        Writing::Removal => write_condition_start(out, table, columns, naming),
         Writing::Arrival => write_insert(out, table, rowid, &columns.names),
     }
 }
@@ -51,10 +82,10 @@ fn texts_of(
     writing: Writing,
     table: &[u8],
     columns: &Columns,
-    rowid: Option<&str>,
+    naming: Naming<'_>,
 ) -> Result<(Vec<u8>, Vec<u8>), Stop>
     ensures ok { IfOk result (λ texts. (texts.0.items ≡ before_text writing table.now)
-        × (texts.1.items ≡ head_text writing table.now columns.now (rowid_named rowid.entry))) }
+        × (texts.1.items ≡ head_text writing table.now columns.now (rowid_named naming.entry.rowid) naming.entry.key)) }
     ensures err { IfErr result (λ stop. stop ≡ Stop.NoMemory) }
 {
     let mut before = Vec::new(alloc);
@@ -63,20 +94,21 @@ fn texts_of(
         Ok(()) => {}
         Err(_) => return Err(Stop::NoMemory),
     }
-    match write_head(&mut head, writing, table, columns, rowid) {
+    match write_head(&mut head, writing, table, columns, naming) {
         Ok(()) => Ok((before, head)),
         Err(_) => Err(Stop::NoMemory),
     }
 }
 
 /// Whether a script can't name the rows of a table, or its columns.
-fn is_unnamed(writing: Writing, columns: &Columns, rowid: Option<&str>) -> bool
-    ensures { IsTrue result → IsUnnamed writing columns.now (rowid_named rowid.entry) }
+fn is_unnamed(writing: Writing, columns: &Columns, naming: Naming<'_>) -> bool
+    ensures { IsTrue result → IsUnnamed writing columns.now (rowid_named naming.entry.rowid) naming.entry.key }
 {
     match writing {
         Writing::Line | Writing::Object(_) => false,
         Writing::Removal | Writing::Arrival => {
-            columns.names.is_empty() || (rowid.is_none() && columns.alias.is_none())
+            let no_rowid = naming.rowid.is_none() && columns.alias.is_none();
+            columns.names.is_empty() || (no_rowid && naming.key.is_none())
         }
     }
 }
@@ -91,16 +123,62 @@ fn print_kept_in<S: PageSource, T: PageSource, W: Write>(
     out: &mut W,
 ) -> Result<(), Stop>
     requires of { IsStyleOf tables.0.now style.writing style }
-    ensures ok { S.gives_pages old.old → T.gives_pages new.old → OnOk result (IsKeptPrinted (S.pages old.old)
-        (T.pages new.old) tables.entry.0.now tables.entry.1.now style.entry.writing
-        (W.contents out.old) (W.contents out.new)) }
-    ensures err { S.gives_pages old.old → T.gives_pages new.old → IfErr result (λ stop. IsKeptStopped (S.pages old.old)
+    ensures ok { S.gives_pages old.old → T.gives_pages new.old → AreSortedBy (S.pages old.old) (T.pages new.old)
+        tables.entry.0.now.sql.items style.entry.key → OnOk result (IsKeptPrinted (S.pages old.old) (T.pages new.old)
+        tables.entry.0.now tables.entry.1.now style.entry.writing (W.contents out.old) (W.contents out.new)) }
+    ensures err { S.gives_pages old.old → T.gives_pages new.old → AreSortedBy (S.pages old.old) (T.pages new.old)
+        tables.entry.0.now.sql.items style.entry.key → IfErr result (λ stop. IsKeptStopped (S.pages old.old)
         (T.pages new.old) tables.entry.0.now tables.entry.1.now style.entry.writing stop
         (W.contents out.old) (W.contents out.new)) }
     ensures keeps { KeepsPages S.pages S.size S.reads_right S.gives_pages old.old old.new
         × KeepsPages T.pages T.size T.reads_right T.gives_pages new.old new.new }
 {
     print_both(alloc, old, new, (tables.0.root, tables.1.root), style, out)
+}
+
+/// Writes the changes of a table that both databases have, whose rows are sorted so by key.
+fn print_kept_by<S: PageSource, T: PageSource, W: Write>(
+    alloc: Global,
+    old: &mut S,
+    new: &mut T,
+    tables: (&Object, &Object),
+    by: (Writing, Option<KeyOrder>),
+    out: &mut W,
+) -> Result<(), Stop>
+    ensures ok { S.gives_pages old.old → T.gives_pages new.old → AreSortedBy (S.pages old.old) (T.pages new.old)
+        tables.entry.0.now.sql.items by.1 → OnOk result (IsKeptPrinted (S.pages old.old) (T.pages new.old)
+        tables.entry.0.now tables.entry.1.now by.0 (W.contents out.old) (W.contents out.new)) }
+    ensures err { S.gives_pages old.old → T.gives_pages new.old → AreSortedBy (S.pages old.old) (T.pages new.old)
+        tables.entry.0.now.sql.items by.1 → IfErr result (λ stop. IsKeptStopped (S.pages old.old)
+        (T.pages new.old) tables.entry.0.now tables.entry.1.now by.0 stop (W.contents out.old)
+        (W.contents out.new)) }
+    ensures keeps { KeepsPages S.pages S.size S.reads_right S.gives_pages old.old old.new
+        × KeepsPages T.pages T.size T.reads_right T.gives_pages new.old new.new }
+{
+    let table = tables.0;
+    let (writing, key) = by;
+    let columns = match known_columns(alloc, table) {
+        Ok(columns) => columns,
+        Err(stop) => return Err(stop),
+    };
+    let rowid = rowid_name(&columns);
+    let naming = Naming { rowid, key };
+    if is_unnamed(writing, &columns, naming) {
+        return Err(Stop::NotUnderstood);
+    }
+    let (before, head) = match texts_of(alloc, writing, &table.name, &columns, naming) {
+        Ok(texts) => texts,
+        Err(stop) => return Err(stop),
+    };
+    let style = Style {
+        writing,
+        columns: &columns,
+        before: &before,
+        head: &head,
+        leads: rowid.is_some(),
+        key,
+    };
+    print_kept_in(alloc, old, new, tables, style, out)
 }
 
 /// Writes the changes of a table that both databases have.
@@ -120,27 +198,10 @@ pub(crate) fn print_kept<S: PageSource, T: PageSource, W: Write>(
     ensures keeps { KeepsPages S.pages S.size S.reads_right S.gives_pages old.old old.new
         × KeepsPages T.pages T.size T.reads_right T.gives_pages new.old new.new }
 {
-    let table = tables.0;
-    let columns = match known_columns(alloc, table) {
-        Ok(columns) => columns,
-        Err(stop) => return Err(stop),
-    };
-    let rowid = rowid_name(&columns);
-    if is_unnamed(writing, &columns, rowid) {
-        return Err(Stop::NotUnderstood);
+    match sorted_between(alloc, old, new, &tables.0.sql) {
+        Ok(key) => print_kept_by(alloc, old, new, tables, (writing, key), out),
+        Err(stop) => Err(stop),
     }
-    let (before, head) = match texts_of(alloc, writing, &table.name, &columns, rowid) {
-        Ok(texts) => texts,
-        Err(stop) => return Err(stop),
-    };
-    let style = Style {
-        writing,
-        columns: &columns,
-        before: &before,
-        head: &head,
-        leads: rowid.is_some(),
-    };
-    print_kept_in(alloc, old, new, tables, style, out)
 }
 
 /// Writes all rows of a table as ones that came, or that went, in this style.
@@ -153,13 +214,54 @@ fn print_side_in<S: PageSource, W: Write>(
     out: &mut W,
 ) -> Result<(), Stop>
     requires of { IsStyleOf table.now style.writing style }
-    ensures ok { S.gives_pages source.old → OnOk result (IsSidePrinted (S.pages source.old) table.now comes
+    ensures ok { S.gives_pages source.old → IsSortedBy table.now.sql.items (format_of (S.pages source.old))
+        style.entry.key → OnOk result (IsSidePrinted (S.pages source.old) table.now comes
         style.entry.writing (W.contents out.old) (W.contents out.new)) }
-    ensures err { S.gives_pages source.old → IfErr result (λ stop. IsSideStopped (S.pages source.old) table.now comes
+    ensures err { S.gives_pages source.old → IsSortedBy table.now.sql.items (format_of (S.pages source.old))
+        style.entry.key → IfErr result (λ stop. IsSideStopped (S.pages source.old) table.now comes
         style.entry.writing stop (W.contents out.old) (W.contents out.new)) }
     ensures keeps { KeepsPages S.pages S.size S.reads_right S.gives_pages source.old source.new }
 {
     print_one(alloc, source, table.root, comes, style, out)
+}
+
+/// Writes all rows of a table as ones that came, or that went, which are sorted so by key.
+fn print_side_by<S: PageSource, W: Write>(
+    alloc: Global,
+    source: &mut S,
+    table: &Object,
+    comes: bool,
+    by: (Writing, Option<KeyOrder>),
+    out: &mut W,
+) -> Result<(), Stop>
+    ensures ok { S.gives_pages source.old → IsSortedBy table.now.sql.items (format_of (S.pages source.old)) by.1
+        → OnOk result (IsSidePrinted (S.pages source.old) table.now comes by.0
+        (W.contents out.old) (W.contents out.new)) }
+    ensures err { S.gives_pages source.old → IsSortedBy table.now.sql.items (format_of (S.pages source.old)) by.1
+        → IfErr result (λ stop. IsSideStopped (S.pages source.old) table.now comes
+        by.0 stop (W.contents out.old) (W.contents out.new)) }
+    ensures keeps { KeepsPages S.pages S.size S.reads_right S.gives_pages source.old source.new }
+{
+    let (writing, key) = by;
+    let columns = match known_columns(alloc, table) {
+        Ok(columns) => columns,
+        Err(stop) => return Err(stop),
+    };
+    let rowid = rowid_name(&columns);
+    let naming = Naming { rowid, key };
+    let (before, head) = match texts_of(alloc, writing, &table.name, &columns, naming) {
+        Ok(texts) => texts,
+        Err(stop) => return Err(stop),
+    };
+    let style = Style {
+        writing,
+        columns: &columns,
+        before: &before,
+        head: &head,
+        leads: rowid.is_some(),
+        key,
+    };
+    print_side_in(alloc, source, table, comes, style, out)
 }
 
 /// Writes all rows of a table as ones that came, or that went.
@@ -177,21 +279,8 @@ pub(crate) fn print_side<S: PageSource, W: Write>(
         writing stop (W.contents out.old) (W.contents out.new)) }
     ensures keeps { KeepsPages S.pages S.size S.reads_right S.gives_pages source.old source.new }
 {
-    let columns = match known_columns(alloc, table) {
-        Ok(columns) => columns,
-        Err(stop) => return Err(stop),
-    };
-    let rowid = rowid_name(&columns);
-    let (before, head) = match texts_of(alloc, writing, &table.name, &columns, rowid) {
-        Ok(texts) => texts,
-        Err(stop) => return Err(stop),
-    };
-    let style = Style {
-        writing,
-        columns: &columns,
-        before: &before,
-        head: &head,
-        leads: rowid.is_some(),
-    };
-    print_side_in(alloc, source, table, comes, style, out)
+    match sorted_in(alloc, source, &table.sql) {
+        Ok(key) => print_side_by(alloc, source, table, comes, (writing, key), out),
+        Err(stop) => Err(stop),
+    }
 }

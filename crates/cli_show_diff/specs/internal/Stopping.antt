@@ -9,15 +9,15 @@ use Rattle.sqdiff.specs.declared.error.SideError.TheVariants as sides
 use Rattle.sqdiff.specs.declared.error.DiffError.{DiffError}
 use Rattle.sqdiff.specs.declared.error.DiffError.TheVariants.{Old, New}
 
-abbrev pub unordered : (root : ℕ) → (has_rowids : Bool) → Stop
+abbrev pub unordered : (root : ℕ) → (has_order : Bool) → Stop
 unordered root true = Fault (record { page = root; fault = faults.KeyOrder })
 unordered root false = NotUnderstood
 
-abbrev pub stop_of_side : SideError → (root : ℕ) → (has_rowids : Bool) → Stop
-stop_of_side (sides.Rows error) root has_rowids = stop_of_row error
-stop_of_side (sides.Record error) root has_rowids = Record error
-stop_of_side sides.Unordered root has_rowids = unordered root has_rowids
+abbrev pub stop_of_side : SideError → (root : ℕ) → (has_order : Bool) → Stop
+stop_of_side (sides.Rows error) root has_order = stop_of_row error
+stop_of_side (sides.Record error) root has_order = Record error
+stop_of_side sides.Unordered root has_order = unordered root has_order
 
-abbrev pub stop_of_diff : DiffError → (roots : ℕ × ℕ) → (has_rowids : Bool) → Stop
-stop_of_diff (Old error) roots has_rowids = stop_of_side error roots.0 has_rowids
-stop_of_diff (New error) roots has_rowids = stop_of_side error roots.1 has_rowids
+abbrev pub stop_of_diff : DiffError → (roots : ℕ × ℕ) → (has_order : Bool) → Stop
+stop_of_diff (Old error) roots has_order = stop_of_side error roots.0 has_order
+stop_of_diff (New error) roots has_order = stop_of_side error roots.1 has_order

@@ -13,9 +13,11 @@ use Rattle.sqrows.specs.Stops.{IsNoRecord}
 use Rattle.sqrows.specs.internal.Passing.{ArePassed, Passes}
 use Rattle.cli_show_rows.specs.declared.stop.Stop.{Stop}
 use Rattle.cli_show_rows.specs.declared.stop.Stop.TheVariants.{Fault, Record, TooLong, NoMemory, Write}
-use Rattle.sqdiff.specs.Changes.{Change, HasChanges}
-use Rattle.sqdiff.specs.DiffCursor.{ChangesLeft, IsAtChange}
-use Rattle.sqdiff.specs.declared.diff.Diff.{Diff}
+use Rattle.sqdiff.specs.Changes.{Change}
+use Rattle.sqkeydiff.specs.declared.key.KeyOrder.{KeyOrder}
+use Rattle.cli_show_diff.specs.Sorted.{HasChangesBy}
+use Rattle.cli_show_diff.specs.internal.TableDiffs.{ChangesLeft, IsAtChange}
+use Rattle.cli_show_diff.specs.declared.table_diff.TableDiff.{TableDiff}
 use Rattle.sqdiff.specs.declared.diff.Kind.{Kind}
 use Rattle.sqtables.specs.declared.columns.Columns.{Columns}
 use Rattle.cli_change_text.specs.declared.style.Style.{Style}
@@ -26,17 +28,17 @@ use Rattle.cli_show_diff.specs.Told.{AreChangeTexts, start_of, sides_of}
 use Rattle.cli_show_diff.specs.Stops.{StopsBefore, HasUnwritable}
 
 -- the walk is at this change and at no other
-abbrev pub IsOnlyChange : Diff → Kind → Change → Type 0
+abbrev pub IsOnlyChange : TableDiff → Kind → Change → Type 0
 IsOnlyChange diff kind c = (x : Change) → IsAtChange diff kind x ↔ (x ≡ c)
 
 -- Why the change that the walk is at isn't written: one of its rows is no record, or can't be written.
-abbrev pub FoundRefused : Diff → Kind → Writing → Columns → Stop → Type 0
-FoundRefused diff kind writing columns (Record records.TooLarge) = (c : Change) → IsAtChange diff kind c → (row : Row) × (bytes : List ℕ) × IsRecord row.values bytes × (most_bytes < length bytes)
-FoundRefused diff kind writing columns (Record error) = (c : Change) → ¬ IsAtChange diff kind c
-FoundRefused diff kind writing columns stop = (c : Change) → IsAtChange diff kind c → IsUnwritten writing columns c stop
+abbrev pub FoundRefused : TableDiff → Kind → Writing → (key : Option KeyOrder) → Columns → Stop → Type 0
+FoundRefused diff kind writing key columns (Record records.TooLarge) = (c : Change) → IsAtChange diff kind c → (row : Row) × (bytes : List ℕ) × IsRecord row.values bytes × (most_bytes < length bytes)
+FoundRefused diff kind writing key columns (Record error) = (c : Change) → ¬ IsAtChange diff kind c
+FoundRefused diff kind writing key columns stop = (c : Change) → IsAtChange diff kind c → IsUnwritten writing key columns c stop
 
 -- A change was written, which came first among those that were left; or none was left.
-abbrev pub TellsNext : Database → Database → (found : Bool) → Style → (old new : Diff) → (before after : Option (List ℕ)) → Type 0
+abbrev pub TellsNext : Database → Database → (found : Bool) → Style → (old new : TableDiff) → (before after : Option (List ℕ)) → Type 0
 TellsNext d e true style old new before after =
     (c : Change) × (t : List ℕ) × IsTextIn style c t × Appends before after t
     × ((rest : List Change) → ChangesLeft d e new rest → ChangesLeft d e old (c ∷ rest))
@@ -44,8 +46,8 @@ TellsNext d e true style old new before after =
 TellsNext d e false style old new before after = ChangesLeft d e old [] × (before ≡ after)
 
 -- Why the next change isn't.
-abbrev pub NextRefused : Database → Database → Writing → Columns → Diff → Stop → Type 0
-NextRefused d e writing columns diff stop = (all : List Change) → ChangesLeft d e diff all → StopsBefore d e writing columns all stop
+abbrev pub NextRefused : Database → Database → Writing → (key : Option KeyOrder) → Columns → TableDiff → Stop → Type 0
+NextRefused d e writing key columns diff stop = (all : List Change) → ChangesLeft d e diff all → StopsBefore d e writing key columns all stop
 
 -- what stands before the next change
 abbrev pub before_next : (before : List ℕ) → List Change → List ℕ
@@ -53,14 +55,14 @@ before_next before [] = before
 before_next before (c ∷ cs) = []
 
 -- These changes were written, and the tables have them and those that are left.
-pub record AreWritten (d : Database) (old_root : ℕ) (e : Database) (new_root : ℕ) (style : Style) (next : List ℕ) (diff : Diff) (before after : Option (List ℕ)) : Type 0 where
+pub record AreWritten (d : Database) (old_root : ℕ) (e : Database) (new_root : ℕ) (style : Style) (next : List ℕ) (diff : TableDiff) (before after : Option (List ℕ)) : Type 0 where
   pub cs : List Change
   pub texts : List ℕ
   pub told : AreChangeTexts style cs texts
   pub nexts : next ≡ before_next style.before.now cs
   pub appended : Appends before after (start_of style.before.now cs ++ texts)
-  pub all_of : (rest : List Change) → ChangesLeft d e diff rest → HasChanges d old_root e new_root (cs ++ rest)
-  pub first_of : (all : List Change) → HasChanges d old_root e new_root all → (rest : List Change) × (all ≡ cs ++ rest) × ChangesLeft d e diff rest
+  pub all_of : (rest : List Change) → ChangesLeft d e diff rest → HasChangesBy style.key d old_root e new_root (cs ++ rest)
+  pub first_of : (all : List Change) → HasChangesBy style.key d old_root e new_root all → (rest : List Change) × (all ≡ cs ++ rest) × ChangesLeft d e diff rest
 
 -- A row was written, which came first among those that were left; or none was left.
 abbrev pub TellsRow : Database → (found : Bool) → (comes : Bool) → Style → (old new : Rows) → (before after : Option (List ℕ)) → Type 0
@@ -74,13 +76,13 @@ abbrev pub RowsFault : Database → Rows → CheckError → Type 0
 RowsFault d cursor f = (f.fault ≢ faults.Source) × (f.fault ≢ faults.NoMemory → NextHolds d cursor (HasNoPayload d))
 
 -- Why the next row isn't.
-abbrev pub RowStops : Database → Writing → Columns → Rows → Stop → Type 0
-RowStops d writing columns cursor (Fault f) = RowsFault d cursor f
-RowStops d writing columns cursor (Record error) = NextHolds d cursor (IsNoRecord d error)
-RowStops d writing columns cursor TooLong = NextHolds d cursor (IsAbove cursor.limit)
-RowStops d writing columns cursor NoMemory = Unit {0}
-RowStops d writing columns cursor (Write error) = Unit {0}
-RowStops d writing columns cursor stop = NextHolds d cursor (HasUnwritable d writing columns stop)
+abbrev pub RowStops : Database → Writing → (key : Option KeyOrder) → Columns → Rows → Stop → Type 0
+RowStops d writing key columns cursor (Fault f) = RowsFault d cursor f
+RowStops d writing key columns cursor (Record error) = NextHolds d cursor (IsNoRecord d error)
+RowStops d writing key columns cursor TooLong = NextHolds d cursor (IsAbove cursor.limit)
+RowStops d writing key columns cursor NoMemory = Unit {0}
+RowStops d writing key columns cursor (Write error) = Unit {0}
+RowStops d writing key columns cursor stop = NextHolds d cursor (HasUnwritable d writing key columns stop)
 
 -- These rows were written, and the tree has them and those that are left.
 pub record AreRowsWritten (d : Database) (root : ℕ) (comes : Bool) (style : Style) (next : List ℕ) (cursor : Rows) (before after : Option (List ℕ)) : Type 0 where

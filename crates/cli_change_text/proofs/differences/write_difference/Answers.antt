@@ -5,7 +5,8 @@ use Rattle.std.proofs.KnownBytes.{Appends-trans}
 use Rattle.sqval.specs.Datum.{datum_of}
 use Rattle.cli_row_text.specs.Lines.{IsText}
 use Rattle.cli_row_text.specs.declared.form.Form.TheVariants.{Sql}
-use Rattle.cli_change_text.specs.Changes.{IsDifference, column_text, mark_of, names_of}
+use Rattle.cli_change_text.specs.Changes.{IsDifference, mark_of}
+use Rattle.cli_change_text.specs.Names.{column_text, names_of}
 use Rattle.cli_change_text.proofs.Answered.{on_ok}
 use Rattle.cli_change_text.proofs.differences.write_difference.Goals as goal
 

@@ -1,7 +1,7 @@
 use Rattle.std.proofs.Common.{◌∙◌, Bool, List, ℕ, [], false, true, refl, subst, sym, ap}
 use Rattle.std.proofs.KnownBytes.{Appends-nil}
 use Rattle.sqval.specs.Database.{Database}
-use Rattle.sqdiff.specs.DiffCursor.{AreStanding}
+use Rattle.cli_show_diff.specs.internal.TableDiffs.{AreStanding}
 use Rattle.cli_show_rows.specs.declared.stop.Stop.{Stop}
 use Rattle.cli_show_rows.specs.declared.stop.Stop.TheVariants.{NoMemory}
 use Rattle.cli_change_text.specs.declared.style.Style.{Style}
@@ -13,8 +13,8 @@ use Rattle.cli_show_diff.proofs.both.print_both.Goals as goal
 
 pub turns-init : goal.turns-init
 turns-init g c = record {
-  kept_old = c.in-Ok.ensures.keeps_old;
-  kept_new = c.in-Ok.ensures.keeps_new;
+  kept_old = c.in-Ok.ensures.keeps.0;
+  kept_new = c.in-Ok.ensures.keeps.1;
   old_size = c.in-Ok.ensures.size.0;
   new_size = c.in-Ok.ensures.size.1;
   old_limit = c.in-Ok.ensures.limit.0;
@@ -105,8 +105,8 @@ returns-in-Err-clause-err g c = λ gives too.
       λ all has. (
         all,
         refl,
-        subst (λ (s : Stop). StopsBefore d e style.writing style.columns.now all s) (sym c.of_diff.ensures)
-            (begin_stops d e style.writing style.columns.now all c.args.roots.0 c.args.roots.1 c.in-Err.error c.args.roots true refused has),
+        subst (λ (s : Stop). StopsBefore d e style.writing style.key style.columns.now all s) (sym c.of_diff.ensures)
+            (begin_stops d e style.writing style.key style.columns.now all style.key c.args.roots.0 c.args.roots.1 c.in-Err.error c.args.roots true refused has),
       ),
     )
 
@@ -122,9 +122,9 @@ returns-in-Err-print_next-clause-err g c = λ gives too.
     let refused = r.err (i.kept_old.still_gives gives) (i.kept_new.still_gives too)
     (subst (λ (p : Database). AreStanding p (g.T.PageSource.pages c.turns.new) diff) (sym i.kept_old.same_pages)
     (subst (λ (p : Database). AreStanding d p diff) (sym i.kept_new.same_pages) (i.standing gives too))) in
-    let of_old = subst (λ (p : Database). NextRefused p (g.T.PageSource.pages c.turns.new) told.writing told.columns.now diff stop) i.kept_old.same_pages refused in
-    let of_both = subst (λ (p : Database). NextRefused d p told.writing told.columns.now diff stop) i.kept_new.same_pages of_old in
-    let stops = subst (λ (s : Style). NextRefused d e s.writing s.columns.now diff stop) i.same of_both in
+    let of_old = subst (λ (p : Database). NextRefused p (g.T.PageSource.pages c.turns.new) told.writing told.key told.columns.now diff stop) i.kept_old.same_pages refused in
+    let of_both = subst (λ (p : Database). NextRefused d p told.writing told.key told.columns.now diff stop) i.kept_new.same_pages of_old in
+    let stops = subst (λ (s : Style). NextRefused d e s.writing s.key s.columns.now diff stop) i.same of_both in
     told_until d c.args.roots.0 e c.args.roots.1 c.args.style told.before.now diff stop (g.W.Write.contents c.args.out.now) (g.W.Write.contents c.turns.out) (g.W.Write.contents c.print_next.new.out) (i.written gives too) stops r.kept
 
 pub returns-clause-err : goal.returns-clause-err

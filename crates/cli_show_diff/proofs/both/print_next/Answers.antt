@@ -1,7 +1,7 @@
 use Rattle.std.proofs.Common.{◌↔◌, List, Option, subst, sym}
 use Rattle.cli_show_rows.specs.declared.stop.Stop.{Stop}
 use Rattle.sqdiff.specs.Changes.{Change}
-use Rattle.sqdiff.specs.DiffCursor.{AreStanding, ChangesLeft, ChangesMove}
+use Rattle.cli_show_diff.specs.internal.TableDiffs.{AreStanding, ChangesLeft, ChangesMove}
 use Rattle.sqdiff.specs.declared.diff.Kind.{Kind}
 use Rattle.cli_show_diff.specs.internal.Walks.{NextRefused}
 use Rattle.cli_show_diff.proofs.ChangesStopped.{diff_stops}
@@ -32,8 +32,8 @@ returns-in-Err-clause-err g c = λ gives too standing.
     let d = g.S.PageSource.pages c.args.old.now in
     let e = g.T.PageSource.pages c.args.new.now in
     let style = c.args.walk.style in
-    subst (λ (stop : Stop). NextRefused d e style.writing style.columns.now c.args.diff.now stop) (sym c.of_diff.ensures)
-    (λ all left. diff_stops d e style.writing style.columns.now all c.args.diff.now c.in-Err.error c.args.walk.roots _ c.requires.limited.0 c.requires.limited.1
+    subst (λ (stop : Stop). NextRefused d e style.writing style.key style.columns.now c.args.diff.now stop) (sym c.of_diff.ensures)
+    (λ all left. diff_stops d e style.writing style.key style.columns.now all c.args.diff.now c.in-Err.error c.args.walk.roots _ c.requires.limited.0 c.requires.limited.1
     (c.in-Err.ensures.err gives too standing) left)
 
 pub returns-in-Err-write_found-clause-err : goal.returns-in-Err-write_found-clause-err
@@ -44,4 +44,4 @@ returns-in-Err-write_found-clause-err g c = λ gives too standing.
     let was = c.args.diff.now in
     let is = c.advance.new.self in
     let walked = subst (λ (found : Option Kind). AreStanding d e is × ((cs : List Change) → ChangesLeft d e was cs ↔ ChangesMove d e found cs is)) c.in-Ok-Some.field-0-is (c.in-Ok-Some.ensures.ok gives too standing) in
-    found_refused d e was is c.in-Ok-Some.kind style.writing style.columns.now c.in-Err-write_found.stop walked.1 c.in-Err-write_found.ensures.err
+    found_refused d e was is c.in-Ok-Some.kind style.writing style.key style.columns.now c.in-Err-write_found.stop walked.1 c.in-Err-write_found.ensures.err

@@ -5,6 +5,7 @@ use Rattle.sqdiff.specs.declared.diff.Kind.TheVariants.{Changed}
 use Rattle.sqrows.specs.Rows.{Row}
 use Rattle.cli_change_text.specs.Changes.{IsTextIn}
 use Rattle.cli_change_text.specs.Refusals.{IsUnwritten}
+use Rattle.cli_show_diff.specs.internal.TableDiffs.{new_rows, old_rows}
 use Rattle.cli_show_diff.specs.internal.Walks.{FoundRefused, IsOnlyChange}
 use Rattle.cli_show_diff.proofs.ChangesFound.{only_changed, own_old, own_new, record_refused, unwritten}
 use Rattle.cli_show_diff.proofs.Answered.{on_ok, on_err}
@@ -25,16 +26,16 @@ returns-clause-err g c =
     let was : Row = record { rowid = c.in-Ok.row.rowid; values = c.in-Ok.row.values } in
     let is : Row = record { rowid = c.in-Ok-new_row.row.rowid; values = c.in-Ok-new_row.row.values } in
     let style = c.args.style in
-    on_err c.write_changed.result (IsUnwritten style.writing style.columns.now (changed was is)) (FoundRefused c.args.diff.now Changed style.writing style.columns.now)
-    (λ stop h. unwritten c.args.diff.now Changed style.writing style.columns.now (changed was is) (only_changed c.args.diff.now was is c.in-Ok.ensures.ok c.in-Ok-new_row.ensures.ok) stop
+    on_err c.write_changed.result (IsUnwritten style.writing style.key style.columns.now (changed was is)) (FoundRefused c.args.diff.now Changed style.writing style.key style.columns.now)
+    (λ stop h. unwritten c.args.diff.now Changed style.writing style.key style.columns.now (changed was is) (only_changed c.args.diff.now was is c.in-Ok.ensures.ok c.in-Ok-new_row.ensures.ok) stop
     (λ error no. elim no [ inl n ↦ n | inr n ↦ n ]) h) c.write_changed.ensures.err
 
 pub returns-in-Err-clause-err : goal.returns-in-Err-clause-err
 returns-in-Err-clause-err g c =
     let style = c.args.style in
-    record_refused c.args.diff.now Changed style.writing style.columns.now c.args.diff.now.old_side.rows (own_old c.args.diff.now) c.in-Err.error c.in-Err.ensures.err
+    record_refused c.args.diff.now Changed style.writing style.key style.columns.now (old_rows c.args.diff.now) (own_old c.args.diff.now) c.in-Err.error c.in-Err.ensures.err
 
 pub returns-in-Err-new_row-clause-err : goal.returns-in-Err-new_row-clause-err
 returns-in-Err-new_row-clause-err g c =
     let style = c.args.style in
-    record_refused c.args.diff.now Changed style.writing style.columns.now c.args.diff.now.new_side.rows (own_new c.args.diff.now) c.in-Err-new_row.error c.in-Err-new_row.ensures.err
+    record_refused c.args.diff.now Changed style.writing style.key style.columns.now (new_rows c.args.diff.now) (own_new c.args.diff.now) c.in-Err-new_row.error c.in-Err-new_row.ensures.err

@@ -5,6 +5,7 @@ use Rattle.sqdiff.specs.declared.diff.Kind.TheVariants.{Inserted}
 use Rattle.sqrows.specs.Rows.{Row}
 use Rattle.cli_change_text.specs.Changes.{IsTextIn}
 use Rattle.cli_change_text.specs.Refusals.{IsUnwritten}
+use Rattle.cli_show_diff.specs.internal.TableDiffs.{new_rows}
 use Rattle.cli_show_diff.specs.internal.Walks.{FoundRefused, IsOnlyChange}
 use Rattle.cli_show_diff.proofs.ChangesFound.{only_inserted, own_inserted, record_refused, unwritten}
 use Rattle.cli_show_diff.proofs.Answered.{on_ok, on_err}
@@ -23,10 +24,10 @@ pub returns-in-Ok-clause-err : goal.returns-in-Ok-clause-err
 returns-in-Ok-clause-err g c =
     let row : Row = record { rowid = c.in-Ok.row.rowid; values = c.in-Ok.row.values } in
     let style = c.args.style in
-    on_err c.write_one_side.result (IsUnwritten style.writing style.columns.now (inserted row)) (FoundRefused c.args.diff.now Inserted style.writing style.columns.now)
-    (λ stop h. unwritten c.args.diff.now Inserted style.writing style.columns.now (inserted row) (only_inserted c.args.diff.now row c.in-Ok.ensures.ok) stop (λ error no. no) h) c.write_one_side.ensures.err
+    on_err c.write_one_side.result (IsUnwritten style.writing style.key style.columns.now (inserted row)) (FoundRefused c.args.diff.now Inserted style.writing style.key style.columns.now)
+    (λ stop h. unwritten c.args.diff.now Inserted style.writing style.key style.columns.now (inserted row) (only_inserted c.args.diff.now row c.in-Ok.ensures.ok) stop (λ error no. no) h) c.write_one_side.ensures.err
 
 pub returns-in-Err-clause-err : goal.returns-in-Err-clause-err
 returns-in-Err-clause-err g c =
     let style = c.args.style in
-    record_refused c.args.diff.now Inserted style.writing style.columns.now c.args.diff.now.new_side.rows (own_inserted c.args.diff.now) c.in-Err.error c.in-Err.ensures.err
+    record_refused c.args.diff.now Inserted style.writing style.key style.columns.now (new_rows c.args.diff.now) (own_inserted c.args.diff.now) c.in-Err.error c.in-Err.ensures.err

@@ -17,8 +17,8 @@ returns-in-Ok-false-clause-ok g c = λ gives over.
 pub returns-in-Err-clause-err : goal.returns-in-Err-clause-err
 returns-in-Err-clause-err g c = λ gives over.
     let d = g.S.PageSource.pages c.args.source.now in
-    subst (RowStops d c.args.style.writing c.args.style.columns.now c.args.rows.now) (sym c.from.ensures)
-    (read_stops d c.args.style.writing c.args.style.columns.now c.args.rows.now c.in-Err.refusal (c.in-Err.ensures.err gives))
+    subst (RowStops d c.args.style.writing c.args.style.key c.args.style.columns.now c.args.rows.now) (sym c.from.ensures)
+    (read_stops d c.args.style.writing c.args.style.key c.args.style.columns.now c.args.rows.now c.in-Err.refusal (c.in-Err.ensures.err gives))
 
 pub returns-in-Err-row-clause-err : goal.returns-in-Err-row-clause-err
 returns-in-Err-row-clause-err g c = λ gives over.
@@ -42,5 +42,5 @@ returns-in-Err-write_one_side-clause-err g c = λ gives over.
     let cells = subst (λ (found : Bool). (xs : List Entry) → IsLeft d c.args.rows.now.cells xs ↔ CellsMove d found xs c.advance.new.self) c.in-Ok-true.field-0-test (c.in-Ok-true.ensures.cells gives over) in
     let row : Row = record { rowid = c.in-Ok.row.rowid; values = c.in-Ok.row.values } in
     let at = (c.in-Ok.ensures.ok row).1 refl in
-    write_stops d c.args.style.writing c.args.style.columns.now c.args.comes c.args.rows.now c.advance.new.self row c.in-Err-write_one_side.stop
+    write_stops d c.args.style.writing c.args.style.key c.args.style.columns.now c.args.comes c.args.rows.now c.advance.new.self row c.in-Err-write_one_side.stop
     (passes d c.args.rows.now c.advance.new.self row (λ xs left. (cells xs).0 left) at) c.in-Err-write_one_side.ensures.err

@@ -67,8 +67,8 @@ returns-in-Err-print_next-clause-err g c = λ gives.
     let d = g.S.PageSource.pages c.args.source.now in
     let stop = c.in-Err-print_next.stop in
     let refused = c.in-Err-print_next.ensures.err (i.kept.still_gives gives) (subst (λ (d : Database). IsOver d c.turns.rows.cells) (sym i.kept.same_pages) (i.over gives)) in
-    let own = subst (λ (d : Database). RowStops d c.turns.told.writing c.turns.told.columns.now c.turns.rows stop) i.kept.same_pages refused in
-    let stops = subst (λ (s : Style). RowStops d s.writing s.columns.now c.turns.rows stop) i.same own in
+    let own = subst (λ (d : Database). RowStops d c.turns.told.writing c.turns.told.key c.turns.told.columns.now c.turns.rows stop) i.kept.same_pages refused in
+    let stops = subst (λ (s : Style). RowStops d s.writing s.key s.columns.now c.turns.rows stop) i.same own in
     told_until d c.args.root c.args.comes c.args.style c.turns.told.before.now c.turns.rows stop (g.W.Write.contents c.args.out.now) (g.W.Write.contents c.turns.out) (g.W.Write.contents c.print_next.new.out) i.limited (i.written gives)
     stops c.in-Err-print_next.ensures.kept
 

@@ -1,28 +1,51 @@
-use Rattle.std.proofs.Common.{◌∙◌, inl, refl, ap}
-use Rattle.cli_row_text.specs.Inserts.{rowid_name}
-use Rattle.cli_show_diff.specs.Tables.{before_text, head_text}
-use Rattle.cli_show_diff.proofs.TablesPrinted.{named_some, unbegun}
+use Rattle.std.proofs.Common.{Option, OnOk, inl, subst, sym}
+use Rattle.std.specs.Prelude.{IfErr}
+use Rattle.sqval.specs.Database.{Database}
+use Rattle.sqkeydiff.specs.declared.key.KeyOrder.{KeyOrder}
+use Rattle.cli_show_diff.specs.Sorted.{AreSortedBy}
+use Rattle.cli_show_diff.specs.Tables.{IsKeptPrinted, IsKeptStopped}
+use Rattle.cli_show_diff.proofs.TablesPrinted.{unbegun}
 use Rattle.cli_show_diff.proofs.table.print_kept.Goals as goal
 
-pub print_kept_in-requires : goal.print_kept_in-requires
-print_kept_in-requires g c = record {
-  of = record {
-    rowid = rowid_name c.rowid_name-rowid.result;
-    known = c.in-Ok.ensures.ok;
-    named = c.rowid_name-rowid.ensures;
-    written = refl;
-    begins = c.deref-2.ensures.value ∙ c.in-Ok-texts_of.ensures.ok.0 ∙ ap (λ name. before_text c.args.writing name) c.deref.ensures.value;
-    heads = c.deref-3.ensures.value ∙ c.in-Ok-texts_of.ensures.ok.1 ∙ ap (λ name. head_text c.args.writing name c.in-Ok.columns (rowid_name c.rowid_name-rowid.result)) c.deref.ensures.value;
-    leads = c.is_some.ensures ∙ named_some c.rowid_name-rowid.result;
-  };
-}
+pub returns-in-Ok-clause-ok : goal.returns-in-Ok-clause-ok
+returns-in-Ok-clause-ok g c = λ gives too.
+    let d = g.S.PageSource.pages c.args.old.now in
+    let e = g.T.PageSource.pages c.args.new.now in
+    let d' = g.S.PageSource.pages c.sorted_between.new.old in
+    let was = c.args.tables.0.now in
+    let is = c.args.tables.1.now in
+    let key = c.in-Ok.key in
+    let out = g.W.Write.contents c.args.out.now in
+    let after = g.W.Write.contents c.print_kept_by.new.out in
+    let r = c.print_kept_by.result in
+    let k = c.in-Ok.ensures.keeps in
+    let by = rw c.deref.ensures.value at c.in-Ok.ensures.ok gives too in
+    let by_old = subst (λ (p : Database). AreSortedBy p e was.sql.items key) (sym k.0.same_pages) by in
+    let by_both = subst (λ (p : Database). AreSortedBy d' p was.sql.items key) (sym k.1.same_pages) by_old in
+    let printed = c.print_kept_by.ensures.ok (k.0.still_gives gives) (k.1.still_gives too) by_both in
+    let of_old = subst (λ (p : Database). OnOk r (IsKeptPrinted p (g.T.PageSource.pages c.sorted_between.new.new) was is c.args.writing out after)) k.0.same_pages printed in
+    subst (λ (p : Database). OnOk r (IsKeptPrinted d p was is c.args.writing out after)) k.1.same_pages of_old
+
+pub returns-in-Ok-clause-err : goal.returns-in-Ok-clause-err
+returns-in-Ok-clause-err g c = λ gives too.
+    let d = g.S.PageSource.pages c.args.old.now in
+    let e = g.T.PageSource.pages c.args.new.now in
+    let d' = g.S.PageSource.pages c.sorted_between.new.old in
+    let was = c.args.tables.0.now in
+    let is = c.args.tables.1.now in
+    let key = c.in-Ok.key in
+    let out = g.W.Write.contents c.args.out.now in
+    let after = g.W.Write.contents c.print_kept_by.new.out in
+    let r = c.print_kept_by.result in
+    let k = c.in-Ok.ensures.keeps in
+    let by = rw c.deref.ensures.value at c.in-Ok.ensures.ok gives too in
+    let by_old = subst (λ (p : Database). AreSortedBy p e was.sql.items key) (sym k.0.same_pages) by in
+    let by_both = subst (λ (p : Database). AreSortedBy d' p was.sql.items key) (sym k.1.same_pages) by_old in
+    let stopped = c.print_kept_by.ensures.err (k.0.still_gives gives) (k.1.still_gives too) by_both in
+    let of_old = subst (λ (p : Database). IfErr r (λ stop. IsKeptStopped p (g.T.PageSource.pages c.sorted_between.new.new) was is c.args.writing stop out after)) k.0.same_pages stopped in
+    subst (λ (p : Database). IfErr r (λ stop. IsKeptStopped d p was is c.args.writing stop out after)) k.1.same_pages of_old
 
 pub returns-in-Err-clause-err : goal.returns-in-Err-clause-err
-returns-in-Err-clause-err g c = λ gives too. inl (unbegun c.args.tables.0.now c.args.writing c.in-Err.stop (g.W.Write.contents c.args.out.now) c.in-Err.ensures.err)
-
-pub returns-in-Err-texts_of-clause-err : goal.returns-in-Err-texts_of-clause-err
-returns-in-Err-texts_of-clause-err g c = λ gives too. inl (unbegun c.args.tables.0.now c.args.writing c.in-Err-texts_of.stop (g.W.Write.contents c.args.out.now) c.in-Err-texts_of.ensures.err)
-
-pub returns-then-is_unnamed-clause-err : goal.returns-then-is_unnamed-clause-err
-returns-then-is_unnamed-clause-err g c = λ gives too.
-    inl (c.in-Ok.columns, rowid_name c.rowid_name-rowid.result, c.in-Ok.ensures.ok, c.rowid_name-rowid.ensures, c.is_unnamed.ensures c.if-is_unnamed.true, refl)
+returns-in-Err-clause-err g c = λ gives too.
+    inl (unbegun (AreSortedBy (g.S.PageSource.pages c.args.old.now) (g.T.PageSource.pages c.args.new.now) c.args.tables.0.now.sql.items) c.args.tables.0.now c.args.writing
+    c.in-Err.stop (g.W.Write.contents c.args.out.now) (c.in-Err.ensures.err gives too))

@@ -1,24 +1,38 @@
-use Rattle.std.proofs.Common.{◌∙◌, inl, refl, ap}
-use Rattle.cli_row_text.specs.Inserts.{rowid_name}
-use Rattle.cli_show_diff.specs.Tables.{before_text, head_text}
-use Rattle.cli_show_diff.proofs.TablesPrinted.{named_some, unbegun}
+use Rattle.std.proofs.Common.{Option, OnOk, inl, subst, sym}
+use Rattle.std.specs.Prelude.{IfErr}
+use Rattle.sqval.specs.Database.{Database}
+use Rattle.cli_show_diff.specs.Sorted.{IsSortedBy, format_of}
+use Rattle.cli_show_diff.specs.Tables.{IsSidePrinted, IsSideStopped}
+use Rattle.cli_show_diff.proofs.TablesPrinted.{unbegun}
 use Rattle.cli_show_diff.proofs.table.print_side.Goals as goal
 
-pub print_side_in-requires : goal.print_side_in-requires
-print_side_in-requires g c = record {
-  of = record {
-    rowid = rowid_name c.rowid_name-rowid.result;
-    known = c.in-Ok.ensures.ok;
-    named = c.rowid_name-rowid.ensures;
-    written = refl;
-    begins = c.deref-2.ensures.value ∙ c.in-Ok-texts_of.ensures.ok.0 ∙ ap (λ name. before_text c.args.writing name) c.deref.ensures.value;
-    heads = c.deref-3.ensures.value ∙ c.in-Ok-texts_of.ensures.ok.1 ∙ ap (λ name. head_text c.args.writing name c.in-Ok.columns (rowid_name c.rowid_name-rowid.result)) c.deref.ensures.value;
-    leads = c.is_some.ensures ∙ named_some c.rowid_name-rowid.result;
-  };
-}
+pub returns-in-Ok-clause-ok : goal.returns-in-Ok-clause-ok
+returns-in-Ok-clause-ok g c = λ gives.
+    let table = c.args.table.now in
+    let key = c.in-Ok.key in
+    let out = g.W.Write.contents c.args.out.now in
+    let after = g.W.Write.contents c.print_side_by.new.out in
+    let r = c.print_side_by.result in
+    let k = c.in-Ok.ensures.keeps in
+    let by = rw c.deref.ensures.value at c.in-Ok.ensures.ok gives in
+    let by_now = subst (λ (p : Database). IsSortedBy table.sql.items (format_of p) key) (sym k.same_pages) by in
+    let printed = c.print_side_by.ensures.ok (k.still_gives gives) by_now in
+    subst (λ (p : Database). OnOk r (IsSidePrinted p table c.args.comes c.args.writing out after)) k.same_pages printed
+
+pub returns-in-Ok-clause-err : goal.returns-in-Ok-clause-err
+returns-in-Ok-clause-err g c = λ gives.
+    let table = c.args.table.now in
+    let key = c.in-Ok.key in
+    let out = g.W.Write.contents c.args.out.now in
+    let after = g.W.Write.contents c.print_side_by.new.out in
+    let r = c.print_side_by.result in
+    let k = c.in-Ok.ensures.keeps in
+    let by = rw c.deref.ensures.value at c.in-Ok.ensures.ok gives in
+    let by_now = subst (λ (p : Database). IsSortedBy table.sql.items (format_of p) key) (sym k.same_pages) by in
+    let stopped = c.print_side_by.ensures.err (k.still_gives gives) by_now in
+    subst (λ (p : Database). IfErr r (λ stop. IsSideStopped p table c.args.comes c.args.writing stop out after)) k.same_pages stopped
 
 pub returns-in-Err-clause-err : goal.returns-in-Err-clause-err
-returns-in-Err-clause-err g c = λ gives. inl (unbegun c.args.table.now c.args.writing c.in-Err.stop (g.W.Write.contents c.args.out.now) c.in-Err.ensures.err)
-
-pub returns-in-Err-texts_of-clause-err : goal.returns-in-Err-texts_of-clause-err
-returns-in-Err-texts_of-clause-err g c = λ gives. inl (unbegun c.args.table.now c.args.writing c.in-Err-texts_of.stop (g.W.Write.contents c.args.out.now) c.in-Err-texts_of.ensures.err)
+returns-in-Err-clause-err g c = λ gives.
+    inl (unbegun (IsSortedBy c.args.table.now.sql.items (format_of (g.S.PageSource.pages c.args.source.now))) c.args.table.now c.args.writing
+    c.in-Err.stop (g.W.Write.contents c.args.out.now) (c.in-Err.ensures.err gives))
