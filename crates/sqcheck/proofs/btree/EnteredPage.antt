@@ -1,16 +1,5 @@
 -- A page of a tree is entered.
-use Rattle.std.proofs.Common.{◌≡◌, ◌≢◌, ℕ, suc, ◌≤◌, ◌⊎◌, List, [], ◌∷◌, ◌++◌, reverse, true, false, Option, Some, None, sym, ap, subst, ◌∙◌, inl, inr, ⊎_elim}
-use Rattle.sqval.specs.Database.{Database}
-use Rattle.sqpage.specs.declared.kind.Kind.{Kind}
-use Rattle.sqpage.specs.Page.{is_interior}
-use Rattle.sqcheck.specs.declared.item.Item.{Item}
-use Rattle.sqcheck.specs.declared.tree.Tree.{Tree}
-use Rattle.sqcheck.specs.Places.{overflow, child, Node, node, Spot, page_as, HasKind, InCell, InNode}
-use Rattle.sqcheck.specs.WellFormed.{IsSoundPage, IsSoundNode, FirstLeaf, here, down, first_child}
-use Rattle.sqcheck.specs.internal.Walking.{Pushes, IsBelow, TopLeads, Judged, KnowsAt, Knows, PutsAside}
-use Rattle.sqcheck.proofs.checks.ListsByRecursion.{either}
-use Rattle.sqcheck.proofs.checks.RefutationOfWellFormedness.{kind_once}
-use Rattle.sqcheck.proofs.btree.KeysAndPlaces.{push_both}
+use Rattle.sqcheck.proofs.Between.{Database, FirstLeaf, HasKind, InCell, InNode, IsBelow, IsSoundNode, IsSoundPage, Item, Judged, Kind, Knows, KnowsAt, List, Node, None, Option, Pushes, PutsAside, Some, Spot, TopLeads, Tree, [], ap, child, down, either, false, first_child, here, inl, inr, is_interior, kind_once, node, overflow, page_as, push_both, reverse, subst, suc, sym, true, ℕ, ⊎_elim, ◌++◌, ◌∙◌, ◌∷◌, ◌≡◌, ◌≢◌, ◌≤◌, ◌⊎◌}
 
 -- What was put aside, as the code says it.
 abbrev pub Aside : Tree → Kind → (p : ℕ) → (old new : List ℕ) → Type 0

@@ -1,16 +1,6 @@
 -- What is wrong with a page of a tree.
-use Rattle.std.proofs.Common.{◌≡◌, ◌≢◌, ℕ, List, Option, Some, false, refl, sym, ap, subst, ◌∙◌, inl, inr, arith}
-use Rattle.sqval.specs.Database.{Database}
-use Rattle.sqpage.specs.declared.fault.Fault.{Fault}
+use Rattle.sqcheck.proofs.Between.{Database, Fault, HasKeyOutOfOrder, IsBtreePage, Kind, LayoutRefused, LevelAt, List, Node, NodeRefusedBy, Option, Page, PageRefused, Some, ap, arith, byte, code_of, code_once, false, head_at, inl, inr, is_interior, page_as, refl, subst, sym, used_in, ℕ, ◌∙◌, ◌≡◌, ◌≢◌}
 use Rattle.sqpage.specs.declared.fault.Fault.TheVariants as faults
-use Rattle.sqpage.specs.declared.kind.Kind.{Kind}
-use Rattle.sqpage.specs.Page.{Page, code_of, head_at, is_interior, IsBtreePage, PageRefused}
-use Rattle.sqpage.specs.Header.{byte}
-use Rattle.sqcheck.proofs.checks.RefutationOfWellFormedness.{code_once}
-use Rattle.sqpage.specs.Layout.{LayoutRefused}
-use Rattle.sqcheck.specs.Places.{Node, page_as, used_in}
-use Rattle.sqcheck.specs.Stands.{NodeRefusedBy, HasKeyOutOfOrder}
-use Rattle.sqcheck.specs.internal.Walking.{LevelAt}
 
 -- the page that is judged, as one of the database
 pub as_page : (d : Database) (number : ℕ) (used : List ℕ) (p : Page) → used_in d number ≡ used → p.used ≡ used → p.number ≡ number → p ≡ page_as d p.kind number

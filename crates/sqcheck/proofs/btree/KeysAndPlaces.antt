@@ -1,26 +1,6 @@
 -- Pages of trees: their keys, and the places in them.
-use Rattle.std.proofs.Common.{◌≡◌, ◌≢◌, ℕ, suc, ◌+◌, ◌-◌, ◌*◌, ◌<◌, ◌≤◌, ◌⊎◌, List, [], ◌∷◌, ◌++◌, length, map, reverse, Bool, true, false, eqb, cond, Option, unwrap_or, ℤ, IsTrue, ◌↔◌, refl, sym, ap, subst, ◌∙◌, inl, inr, ⊎_elim, arith, append_assoc}
-use Rattle.std.proofs.lemmas.List.{reverse-append}
-use Rattle.std.proofs.lemmas.Bool.{cases_lt, cases_eq}
-use Rattle.std.proofs.Math.Nat.{div-lt_iff_lt-mul}
-use Rattle.sqval.specs.Bytes.{word}
-use Rattle.sqval.specs.Database.{Database}
-use Rattle.sqpage.specs.declared.cell.Cell.{Cell}
-use Rattle.sqpage.specs.Lists.{Every, Apart}
-use Rattle.sqpage.specs.Page.{Page, is_interior, head_at, cell_count, pointer, IsCell, FourBytes, if_present}
-use Rattle.sqpage.specs.Chain.{bytes_beyond, links}
-use Rattle.sqpage.proofs.btree.PartsOfCells.{cell_once}
-use Rattle.sqcheck.specs.declared.item.Item.{Item}
-use Rattle.sqcheck.specs.declared.item.Task.{Task}
-use Rattle.sqcheck.specs.declared.item.Task.TheVariants.{Link}
+use Rattle.sqcheck.proofs.Below.{Apart, Bool, Cell, Database, Every, FirstLeaf, FourBytes, HasKeyOutOfOrder, InCell, InCellFrom, IsAtMost, IsBefore, IsCell, IsCellAt, IsChild, IsInOrder, IsItemOf, IsKeyBefore, IsRightChild, IsTrue, Item, KeysRise, LeadsOn, Link, List, Match, Node, Option, Page, Pushes, Spot, Task, TopLeads, Tree, [], ap, apart_append, append_assoc, arith, below, bytes_beyond, cases_eq, cases_lt, cell_count, cell_once, child, cond, div-lt_iff_lt-mul, eqb, every_append, every_map, every_weaker, false, first_child, head_at, if_present, in_left, in_right, inl, inr, is_interior, length, link, links, map, map_append, node_in, overflow, pointer, refl, reverse, reverse-append, spot, subst, suc, sym, true, unwrap_or, word, ℕ, ℤ, ⊎_elim, ◌*◌, ◌++◌, ◌+◌, ◌-◌, ◌<◌, ◌↔◌, ◌∙◌, ◌∷◌, ◌≡◌, ◌≢◌, ◌≤◌, ◌⊎◌}
 use Rattle.sqcheck.specs.declared.item.Task.TheVariants as tasks
-use Rattle.sqcheck.specs.declared.tree.Tree.{Tree}
-use Rattle.sqcheck.specs.Places.{overflow, child, Node, Spot, spot, link, below, IsCellAt, IsKeyBefore, InCell, IsRightChild}
-use Rattle.sqcheck.specs.WellFormed.{IsBefore, IsAtMost, IsInOrder, KeysRise, FirstLeaf, first_child}
-use Rattle.sqcheck.specs.Stands.{HasKeyOutOfOrder}
-use Rattle.sqcheck.specs.internal.Walking.{node_in, IsItemOf, Match, Pushes, InCellFrom, IsChild, LeadsOn, TopLeads}
-use Rattle.sqpage.proofs.chain.ListsByRecursion.{in_left, in_right, every_append}
-use Rattle.sqcheck.proofs.checks.ListsByRecursion.{every_weaker, every_map, map_append, apart_append}
 
 pub key_before_once : (b : Page) (x : Node) (i : ℕ) (k m : Option ℤ) → IsKeyBefore b x i k → IsKeyBefore b x i m → k ≡ m
 key_before_once b x i k m (inl h) (inl g) = h.1 ∙ sym g.1

@@ -1,22 +1,5 @@
 -- What a chart has after all pages were put down.
-use Rattle.std.proofs.Common.{◌≡◌, ◌≢◌, ◌⊎◌, ℕ, ◌-◌, ◌+◌, ◌<◌, ◌≤◌, List, [], ◌∷◌, length, map, get_or, set, sym, ap, subst, ◌∙◌, inl, inr, arith}
-use Rattle.std.specs.Prelude.{Option, Some, IfSome}
-use Rattle.std.proofs.lemmas.List.{get_or-set_other, get_or-set_same, length-set}
-use Rattle.std.proofs.lemmas.Bool.{cases_eq}
-use Rattle.sqval.specs.Bytes.{word}
-use Rattle.sqval.specs.Database.{Database, page}
-use Rattle.sqpage.specs.Lists.{In, Every, Apart}
-use Rattle.sqpage.proofs.chain.ListsByRecursion.{every_in}
-use Rattle.sqpage.specs.Freelist.{IsWithin, IsPage, usable_size}
-use Rattle.sqcheck.specs.declared.chart.Chart.{Chart}
-use Rattle.sqcheck.specs.declared.role.Role.{Role}
-use Rattle.sqcheck.specs.declared.role.Role.TheVariants.{Unused, LockByte, PointerMap}
-use Rattle.sqcheck.specs.Roles.{HasRole, IsRoleSetAside, Visit, Told, AreRoles}
-use Rattle.sqcheck.specs.Surveys.{role_at, AreAllRoles}
-use Rattle.sqcheck.specs.internal.Surveys.{Charts, IsSetDown, AreSetDown, KnowsReserved}
-use Rattle.sqpage.specs.PointerMaps.{lock_byte_page, IsPointerMap}
-use Rattle.sqcheck.specs.WellFormed.{IsAutoVacuum, IsSetAside}
-use Rattle.sqcheck.proofs.checks.ListsByRecursion.{from_map, every_weaker}
+use Rattle.sqcheck.proofs.Below.{Apart, AreAllRoles, AreRoles, AreSetDown, Chart, Charts, Database, Every, HasRole, IfSome, In, IsAutoVacuum, IsPage, IsPointerMap, IsRoleSetAside, IsSetAside, IsSetDown, IsWithin, KnowsReserved, List, LockByte, Option, PointerMap, Role, Some, Told, Unused, Visit, [], ap, arith, cases_eq, every_in, every_weaker, from_map, get_or, get_or-set_other, get_or-set_same, inl, inr, length, length-set, lock_byte_page, map, page, role_at, set, subst, sym, usable_size, word, ℕ, ◌+◌, ◌-◌, ◌<◌, ◌∙◌, ◌∷◌, ◌≡◌, ◌≢◌, ◌≤◌, ◌⊎◌}
 
 abbrev pub charts : Chart → ℕ → Role → Chart → Type 0
 charts old page role new = Charts old.roles.items page role new.roles.items

@@ -1,20 +1,6 @@
 -- The two ends of a check.
-use Rattle.std.proofs.Common.{List, subst, ◌≡◌, ◌≢◌, ◌<◌, ℕ, ◌-◌, [], Bool, true, false, not, eqb, eq-eqb, ◌∷◌, length, ⊎_elim, refl, sym, ap, ◌∙◌, inl, inr, arith}
-use Rattle.std.proofs.lemmas.Bool.{eqb-true}
-use Rattle.sqpage.specs.Lists.{Every}
-use Rattle.sqcheck.proofs.checks.ListsByRecursion.{either}
-use Rattle.sqpage.specs.declared.fault.Fault.{Fault}
+use Rattle.sqcheck.proofs.Below.{Bool, Database, DbHeader, Every, Fault, HasHeaderOf, HasMagic, HasSoundHeader, HeaderFault, IsAutoVacuum, IsReached, IsSound, KnowsMaps, List, StandsBy, StandsNow, StandsWith, UnlessUnread, [], ap, arith, byte, either, eq-eqb, eqb, eqb-true, false, inl, inr, length, not, page, refl, subst, sym, true, usable_size, ℕ, ⊎_elim, ◌-◌, ◌<◌, ◌∙◌, ◌∷◌, ◌≡◌, ◌≢◌}
 use Rattle.sqpage.specs.declared.fault.Fault.TheVariants as faults
-use Rattle.sqcheck.specs.Stands.{StandsBy, StandsWith}
-use Rattle.sqval.specs.Database.{Database, page}
-use Rattle.sqpage.specs.Freelist.{usable_size}
-use Rattle.sqpage.specs.Header.{HasMagic, byte}
-use Rattle.sqpage.specs.declared.header.DbHeader.{DbHeader}
-use Rattle.sqcheck.specs.internal.Heading.{HasHeaderOf, HeaderFault}
-use Rattle.sqcheck.specs.WellFormed.{IsAutoVacuum, IsReached, IsSound, HasSoundHeader}
-use Rattle.sqpage.specs.Source.{UnlessUnread}
-use Rattle.sqcheck.specs.internal.Agenda.{StandsNow}
-use Rattle.sqcheck.specs.internal.Checking.{KnowsMaps}
 
 -- A source of no pages has no header.
 pub no_magic : (d : Database) → length d ≡ 0 → ¬ HasMagic (page d 1)

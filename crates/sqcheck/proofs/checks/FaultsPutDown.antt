@@ -1,14 +1,6 @@
 -- Which faults a chart puts down as it goes over the pages.
-use Rattle.std.proofs.Common.{◌≡◌, ◌≢◌, ℕ, suc, ◌+◌, ◌-◌, ◌<◌, ◌≤◌, List, [], ◌∷◌, ◌++◌, length, take, get_or, refl, sym, ap, subst, ◌∙◌, inl, inr, append_assoc, add-one, arith, length-append}
-use Rattle.std.proofs.lemmas.Bool.{cases_lt}
-use Rattle.std.proofs.lemmas.List.{length-take, append-nil, take-append-le, take_all}
-use Rattle.std.proofs.Math.Seq.{take-append-add, take-suc}
-use Rattle.sqpage.specs.declared.fault.CheckError.{CheckError}
-use Rattle.sqpage.specs.declared.fault.Fault.TheVariants.{PageUnused}
-use Rattle.sqcheck.specs.declared.role.Role.{Role}
-use Rattle.sqcheck.specs.declared.role.Role.TheVariants.{Btree, Overflow, FreeTrunk, FreeLeaf, LockByte, PointerMap, Unused}
-use Rattle.sqcheck.specs.Surveys.{most_faults}
-use Rattle.sqcheck.specs.internal.Charting.{ArePutDown, unused_fault, unused_faults}
+use Rattle.sqcheck.proofs.Words.{ArePutDown, Btree, CheckError, FreeLeaf, FreeTrunk, List, LockByte, Overflow, PageUnused, PointerMap, Role, Unused, [], add-one, ap, append_assoc, arith, cases_lt, get_or, inl, inr, length, length-append, length-take, most_faults, refl, subst, suc, sym, take, take-append-add, take-append-le, take-suc, take_all, unused_fault, unused_faults, ℕ, ◌++◌, ◌+◌, ◌-◌, ◌<◌, ◌∙◌, ◌∷◌, ◌≡◌, ◌≢◌, ◌≤◌}
+use Rattle.std.proofs.lemmas.List.{append-nil}
 
 -- the first of some, and then of more
 take_more : (room : ℕ) (xs ys : List CheckError) → take room (xs ++ ys) ≡ take room xs ++ take (room - length xs) ys

@@ -1,13 +1,6 @@
 -- The header is in the first hundred bytes of page 1.
-use Rattle.std.proofs.Common.{◌≡◌, ◌≢◌, ℕ, zero, suc, ◌+◌, ◌<◌, ◌≤◌, List, [], ◌∷◌, take, Bool, true, false, refl, sym, ap, ◌∙◌, arith}
-use Rattle.std.proofs.lemmas.List.{get_or-take}
-use Rattle.byteorder.specs.Endian.{big_number}
-use Rattle.sqval.specs.Bytes.{part, word}
-use Rattle.sqpage.specs.declared.fault.Fault.{Fault}
+use Rattle.sqcheck.proofs.Words.{Bool, DbHeader, Fault, HasFractions, HasHeaderOf, HasMagic, HasPageSize, HasRoom, HeaderFault, HeaderRefused, IsHeader, List, [], ap, arith, big_number, byte, false, get_or-take, part, refl, size_named, size_named_by, suc, sym, take, true, word, zero, ℕ, ◌+◌, ◌<◌, ◌∙◌, ◌∷◌, ◌≡◌, ◌≢◌, ◌≤◌}
 use Rattle.sqpage.specs.declared.fault.Fault.TheVariants as faults
-use Rattle.sqpage.specs.declared.header.DbHeader.{DbHeader}
-use Rattle.sqpage.specs.Header.{byte, HasMagic, HasPageSize, HasFractions, HasRoom, size_named, size_named_by, IsHeader, HeaderRefused}
-use Rattle.sqcheck.specs.internal.Heading.{HasHeaderOf, HeaderFault}
 
 -- a part of a front that ends in it
 part_front : (n at k : ℕ) (b : List ℕ) → at + k ≤ n → part (take n b) at k ≡ part b at k

@@ -1,8 +1,5 @@
 -- Lists by recursion.
-use Rattle.std.proofs.Common.{◌≡◌, ℕ, ◌≤◌, List, [], ◌∷◌, ◌++◌, length, map, Bool, true, false, cond, count_by, ◌+◌, ◌⊎◌, refl, sym, ap, ◌∙◌, inl, inr, arith}
-use Rattle.sqpage.specs.Lists.{In, Every, Apart}
-use Rattle.sqpage.proofs.chain.ListsByRecursion.{every_append, every_in, every_from_in}
-use Rattle.std.proofs.lemmas.List.Sums.{sum_by-cons}
+use Rattle.sqcheck.proofs.Words.{Apart, Bool, Every, In, List, [], ap, arith, cond, count_by, every_append, every_from_in, every_in, false, inl, inr, length, map, refl, sum_by-cons, sym, true, ℕ, ◌++◌, ◌+◌, ◌∙◌, ◌∷◌, ◌≡◌, ◌≤◌, ◌⊎◌}
 
 pub every_weaker : {A : Type 0} (P Q : A → Type 0) → ((x : A) → P x → Q x) → (xs : List A) → Every P xs → Every Q xs
 every_weaker P Q f [] h = tt

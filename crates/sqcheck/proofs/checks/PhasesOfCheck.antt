@@ -1,34 +1,7 @@
 -- The phases of a check: the freelist, the schema's tree, its rows, the other trees, and the end.
-use Rattle.std.proofs.Common.{◌≡◌, ◌≢◌, ℕ, zero, suc, ◌+◌, ◌-◌, ◌<◌, ◌≤◌, ◌⊎◌, List, [], ◌∷◌, ◌++◌, length, take, drop, get_or, Bool, true, false, not, cond, nat_lt, unwrap_or, refl, sym, ap, subst, ◌∙◌, inl, inr, ⊎_elim, arith}
-use Rattle.std.proofs.lemmas.Bool.{cases_lt}
-use Rattle.std.proofs.lemmas.List.{drop_all, length-take-le, take-append-drop}
-use Rattle.std.proofs.lemmas.List.Sums.{count_by-le-length}
-use Rattle.sqval.specs.Bytes.{word}
-use Rattle.sqval.specs.Database.{Database, page}
-use Rattle.sqval.specs.PageSize.{IsPageSize}
-use Rattle.sqpage.specs.declared.cell.Cell.{Cell}
+use Rattle.sqcheck.proofs.Between.{Agenda, AllSchemaRows, Apart, AreCounted, AreEachOnce, AreMapped, Bool, Cell, Counts, Database, Every, Finds, FourBytes, HasEntry, HasKind, HasSoundHeader, HasSoundRows, In, InLink, InPageAs, InRow, InRowAs, InRowsOf, IndexInterior, IndexLeaf, IsAside, IsAsideWith, IsAutoVacuum, IsBtreePage, IsCell, IsCellAt, IsFirst, IsHome, IsLargestRoot, IsPage, IsPageSize, IsPayload, IsReached, IsReport, IsRootAt, IsRowsPage, IsSchemaLeaf, IsSetAside, IsSound, IsSoundAs, IsSoundPage, IsWithin, Kind, Leads, LinkFits, List, MarksAside, Node, NotRoot, NotSchema, Off, Page, Place, Report, Root, RootsMatch, Spot, StandsBy, StandsIn, StandsInRow, Stood, TableInterior, TableLeaf, WellFormedWith, [], ap, arith, bytes_beyond, cases_lt, child, cond, contents, count_by-le-length, drop, drop_all, either, every_from_in, every_in, every_weaker, false, first, first_root, first_root_spot, first_sized, first_trunk, first_trunk_place, first_trunk_spot, free_leaf, free_pages, get_or, has_payload, holder, home, if_present, in_left, in_map, in_right, inl, inr, is_free, is_interior, is_marked, is_table, kind_once, leaf, length, length-take-le, link, links, local_size, nat_lt, needs, next, next_in, no_more, node, not, numbers, overflow, page, page_as, passing, payload_size, places, refl, root, root_of_tree, spot, stands_in, stands_in_row, subst, suc, sym, take, take-append-drop, true, trunk, unwrap_or, usable_size, used_in, word, zero, ℕ, ⊎_elim, ◌++◌, ◌+◌, ◌-◌, ◌<◌, ◌∙◌, ◌∷◌, ◌≡◌, ◌≢◌, ◌≤◌, ◌⊎◌}
+use Rattle.sqcheck.specs.Places.{Role}
 use Rattle.sqpage.specs.declared.fault.Fault.TheVariants as faults
-use Rattle.sqpage.specs.declared.kind.Kind.{Kind}
-use Rattle.sqpage.specs.declared.kind.Kind.TheVariants.{TableLeaf, TableInterior, IndexLeaf, IndexInterior}
-use Rattle.sqpage.specs.Lists.{In, Every, Apart}
-use Rattle.sqpage.specs.Freelist.{IsPage, IsWithin, Leads, next_in, first_trunk, free_pages, usable_size}
-use Rattle.sqpage.specs.Page.{Page, is_interior, is_table, IsBtreePage, IsCell, FourBytes, local_size, has_payload, if_present}
-use Rattle.sqpage.specs.Chain.{IsPayload, links, bytes_beyond, payload_size, contents}
-use Rattle.sqpage.specs.internal.Taking.{is_marked}
-use Rattle.sqpage.proofs.chain.ListsByRecursion.{every_in, every_from_in, in_left, in_right}
-use Rattle.sqcheck.specs.declared.schema.Root.{Root}
-use Rattle.sqcheck.specs.declared.uses.Counts.{Counts}
-use Rattle.sqcheck.specs.declared.report.Report.{Report}
-use Rattle.sqcheck.specs.Places.{Place, first_trunk_place, first_root, next, leaf, overflow, child, root, holder, Node, Role, trunk, free_leaf, link, node, Spot, spot, page_as, used_in, HasKind, IsCellAt, InLink, InPageAs, InRow, InRowAs, StandsIn, StandsInRow, IsFirst, first, stands_in, stands_in_row, first_root_spot, first_trunk_spot, root_of_tree}
-use Rattle.sqcheck.specs.WellFormed.{IsReached, WellFormedWith, IsAutoVacuum, AreMapped, HasEntry, IsLargestRoot, IsSetAside, IsSound, IsSoundAs, IsSoundPage, HasSoundRows, HasSoundHeader, numbers, is_free, AreEachOnce, IsReport}
-use Rattle.sqcheck.specs.Stands.{StandsBy, IsAsideWith}
-use Rattle.sqcheck.specs.internal.Walking.{IsSchemaLeaf}
-use Rattle.sqcheck.specs.internal.Schema.{IsRowsPage, AllSchemaRows, InRowsOf, Finds, IsRootAt, RootsMatch}
-use Rattle.sqcheck.specs.internal.Agenda.{home, places, Off, IsHome, NotRoot, NotSchema, LinkFits, IsAside, MarksAside, Agenda, AreCounted, Stood}
-use Rattle.sqcheck.proofs.checks.ListsByRecursion.{every_weaker, in_map, no_more, passing, either}
-use Rattle.sqcheck.proofs.checks.RefutationOfWellFormedness.{kind_once}
-use Rattle.sqcheck.proofs.btree.KeysAndPlaces.{needs}
-use Rattle.sqcheck.proofs.checks.EndsOfCheck.{first_sized}
 
 -- A record of the pages of a chain, whose links were all visited.
 record Chained (d : Database) (visited : List Spot) (h from n : ℕ) : Type 0 where

@@ -1,14 +1,5 @@
 -- The entries of pointer maps.
-use Rattle.std.proofs.Common.{◌≡◌, ◌+◌, ◌-◌, ◌*◌, ◌<◌, ◌≤◌, ℕ, length, sym, ap, subst, ◌∙◌, arith}
-use Rattle.sqval.specs.Bytes.{word}
-use Rattle.sqval.specs.Database.{Database, page}
-use Rattle.sqpage.specs.Header.{byte}
-use Rattle.sqpage.specs.Freelist.{usable_size}
-use Rattle.sqpage.specs.PointerMaps.{group_start, group_map, IsEntryPlace}
-use Rattle.sqpage.specs.declared.pointer_map.EntryPlace.{EntryPlace}
-use Rattle.sqpage.proofs.file.PointerMapGroups.{IsIn, one_group, map_low}
-use Rattle.sqcheck.specs.declared.item.Item.{Item}
-use Rattle.sqcheck.specs.internal.Walking.{EntrySays, IsEntryOf}
+use Rattle.sqcheck.proofs.Words.{Database, EntryPlace, EntrySays, IsEntryOf, IsEntryPlace, IsIn, Item, ap, arith, byte, group_map, group_start, length, map_low, one_group, page, subst, sym, usable_size, word, ℕ, ◌*◌, ◌+◌, ◌-◌, ◌<◌, ◌∙◌, ◌≡◌, ◌≤◌}
 
 stands_near : (size usable p : ℕ) (a : EntryPlace) → (is : IsEntryPlace size usable p a) → IsIn usable p is.group
 stands_near size usable p a is = record {

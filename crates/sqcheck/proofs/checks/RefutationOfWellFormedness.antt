@@ -1,21 +1,6 @@
 -- Where the condition of a fault holds the database isn't well formed.
-use Rattle.std.proofs.Common.{◌⊎◌, ◌≡◌, ◌≢◌, ℕ, suc, ◌≤◌, Bool, List, [], ◌∷◌, length, true, false, count_by, refl, sym, ap, subst, ◌∙◌, inl, inr, ⊎_elim, arith}
-use Rattle.sqval.specs.Database.{Database, page}
-use Rattle.sqval.specs.PageSize.{IsPageSize}
-use Rattle.sqpage.specs.declared.fault.Fault.{Fault}
+use Rattle.sqcheck.proofs.Below.{Apart, AreFreePlaces, AsBtreePage, Bool, Database, Every, Fault, FirstLeaf, HasKind, HasSoundRows, In, IndexInterior, IndexLeaf, IsAutoVacuum, IsBtreePage, IsLaidOut, IsPage, IsPageSize, IsReached, IsSetAside, IsSound, IsSoundAs, IsSoundNode, IsSoundPage, IsWithin, Kind, LayoutRefused, List, Node, Spot, StandsBy, StandsWith, TableInterior, TableLeaf, WellFormedWith, [], ap, arith, code_of, count_by, down, every_in, false, first_child, from_map, here, in_map, inl, inr, is_free, is_interior, is_link, is_of_header, length, no_more, node, not_laid_out, numbers, page, page_as, passing, refl, subst, suc, sym, true, ℕ, ⊎_elim, ◌∙◌, ◌∷◌, ◌≡◌, ◌≢◌, ◌≤◌, ◌⊎◌}
 use Rattle.sqpage.specs.declared.fault.Fault.TheVariants as faults
-use Rattle.sqpage.specs.declared.kind.Kind.{Kind}
-use Rattle.sqpage.specs.declared.kind.Kind.TheVariants.{TableLeaf, TableInterior, IndexLeaf, IndexInterior}
-use Rattle.sqpage.specs.Lists.{In, Every, Apart}
-use Rattle.sqpage.specs.Freelist.{IsPage, IsWithin}
-use Rattle.sqpage.specs.Page.{code_of, is_interior, IsBtreePage}
-use Rattle.sqpage.specs.Layout.{LayoutRefused, IsLaidOut}
-use Rattle.sqpage.proofs.btree.LayoutOfPage.{not_laid_out}
-use Rattle.sqpage.proofs.chain.ListsByRecursion.{every_in}
-use Rattle.sqcheck.specs.Places.{Node, node, Spot, page_as, HasKind}
-use Rattle.sqcheck.specs.WellFormed.{IsReached, IsAutoVacuum, WellFormedWith, IsSetAside, IsSound, IsSoundAs, IsSoundPage, IsSoundNode, HasSoundRows, FirstLeaf, here, down, first_child, is_free, is_link, numbers}
-use Rattle.sqcheck.specs.Stands.{StandsWith, StandsBy, is_of_header, AsBtreePage, AreFreePlaces}
-use Rattle.sqcheck.proofs.checks.ListsByRecursion.{from_map, in_map, no_more, passing}
 
 -- a type byte is one kind's
 pub code_once : (j k : Kind) → code_of j ≡ code_of k → j ≡ k

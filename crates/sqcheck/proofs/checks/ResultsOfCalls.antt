@@ -1,7 +1,5 @@
 -- Results of calls.
-use Rattle.std.proofs.Common.{◌≡◌, ◌∙◌, Bool, true, false, sym, subst}
-use Rattle.std.specs.Result.{is_err}
-use Rattle.std.specs.Prelude.{Result, Ok, Err, OnOk, IfOk, IfErr, IsErrAnd}
+use Rattle.sqcheck.proofs.Words.{Bool, Err, IfErr, IfOk, IsErrAnd, Ok, OnOk, Result, false, is_err, subst, sym, true, ◌∙◌, ◌≡◌}
 
 pub on_ok : {A E : Type 0} (P Q : Type 0) (r : Result A E) → (P → Q) → OnOk r P → OnOk r Q
 on_ok P Q (Ok x) f h = f h

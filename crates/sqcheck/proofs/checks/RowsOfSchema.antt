@@ -1,24 +1,6 @@
 -- The rows of the schema.
-use Rattle.std.proofs.Common.{◌≡◌, ◌≢◌, ℕ, zero, suc, ◌+◌, ◌-◌, ◌/◌, ◌<◌, ◌≤◌, ◌⊎◌, List, [], ◌∷◌, ◌++◌, length, map, take, drop, flat_map, Bool, true, false, refl, sym, ap, subst, ◌∙◌, inl, inr, ⊎_elim, arith, append_assoc, append-nil, length-append}
-use Rattle.std.proofs.lemmas.Bool.{cases_eq, cases_lt}
-use Rattle.std.proofs.lemmas.List.{length-take-le, take_all, take-append-le}
-use Rattle.sqval.specs.Database.{Database, page}
-use Rattle.sqpage.specs.declared.cell.Cell.{Cell}
-use Rattle.sqpage.specs.declared.fault.Fault.{Fault}
+use Rattle.sqcheck.proofs.Below.{AllSchemaRows, Apart, AreSchemaRows, Bool, Cell, ChainRefused, Database, Every, Fault, Finds, HasKind, In, InRow, InRowAt, InRowBelow, InRowsOf, IsCellAt, IsPayload, IsReached, IsRootAt, IsRow, IsRowsPage, IsSchemaRow, IsSound, KeepsFound, Leads, List, Page, Root, RootsMatch, SameCell, Spot, StandsBy, TableLeaf, [], ap, apart_append, append-nil, append_assoc, arith, cases_eq, cases_lt, cell_count, cell_once, contents, drop, every_append, every_map, every_weaker, false, flat_map, in_cases, in_left, in_right, inl, inr, length, length-append, length-take-le, links, map, map_append, next_in, page, page_as, payload_size, refl, root, root_of_tree, spot, subst, suc, sym, take, take-append-le, take_all, true, zero, ℕ, ⊎_elim, ◌++◌, ◌+◌, ◌-◌, ◌/◌, ◌<◌, ◌∙◌, ◌∷◌, ◌≡◌, ◌≢◌, ◌≤◌, ◌⊎◌}
 use Rattle.sqpage.specs.declared.fault.Fault.TheVariants as faults
-use Rattle.sqpage.specs.declared.kind.Kind.TheVariants.{TableLeaf}
-use Rattle.sqpage.specs.Lists.{In, Every, Apart}
-use Rattle.sqpage.specs.Freelist.{Leads, next_in}
-use Rattle.sqpage.specs.Page.{Page, cell_count}
-use Rattle.sqpage.specs.Chain.{IsPayload, ChainRefused, links, payload_size, contents}
-use Rattle.sqpage.proofs.btree.PartsOfCells.{SameCell, cell_once}
-use Rattle.sqpage.proofs.chain.ListsByRecursion.{in_left, in_right, in_cases, every_append}
-use Rattle.sqcheck.specs.declared.schema.Root.{Root}
-use Rattle.sqcheck.specs.Places.{root, Spot, spot, page_as, HasKind, IsCellAt, IsRow, IsSchemaRow, InRow, root_of_tree}
-use Rattle.sqcheck.specs.WellFormed.{IsSound, IsReached}
-use Rattle.sqcheck.specs.Stands.{StandsBy}
-use Rattle.sqcheck.specs.internal.Schema.{IsRowsPage, AreSchemaRows, AllSchemaRows, InRowAt, InRowBelow, InRowsOf, IsRootAt, RootsMatch, Finds, KeepsFound}
-use Rattle.sqcheck.proofs.checks.ListsByRecursion.{every_weaker, every_map, map_append, apart_append}
 
 -- a fault that can't be another than want of memory
 pub is_no_memory : (fault : Fault) → ((fault ≢ faults.NoMemory) → ⊥) → fault ≡ faults.NoMemory

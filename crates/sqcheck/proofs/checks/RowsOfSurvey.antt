@@ -1,24 +1,6 @@
 -- The roots that a survey finds in the rows of the schema.
-use Rattle.std.proofs.Common.{◌≡◌, ◌≢◌, ◌⊎◌, ℕ, suc, ◌+◌, ◌-◌, ◌/◌, ◌<◌, ◌≤◌, List, [], ◌∷◌, ◌++◌, length, map, refl, sym, ap, subst, ◌∙◌, inl, inr, ⊎_elim, arith, append_assoc, append-nil, length-append}
-use Rattle.std.proofs.lemmas.Bool.{cases_eq}
-use Rattle.std.specs.Prelude.{Result, Ok, Err, IfOk, IfErr}
-use Rattle.sqval.specs.Database.{Database}
-use Rattle.sqpage.specs.declared.cell.Cell.{Cell}
-use Rattle.sqpage.specs.declared.fault.CheckError.{CheckError}
+use Rattle.sqcheck.proofs.Between.{AddsRoot, AddsRoots, Apart, Cell, CheckError, Database, Err, Every, HasKind, IfErr, IfOk, In, InRow, InRowAt, InRowBelow, InRowsOf, IsCellAt, IsCellFound, IsFound, IsInShortRow, IsPayload, IsRootAt, IsRow, IsSchemaRow, List, Ok, Result, Root, RootsMatch, Spot, TableLeaf, [], ap, apart_append, append-nil, append_assoc, arith, bytes_beyond, cases_eq, cell_count, cell_once, every_append, every_map, every_weaker, in_cases, in_left, in_right, inl, inr, length, length-append, links, map, map_append, page_as, refl, root, root_of_tree, roots_append, row_once, spot, subst, suc, sym, ℕ, ⊎_elim, ◌++◌, ◌+◌, ◌-◌, ◌/◌, ◌<◌, ◌∙◌, ◌∷◌, ◌≡◌, ◌≢◌, ◌≤◌, ◌⊎◌}
 use Rattle.sqpage.specs.declared.fault.Fault.TheVariants as faults
-use Rattle.sqpage.specs.declared.kind.Kind.TheVariants.{TableLeaf}
-use Rattle.sqpage.specs.Lists.{In, Every, Apart}
-use Rattle.sqpage.specs.Chain.{IsPayload, bytes_beyond, links}
-use Rattle.sqpage.specs.Page.{cell_count}
-use Rattle.sqpage.proofs.btree.PartsOfCells.{cell_once}
-use Rattle.sqpage.proofs.chain.ListsByRecursion.{in_left, in_right, in_cases, every_append}
-use Rattle.sqcheck.specs.declared.schema.Root.{Root}
-use Rattle.sqcheck.specs.Found.{IsFound, IsInShortRow}
-use Rattle.sqcheck.specs.Places.{root, Spot, spot, page_as, HasKind, IsCellAt, IsRow, IsSchemaRow, InRow, root_of_tree}
-use Rattle.sqcheck.specs.internal.Found.{IsCellFound, AddsRoot, AddsRoots}
-use Rattle.sqcheck.specs.internal.Schema.{IsRootAt, RootsMatch, InRowAt, InRowBelow, InRowsOf}
-use Rattle.sqcheck.proofs.checks.ListsByRecursion.{every_weaker, every_map, map_append, apart_append}
-use Rattle.sqcheck.proofs.checks.RowsOfSchema.{row_once, roots_append}
 
 pub adds_nothing : (d : Database) (P : Spot → Type 0) (old new : List Root) → new ≡ old → ((t : Spot) → P t → ¬ IsInShortRow d t) → AddsRoots d P old new
 adds_nothing d P old new e never = record { more = []; spots = []; added = e ∙ sym (append-nil old); match = tt; only = tt; all = λ t p short. absurd (never t p short); distinct = tt }

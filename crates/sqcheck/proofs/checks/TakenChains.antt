@@ -1,16 +1,5 @@
 -- Pages of chains that are taken one after the other.
-use Rattle.std.proofs.Common.{◌≡◌, ◌+◌, ◌≤◌, ℕ, List, [], ◌∷◌, ◌++◌, length, Bool, true, false, refl, arith}
-use Rattle.sqval.specs.Database.{Database}
-use Rattle.sqpage.specs.declared.cell.Cell.{Cell}
-use Rattle.sqpage.specs.Chain.{links}
-use Rattle.sqpage.specs.Freelist.{Leads}
-use Rattle.sqpage.specs.Lists.{Every, Apart}
-use Rattle.sqpage.proofs.chain.ListsByRecursion.{every_in, every_append, apart_snoc}
-use Rattle.sqcheck.specs.declared.role.Role.{Role}
-use Rattle.sqcheck.specs.declared.role.Role.TheVariants.{Overflow}
-use Rattle.sqcheck.specs.Surveys.{role_at}
-use Rattle.sqcheck.specs.internal.Chains.{is_taken, KeepsTaken, TakesPage, TakesChain}
-use Rattle.sqcheck.proofs.checks.ListsByRecursion.{every_weaker}
+use Rattle.sqcheck.proofs.Below.{Apart, Bool, Cell, Database, Every, KeepsTaken, Leads, List, Overflow, Role, TakesChain, TakesPage, [], apart_snoc, arith, every_append, every_in, every_weaker, false, is_taken, length, links, refl, role_at, true, ℕ, ◌++◌, ◌+◌, ◌∷◌, ◌≡◌, ◌≤◌}
 
 -- These pages were taken so far.
 pub record Taking (roles : List Role) (owner : ℕ) (old new : List Bool) (pages : List ℕ) : Type 0 where

@@ -1,18 +1,6 @@
 -- A walk with an agenda: the places whose pages it has taken, and those that are still to be followed.
-use Rattle.std.proofs.Common.{◌≡◌, ◌≢◌, ℕ, suc, ◌+◌, ◌-◌, ◌<◌, ◌≤◌, ◌⊎◌, List, [], ◌∷◌, ◌++◌, length, map, Bool, true, false, not, count_by, refl, sym, ap, subst, ◌∙◌, inl, inr, arith, length-append}
-use Rattle.std.proofs.lemmas.Bool.{cases_eq}
-use Rattle.sqval.specs.Database.{Database}
-use Rattle.sqpage.specs.Lists.{In, Every, Apart}
-use Rattle.sqpage.specs.Freelist.{IsWithin}
-use Rattle.sqpage.specs.internal.Taking.{is_marked, Marks}
-use Rattle.sqpage.proofs.chain.ListsByRecursion.{in_left, in_right, in_cases, every_in, every_append, apart_snoc}
-use Rattle.sqpage.proofs.chain.TakenPages.{fewer_unmarked}
-use Rattle.sqpage.proofs.chain.OverflowChains.{length_marked}
-use Rattle.std.proofs.lemmas.List.{get_or-set_other, get_or-set_same}
-use Rattle.sqcheck.specs.Places.{Place, first_trunk_place, first_root, next, leaf, overflow, child, root, Node, Role, trunk, free_leaf, link, node, Spot, StandsIn, StandsInRow, IsFirst, stands_in}
-use Rattle.sqcheck.specs.WellFormed.{IsReached, IsSound, IsSoundWith, IsSoundNode, HasSoundRows, numbers}
-use Rattle.sqcheck.specs.internal.Agenda.{home, places, Off, IsHome, NotRoot, NotSchema, LinkFits, IsAside, AreMarked, Tour, Agenda, Stems}
-use Rattle.sqcheck.proofs.checks.ListsByRecursion.{every_weaker, every_map, map_append, from_map, apart_append}
+use Rattle.sqcheck.proofs.Below.{Agenda, Apart, AreMarked, Bool, Database, Every, HasSoundRows, In, IsAside, IsFirst, IsHome, IsReached, IsSound, IsSoundNode, IsSoundWith, IsWithin, LinkFits, List, Marks, Node, NotRoot, NotSchema, Off, Place, Spot, StandsIn, StandsInRow, Stems, Tour, [], ap, apart_append, apart_snoc, arith, cases_eq, child, count_by, every_append, every_in, every_map, every_weaker, false, fewer_unmarked, first_root, first_trunk_place, free_leaf, from_map, get_or-set_other, get_or-set_same, home, in_cases, in_left, in_right, inl, inr, is_marked, leaf, length, length-append, length_marked, link, map, map_append, next, node, not, numbers, overflow, places, refl, root, stands_in, subst, suc, sym, true, trunk, ℕ, ◌++◌, ◌+◌, ◌-◌, ◌<◌, ◌∙◌, ◌∷◌, ◌≡◌, ◌≢◌, ◌≤◌, ◌⊎◌}
+use Rattle.sqcheck.specs.Places.{Role}
 
 -- what every place in a page has
 pub record Under (s t : Spot) : Type 0 where

@@ -1,35 +1,8 @@
 -- What a survey has charted and told, step by step.
-use Rattle.std.proofs.Common.{None, suc, ◌≡◌, ◌≢◌, ◌⊎◌, ℕ, ◌+◌, ◌-◌, ◌<◌, ◌≤◌, List, [], ◌∷◌, ◌++◌, length, get_or, set, Bool, true, false, cond, count_by, refl, sym, ap, subst, ◌∙◌, inl, inr, arith}
-use Rattle.std.proofs.lemmas.List.{get_or-set_other, get_or-set_same}
-use Rattle.std.proofs.lemmas.List.Sums.{sum_by-append}
-use Rattle.std.proofs.lemmas.Bool.{cases_eq}
-use Rattle.sqval.specs.Database.{Database}
-use Rattle.sqpage.specs.declared.fault.CheckError.{CheckError}
-use Rattle.sqpage.specs.Freelist.{IsPage, IsWithin, free_pages}
-use Rattle.sqpage.specs.Lists.{In, Every, Apart}
-use Rattle.sqpage.specs.internal.Taking.{is_marked, Marks}
-use Rattle.sqpage.proofs.chain.ListsByRecursion.{in_left, in_right, in_cases, every_append, every_in, every_from_in, apart_snoc}
-use Rattle.sqcheck.specs.declared.chart.Chart.{Chart}
-use Rattle.sqcheck.specs.declared.item.Item.{Item}
-use Rattle.sqcheck.specs.declared.role.Role.{Role}
-use Rattle.sqcheck.specs.declared.role.Role.TheVariants.{Unused}
-use Rattle.sqcheck.specs.declared.tree.Tree.{Tree}
-use Rattle.sqcheck.specs.declared.uses.Uses.{Uses}
-use Rattle.sqcheck.specs.Found.{IsWhole, IsFound, IsRoleIn, IsFoundFault, IsWrongAt, IsFaultOf, IsInShortRow, HasManyRoots}
-use Rattle.sqcheck.specs.Places as places
-use Rattle.sqcheck.specs.Places.{Node, Spot, spot, trunk, free_leaf, link, node, root, first_root_spot, root_of_tree, names_table, StandsIn, StandsInRow, InPageAs, InRowAs, IsFirst, first, stands_in, stands_in_row}
-use Rattle.sqcheck.specs.Stands.{IsAsideWith}
-use Rattle.sqcheck.specs.Surveys.{role_at, Names, IsNamed}
-use Rattle.sqcheck.specs.WellFormed.{is_free, numbers}
-use Rattle.sqcheck.specs.internal.Agenda.{Tour, AreCounted, LinkFits, NotRoot, NotSchema, AreMarked, places}
-use Rattle.sqcheck.specs.internal.Counting.{AddsItem}
-use Rattle.sqcheck.specs.internal.Found.{TellsFound, IsBarred, IsDealtWith, IsThrough, IsJudged, AreLeaves, FreeDiffers, IsFreeCount, IsToldBy, IsAboveOf, IsProperRoot, Mapped}
-use Rattle.sqcheck.specs.internal.Surveys.{Charts}
-use Rattle.sqcheck.specs.internal.Walking.{IsItemOf, IsSchemaLeaf, PutsAside}
-use Rattle.sqcheck.proofs.checks.ListsByRecursion.{every_weaker, in_map}
-use Rattle.sqcheck.proofs.visit.AgendaOfWalk.{under_it, tours, drops, twice, fresh_marked}
+use Rattle.sqcheck.proofs.Between.{AddsItem, Apart, AreCounted, AreLeaves, AreMarked, Bool, Chart, Charts, CheckError, Database, Every, FreeDiffers, HasManyRoots, In, InPageAs, InRowAs, IsAboveOf, IsAsideWith, IsBarred, IsDealtWith, IsFaultOf, IsFirst, IsFound, IsFoundFault, IsFreeCount, IsInShortRow, IsItemOf, IsJudged, IsNamed, IsPage, IsProperRoot, IsRoleIn, IsSchemaLeaf, IsThrough, IsToldBy, IsWhole, IsWithin, IsWrongAt, Item, LinkFits, List, Mapped, Marks, Names, Node, None, NotRoot, NotSchema, PutsAside, Role, Spot, StandsIn, StandsInRow, TellsFound, Tour, Tree, Unused, Uses, [], ap, apart_snoc, arith, cases_eq, cond, count_by, drops, every_append, every_from_in, every_in, every_weaker, false, first, first_root_spot, free_leaf, free_pages, fresh_marked, get_or, get_or-set_other, get_or-set_same, in_cases, in_left, in_map, in_right, inl, inr, is_free, is_marked, length, link, names_table, node, numbers, places, refl, role_at, root, root_of_tree, set, spot, stands_in, stands_in_row, subst, suc, sum_by-append, sym, tours, true, trunk, twice, under_it, ℕ, ◌++◌, ◌+◌, ◌-◌, ◌<◌, ◌∙◌, ◌∷◌, ◌≡◌, ◌≢◌, ◌≤◌, ◌⊎◌}
 use Rattle.sqcheck.proofs.visit.FaultsFound.{names_more, grown}
 use Rattle.sqcheck.proofs.visit.StepsOfWalk.{counted_more}
+use Rattle.sqcheck.specs.Places as places
 
 -- What stands in a page that isn't of the freelist isn't either.
 unfree_under : (d : Database) (s t : Spot) → StandsIn d s t → is_free s.role ≡ false → is_free t.role ≡ false

@@ -1,43 +1,10 @@
 -- The faults that a survey names, by what it found.
-use Rattle.std.proofs.Common.{◌≡◌, ◌≢◌, ℕ, zero, suc, ◌+◌, ◌-◌, ◌<◌, ◌≤◌, ◌⊎◌, List, [], ◌∷◌, ◌++◌, length, take, get_or, Bool, true, false, Option, Some, ℤ, IsTrue, refl, sym, ap, subst, ◌∙◌, inl, inr, arith, append_assoc, append-nil, length-append}
-use Rattle.std.proofs.lemmas.Bool.{cases_lt}
-use Rattle.std.specs.Prelude.{Result, Err, IfErr}
-use Rattle.sqval.specs.Database.{Database, page}
-use Rattle.sqpage.specs.declared.cell.Cell.{Cell}
-use Rattle.sqpage.specs.declared.fault.CheckError.{CheckError}
-use Rattle.sqpage.specs.declared.fault.Fault.{Fault}
+use Rattle.sqcheck.proofs.Between.{ArePutDown, AreToldFound, Bool, Btree, Cell, Chart, CheckError, Database, EntryRefused, Err, Every, Fault, FollowRefusedBy, FreeLeaf, FreeTrunk, HasFoundLeaf, HasFreeCount, HasKind, HasSoundHeader, HeaderFault, IfErr, In, IsAsideWith, IsBtreePage, IsCellAt, IsCellFound, IsEntryPlace, IsFaultOf, IsFound, IsFoundFault, IsFreeCount, IsHeaderNamed, IsItemFound, IsItemOf, IsLevelFound, IsNamedFault, IsPage, IsPayload, IsPutDown, IsRootFound, IsRow, IsSchemaLeaf, IsSchemaRow, IsSoundPage, IsSoundWith, IsTrue, IsWhole, IsWithin, IsWrongAt, Item, Kind, LevelAfter, LevelAt, LinkFits, LinksOn, List, LockByte, MarkRefused, Names, Node, NodeRefusedBy, Option, Overflow, PageWrongBy, PointerMap, Result, Root, Some, Spot, TableLeaf, Task, TellsFound, TellsRow, Tree, Unused, [], ap, append-nil, append_assoc, arith, cases_lt, every_append, every_weaker, false, free_leaf, get_or, holder, in_left, in_right, inl, inr, is_interior, is_link, is_marked, is_of_header, kind_once, length, length-append, link, most_faults, node, node_in, overflow, page, page_as, refl, refused_by, role_at, role_of, subst, suc, sym, take, true, trunk, unused_fault, unused_faults, usable_size, zero, ℕ, ℤ, ◌++◌, ◌+◌, ◌-◌, ◌<◌, ◌∙◌, ◌∷◌, ◌≡◌, ◌≢◌, ◌≤◌, ◌⊎◌}
+use Rattle.sqcheck.specs.Places.{Role}
+use Rattle.sqcheck.proofs.visit.StepsOfWalk.{says_entry}
 use Rattle.sqpage.specs.declared.fault.Fault.TheVariants as faults
-use Rattle.sqpage.specs.declared.kind.Kind.{Kind}
-use Rattle.sqpage.specs.declared.kind.Kind.TheVariants.{TableLeaf}
-use Rattle.sqpage.specs.Chain.{IsPayload}
-use Rattle.sqpage.specs.Freelist.{IsPage, IsWithin, usable_size}
-use Rattle.sqpage.specs.PointerMaps.{IsEntryPlace}
-use Rattle.sqpage.specs.Lists.{In, Every}
-use Rattle.sqpage.specs.Page.{is_interior, IsBtreePage}
-use Rattle.sqpage.specs.internal.Taking.{MarkRefused, is_marked}
-use Rattle.sqcheck.specs.internal.Agenda.{LinkFits}
-use Rattle.sqpage.proofs.chain.ListsByRecursion.{in_left, in_right, every_append}
-use Rattle.sqcheck.specs.declared.chart.Chart.{Chart}
-use Rattle.sqcheck.specs.declared.item.Item.{Item}
-use Rattle.sqcheck.specs.declared.item.Task.{Task}
 use Rattle.sqcheck.specs.declared.item.Task.TheVariants as tasks
 use Rattle.sqcheck.specs.declared.role.Role as uses
-use Rattle.sqcheck.specs.declared.role.Role.TheVariants.{Btree, Overflow, FreeTrunk, FreeLeaf, LockByte, PointerMap, Unused}
-use Rattle.sqcheck.specs.declared.schema.Root.{Root}
-use Rattle.sqcheck.specs.declared.tree.Tree.{Tree}
-use Rattle.sqcheck.specs.Found.{IsWhole, IsFound, HasFoundLeaf, IsFoundFault, IsWrongAt, IsFaultOf}
-use Rattle.sqcheck.specs.Places.{holder, overflow, Node, Role, trunk, free_leaf, link, node, Spot, HasKind, IsCellAt, IsRow, IsSchemaRow, page_as}
-use Rattle.sqcheck.specs.Stands.{NodeRefusedBy, PageWrongBy, IsAsideWith, is_of_header}
-use Rattle.sqcheck.specs.Surveys.{most_faults, role_at, Names, IsNamedFault, HasFreeCount}
-use Rattle.sqcheck.specs.WellFormed.{HasSoundHeader, is_link, IsSoundPage, IsSoundWith}
-use Rattle.sqcheck.specs.internal.Charting.{ArePutDown, unused_fault, unused_faults}
-use Rattle.sqcheck.specs.internal.Found.{IsItemFound, IsCellFound, IsRootFound, IsLevelFound, AreToldFound, TellsFound, TellsRow, IsHeaderNamed, IsFreeCount}
-use Rattle.sqcheck.specs.internal.Heading.{HeaderFault}
-use Rattle.sqcheck.specs.internal.Walking.{role_of, node_in, IsItemOf, IsSchemaLeaf, LinksOn, FollowRefusedBy, EntryRefused, IsPutDown, LevelAt, LevelAfter}
-use Rattle.sqcheck.proofs.checks.ListsByRecursion.{every_weaker}
-use Rattle.sqcheck.proofs.checks.RefutationOfWellFormedness.{kind_once}
-use Rattle.sqcheck.proofs.visit.RefusedItems.{refused_by}
-use Rattle.sqcheck.proofs.visit.StepsOfWalk.{says_entry}
 
 -- What is wrong with a page of a tree that was found.
 node_found : (maps : Bool) (d : Database) (size : ℕ) (s : Spot) (p : ℕ) (x : Node) (fault : Fault) → IsFound d s → s.page ≡ p → IsPage d p → s.role ≡ node x → NodeRefusedBy (HasFoundLeaf d x.tree) d fault p x → IsFoundFault maps d size fault p

@@ -1,19 +1,7 @@
 -- An item is followed.
-use Rattle.std.proofs.Common.{◌≡◌, ℕ, Bool, List, ◌∷◌, take, reverse, Option, ℤ, sym, ap, subst, ◌∙◌, inr}
-use Rattle.sqval.specs.Database.{Database, page}
-use Rattle.sqpage.specs.Freelist.{usable_size}
-use Rattle.sqpage.specs.internal.Taking.{Marks}
-use Rattle.sqcheck.specs.declared.item.Item.{Item}
-use Rattle.sqcheck.specs.declared.item.Task.{Task}
+use Rattle.sqcheck.proofs.Between.{AddsItem, Bool, Database, Enters, Follows, InPageAs, IsNoNode, IsSchemaLeaf, IsSoundAs, IsSoundPage, IsSoundWith, Item, Knows, KnowsAt, LeadsOn, List, Marks, Opens, Option, Passes, Pushes, PutsAside, Task, TopLeads, Tree, Uses, Visits, Walk, ap, free_leaf, inr, link, node, node_in, page, reverse, role_of, subst, sym, take, trunk, usable_size, used_in, ℕ, ℤ, ◌∙◌, ◌∷◌, ◌≡◌}
+use Rattle.sqcheck.specs.Places.{Role}
 use Rattle.sqcheck.specs.declared.item.Task.TheVariants as tasks
-use Rattle.sqcheck.specs.declared.tree.Tree.{Tree}
-use Rattle.sqcheck.specs.declared.node.Walk.{Walk}
-use Rattle.sqcheck.specs.declared.uses.Uses.{Uses}
-use Rattle.sqcheck.specs.internal.Counting.{AddsItem}
-use Rattle.sqcheck.specs.Places.{Role, trunk, free_leaf, link, node, InPageAs, used_in}
-use Rattle.sqcheck.specs.WellFormed.{IsSoundAs, IsSoundWith, IsSoundPage}
-use Rattle.sqcheck.specs.internal.Walking.{role_of, node_in, Pushes, IsSchemaLeaf, PutsAside, LeadsOn, TopLeads, Visits, Knows, KnowsAt, Opens, Passes, Enters, Follows}
-use Rattle.sqcheck.proofs.btree.KeysAndPlaces.{IsNoNode}
 
 unpassed : (d : Database) (root p : ℕ) (task : Task) (further : Type 0) → IsNoNode task → LeadsOn d root p task further → further
 unpassed d root p tasks.Trunk further h f = f

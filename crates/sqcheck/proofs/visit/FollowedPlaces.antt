@@ -1,39 +1,6 @@
 -- A step of a survey: the place that comes next is followed, or not.
-use Rattle.std.proofs.Common.{◌≡◌, ◌≢◌, ◌⊎◌, ℕ, ◌<◌, ◌≤◌, List, [], ◌∷◌, ◌++◌, length, reverse, Bool, true, false, None, Some, refl, sym, ap, subst, ◌∙◌, inl, inr, append_assoc, append-nil}
-use Rattle.std.specs.Prelude.{Option}
-use Rattle.sqval.specs.Database.{Database}
-use Rattle.sqpage.specs.declared.fault.CheckError.{CheckError}
+use Rattle.sqcheck.proofs.Facts.{AddsItem, Apart, AreFound, ArePutDown, Bool, Chart, Charts, CheckError, ComesNext, Database, Every, FollowRefusedBy, HasFound, In, InPageAs, IsFaultOf, IsFound, IsItemFound, IsItemOf, IsJudged, IsLevelFound, IsPage, IsPutDown, IsRoleIn, IsRoleOf, IsSchemaLeaf, IsSoundPage, IsWhole, IsWithin, IsWrongAt, Item, KeepsWalk, LevelAfter, LinkFits, List, Mapped, Marks, Match, None, Option, Passes, PutsAside, PutsRole, Role, Some, Spot, StandsIn, TellsFound, Tour, Tree, Uses, Walk, [], ap, append-nil, append_assoc, every_weaker, false, fits_under, in_right, inl, inr, is_marked, leads, leads_back, leaves_kept, leaves_more, length, length_marked, level_found, mapped_left, mapped_taken, mapped_told, match_append, named_too, names_down, now_marked, numbers, places, popped_top, refl, refusal_found, refusal_of, reverse, role_at, role_in, role_of, same_uses, stands_in, subst, sym, tells_one, through, true, whole, ℕ, ◌++◌, ◌<◌, ◌∙◌, ◌∷◌, ◌≡◌, ◌≢◌, ◌≤◌, ◌⊎◌}
 use Rattle.sqpage.specs.declared.fault.Fault.TheVariants as faults
-use Rattle.sqpage.specs.Freelist.{IsPage, IsWithin}
-use Rattle.sqpage.specs.Lists.{In, Every, Apart}
-use Rattle.sqpage.specs.internal.Taking.{is_marked, Marks}
-use Rattle.sqpage.proofs.chain.ListsByRecursion.{in_right}
-use Rattle.sqcheck.specs.declared.chart.Chart.{Chart}
-use Rattle.sqcheck.specs.declared.item.Item.{Item}
-use Rattle.sqcheck.specs.declared.node.Walk.{Walk}
-use Rattle.sqcheck.specs.declared.role.Role.{Role}
-use Rattle.sqcheck.specs.declared.tree.Tree.{Tree}
-use Rattle.sqcheck.specs.declared.uses.Uses.{Uses}
-use Rattle.sqcheck.specs.Found.{IsWhole, IsFound, IsWrongAt, IsFaultOf}
-use Rattle.sqcheck.specs.Places.{Spot, StandsIn, InPageAs, stands_in}
-use Rattle.sqcheck.specs.Roles.{IsRoleOf}
-use Rattle.sqcheck.specs.Found.{IsRoleIn}
-use Rattle.sqcheck.specs.Surveys.{role_at}
-use Rattle.sqcheck.specs.WellFormed.{numbers, IsSoundPage}
-use Rattle.sqcheck.specs.internal.Agenda.{LinkFits, places, Tour}
-use Rattle.sqcheck.specs.internal.Charting.{ArePutDown}
-use Rattle.sqcheck.specs.internal.Counting.{AddsItem}
-use Rattle.sqcheck.specs.internal.Found.{IsItemFound, IsLevelFound, TellsFound, Mapped, AreFound, ComesNext, HasFound, PutsRole, IsJudged}
-use Rattle.sqcheck.specs.internal.Surveys.{Charts}
-use Rattle.sqcheck.specs.internal.Walking.{IsItemOf, Match, Passes, PutsAside, IsSchemaLeaf, KeepsWalk, LevelAfter, FollowRefusedBy, IsPutDown, role_of}
-use Rattle.sqcheck.proofs.btree.KeysAndPlaces.{match_append}
-use Rattle.sqcheck.proofs.checks.ListsByRecursion.{every_weaker}
-use Rattle.sqcheck.proofs.visit.AgendaOfWalk.{fits_under, now_marked}
-use Rattle.sqpage.proofs.chain.OverflowChains.{length_marked}
-use Rattle.sqcheck.proofs.visit.ChartedPlaces.{mapped_told, same_uses, mapped_left, named_too, mapped_taken, leaves_more, leaves_kept, through}
-use Rattle.sqcheck.proofs.visit.FaultsFound.{tells_one, names_down, refusal_found, refusal_of, level_found}
-use Rattle.sqcheck.proofs.visit.FoundPlaces.{whole, leads, leads_back, role_in}
-use Rattle.sqcheck.proofs.visit.StepsOfWalk.{popped_top}
 
 -- A page that is marked now is one, and is marked.
 pub within_marked : (old new : List Bool) (p : ℕ) → Marks old new p → (0 < p) × (p ≤ length new) × (is_marked new p ≡ true)

@@ -1,43 +1,9 @@
 -- What a survey finds through sound pages.
-use Rattle.std.proofs.Common.{◌≡◌, ◌≢◌, ◌⊎◌, ℕ, zero, suc, ◌-◌, ◌<◌, ◌≤◌, List, [], ◌∷◌, ◌++◌, length, reverse, get_or, set, Bool, false, None, refl, sym, ap, subst, ◌∙◌, inl, inr, arith}
-use Rattle.std.proofs.lemmas.List.{get_or-set_other, get_or-set_same, reverse-append}
-use Rattle.std.proofs.lemmas.Bool.{cases_eq}
-use Rattle.std.specs.Prelude.{Result, Ok, Err, IfErr, Option, Some, IfSome}
-use Rattle.sqpage.specs.PointerMaps.{lock_byte_page, IsPointerMap}
-use Rattle.sqval.specs.Database.{Database}
-use Rattle.sqpage.specs.Header.{byte}
-use Rattle.sqpage.specs.Page.{Page, IsBtreePage, PageRefused, head_at, code_of}
-use Rattle.sqpage.specs.declared.fault.Fault.{Fault}
-use Rattle.sqpage.specs.declared.fault.Fault.TheVariants as faults
+use Rattle.sqcheck.proofs.Between.{AreFoundRoles, AreRolesFound, AreSetDown, Bool, Btree, Cell, Chart, Charts, CheckError, Database, Err, Every, Fault, FreeLeaf, FreeTrunk, HasJudgedRole, HasKind, HasNoFree, IfErr, IfSome, InPageAs, InRow, InRowAs, IsBtreePage, IsCellAt, IsCellFound, IsFound, IsItemFound, IsItemOf, IsLeafFound, IsPage, IsPageFound, IsPayload, IsPointerMap, IsReserved, IsRoleIn, IsRoleOf, IsRoleSetAside, IsRootAt, IsSchemaLeaf, IsSetDown, IsSoundPage, IsSoundWith, IsWhole, Item, KeepsWalk, Kind, List, LockByte, Match, Node, None, Ok, Option, Page, PageRefused, Passes, PointerMap, PutsAside, Result, Role, Root, Some, Spot, StandsIn, TableLeaf, Tree, Unused, Walk, [], ap, arith, byte, cases_eq, code_of, every_append, every_weaker, false, free_leaf, get_or, get_or-set_other, get_or-set_same, head_at, inl, inr, kind_named, kind_once, length, link, lock_byte_page, names_table, node, page_as, refl, reverse, reverse-append, role_at, role_of, root_of_tree, set, stands_in_row, subst, suc, sym, trunk, used_in, zero, ℕ, ◌++◌, ◌-◌, ◌<◌, ◌∙◌, ◌∷◌, ◌≡◌, ◌≢◌, ◌≤◌, ◌⊎◌}
 use Rattle.sqcheck.proofs.btree.FaultsOfTreePage.{page_refused}
-use Rattle.sqcheck.proofs.checks.RefutationOfWellFormedness.{kind_once}
-use Rattle.sqpage.specs.Chain.{IsPayload}
-use Rattle.sqpage.specs.declared.cell.Cell.{Cell}
-use Rattle.sqpage.specs.declared.fault.CheckError.{CheckError}
-use Rattle.sqpage.specs.declared.kind.Kind.{Kind}
-use Rattle.sqpage.specs.declared.kind.Kind.TheVariants.{TableLeaf}
-use Rattle.sqpage.specs.Lists.{Every}
-use Rattle.sqpage.specs.Freelist.{IsPage}
-use Rattle.sqpage.proofs.chain.ListsByRecursion.{every_append}
-use Rattle.sqcheck.specs.declared.chart.Chart.{Chart}
-use Rattle.sqcheck.specs.declared.item.Item.{Item}
+use Rattle.sqpage.specs.declared.fault.Fault.TheVariants as faults
 use Rattle.sqcheck.specs.declared.item.Task.TheVariants as tasks
-use Rattle.sqcheck.specs.declared.node.Walk.{Walk}
-use Rattle.sqcheck.specs.declared.schema.Root.{Root}
-use Rattle.sqcheck.specs.internal.Schema.{IsRootAt}
-use Rattle.sqcheck.specs.declared.role.Role.{Role}
-use Rattle.sqcheck.specs.declared.role.Role.TheVariants.{Btree, FreeTrunk, FreeLeaf, LockByte, Unused, PointerMap}
-use Rattle.sqcheck.specs.declared.tree.Tree.{Tree}
-use Rattle.sqcheck.specs.Found.{IsWhole, IsFound, IsRoleIn}
 use Rattle.sqcheck.specs.Places as places
-use Rattle.sqcheck.specs.Places.{Node, Spot, used_in, trunk, free_leaf, link, node, stands_in_row, page_as, names_table, root_of_tree, HasKind, IsCellAt, InPageAs, InRow, InRowAs, StandsIn}
-use Rattle.sqcheck.specs.Roles.{IsRoleOf, IsRoleSetAside}
-use Rattle.sqcheck.specs.Surveys.{role_at, HasJudgedRole, AreFoundRoles}
-use Rattle.sqcheck.specs.WellFormed.{IsSoundWith, IsSoundPage, kind_named}
-use Rattle.sqcheck.specs.internal.Found.{IsItemFound, IsLeafFound, IsCellFound, IsPageFound, HasNoFree, AreRolesFound}
-use Rattle.sqcheck.specs.internal.Surveys.{Charts, IsSetDown, AreSetDown, IsReserved}
-use Rattle.sqcheck.specs.internal.Walking.{IsItemOf, IsSchemaLeaf, KeepsWalk, Match, Passes, PutsAside, role_of}
-use Rattle.sqcheck.proofs.checks.ListsByRecursion.{every_weaker}
 
 -- An item of a found place was followed.
 module _ (d : Database) (tree : Tree) (it : Item) (here : IsPage d it.page) (found : IsItemFound d tree it) (old new : Walk) (p : Passes d tree it old new) where

@@ -1,16 +1,5 @@
 -- Trunks of the freelist.
-use Rattle.std.proofs.Common.{◌≡◌, ◌≢◌, ℕ, ◌+◌, ◌-◌, ◌<◌, ◌≤◌, List, [], ◌∷◌, ◌++◌, length, Bool, false, refl, sym, ap, subst, ◌∙◌, inl, inr, ⊎_elim, arith}
-use Rattle.std.proofs.lemmas.Bool.{cases_eq}
-use Rattle.sqval.specs.Database.{Database, page}
-use Rattle.sqpage.specs.Freelist.{next_in, leaf_count_in, leaf_in, most_leaves}
-use Rattle.sqcheck.specs.declared.item.Item.{Item}
-use Rattle.sqcheck.specs.declared.item.Task.TheVariants.{Trunk, Leaf, Link}
-use Rattle.sqcheck.specs.declared.tree.Tree.{Tree}
-use Rattle.sqpage.specs.internal.Taking.{Marks}
-use Rattle.sqcheck.specs.Places.{next, leaf, trunk, free_leaf, link, Spot, spot, InTrunk, InLink, InPageAs}
-use Rattle.sqcheck.specs.WellFormed.{IsSoundAs}
-use Rattle.sqcheck.specs.internal.Walking.{Pushes, IsNextTrunk, IsLeafFrom, Visits, role_of}
-use Rattle.sqcheck.proofs.btree.KeysAndPlaces.{push_one, push_nothing, push_both}
+use Rattle.sqcheck.proofs.Between.{Bool, Database, InLink, InPageAs, InTrunk, IsLeafFrom, IsNextTrunk, IsSoundAs, Item, Leaf, Link, List, Marks, Pushes, Spot, Tree, Trunk, Visits, [], ap, arith, cases_eq, false, free_leaf, inl, inr, leaf, leaf_count_in, leaf_in, length, link, most_leaves, next, next_in, page, push_both, push_nothing, push_one, refl, role_of, spot, subst, sym, trunk, ℕ, ⊎_elim, ◌++◌, ◌+◌, ◌-◌, ◌<◌, ◌∙◌, ◌∷◌, ◌≡◌, ◌≢◌, ◌≤◌}
 
 pub next_pushed : (tree : Tree) (b : List ℕ) (p n : ℕ) (old new : List Item) (it : Item) → n ≡ next_in b → n ≢ 0 → it ≡ record { holder = p; page = n; task = Trunk } → new ≡ old ++ it ∷ []
     → Pushes tree (IsNextTrunk b p) old new

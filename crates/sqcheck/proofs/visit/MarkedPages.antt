@@ -1,15 +1,5 @@
 -- Marks on the pages that were taken.
-use Rattle.std.proofs.Common.{◌≡◌, ◌∙◌, ◌⊎◌, ℕ, ◌-◌, ◌<◌, ◌≤◌, List, length, get_or, set, Bool, true, false, not, count_by, refl, sym, ap, subst, inl, inr, ⊎_elim}
-use Rattle.sqpage.specs.internal.Taking.{is_marked}
-use Rattle.sqval.specs.Bytes.{word}
-use Rattle.sqval.specs.Database.{Database, page}
-use Rattle.sqpage.specs.PointerMaps.{lock_byte_page, IsPointerMap}
-use Rattle.sqpage.specs.Freelist.{IsWithin, usable_size}
-use Rattle.sqcheck.specs.Stands.{IsAsideWith}
-use Rattle.sqcheck.specs.WellFormed.{IsAutoVacuum}
-use Rattle.sqcheck.specs.internal.Agenda.{MarksAside}
-use Rattle.sqcheck.specs.internal.Checking.{MarksOne, MarksMaps}
-use Rattle.sqpage.proofs.chain.TakenPages.{fewer_unmarked}
+use Rattle.sqcheck.proofs.Words.{Bool, Database, IsAsideWith, IsAutoVacuum, IsPointerMap, IsWithin, List, MarksAside, MarksMaps, MarksOne, ap, count_by, false, fewer_unmarked, get_or, inl, inr, is_marked, length, lock_byte_page, not, page, refl, set, subst, sym, true, usable_size, word, ℕ, ⊎_elim, ◌-◌, ◌<◌, ◌∙◌, ◌≡◌, ◌≤◌, ◌⊎◌}
 
 pub fewer_left : (marks : List Bool) (p : ℕ) → 0 < p → p ≤ length marks → get_or marks (p - 1) false ≡ false → count_by not (set marks (p - 1) true) < count_by not marks
 fewer_left marks p above within was = fewer_unmarked marks (set marks (p - 1) true) p (record { above = above; within = within; was = was; now_marked = refl })

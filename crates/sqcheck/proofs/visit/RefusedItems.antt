@@ -1,15 +1,7 @@
 -- Items that aren't followed, by the level that leaves are to be on.
-use Rattle.std.proofs.Common.{ℕ, List, Bool, inl, inr}
-use Rattle.sqval.specs.Database.{Database}
-use Rattle.sqpage.specs.declared.fault.Fault.{Fault}
+use Rattle.sqcheck.proofs.Words.{Bool, Database, Fault, FollowRefusedBy, Item, List, Node, NodeRefusedBy, PageWrongBy, Task, Tree, inl, inr, node_in, role_of, ℕ}
 use Rattle.sqpage.specs.declared.fault.Fault.TheVariants as faults
-use Rattle.sqcheck.specs.declared.item.Item.{Item}
-use Rattle.sqcheck.specs.declared.item.Task.{Task}
 use Rattle.sqcheck.specs.declared.item.Task.TheVariants as tasks
-use Rattle.sqcheck.specs.declared.tree.Tree.{Tree}
-use Rattle.sqcheck.specs.Places.{Node}
-use Rattle.sqcheck.specs.Stands.{NodeRefusedBy, PageWrongBy}
-use Rattle.sqcheck.specs.internal.Walking.{role_of, node_in, FollowRefusedBy}
 
 -- What is wrong where leaves are to be on one level is so where they are to be on another that this one is.
 node_by : (A B : ℕ → Type 0) (d : Database) (fault : Fault) (p : ℕ) (x : Node) → ((on : ℕ) → A on → B on) → NodeRefusedBy A d fault p x → NodeRefusedBy B d fault p x

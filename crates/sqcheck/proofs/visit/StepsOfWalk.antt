@@ -1,33 +1,8 @@
 -- The steps of the walk.
-use Rattle.std.proofs.Common.{⊎_elim, ◌≡◌, ◌≢◌, ℕ, ◌<◌, ◌≤◌, ◌⊎◌, List, [], ◌∷◌, ◌++◌, length, reverse, Bool, true, false, cond, Option, Some, None, IsTrue, refl, sym, ap, subst, ◌∙◌, inl, inr, arith, append_assoc, append-nil}
-use Rattle.std.proofs.lemmas.List.{reverse-append}
-use Rattle.std.proofs.lemmas.List.Sums.{sum_by-append}
-use Rattle.sqval.specs.Database.{Database, page}
-use Rattle.sqpage.specs.declared.fault.Fault.{Fault}
+use Rattle.sqcheck.proofs.Between.{AddsItem, Agenda, Apart, AreCounted, AreEntered, AreMarked, Bool, Counts, Database, EntryPlace, EntryRefused, EntrySays, Every, Fault, FollowRefused, FollowRefusedBy, Follows, HasEntry, In, InPageAs, IsAside, IsAsideWith, IsAutoVacuum, IsEntryPlace, IsFirstLevel, IsItemOf, IsMapped, IsPage, IsProper, IsPutDown, IsReached, IsSchemaLeaf, IsSetAside, IsSound, IsSoundAs, IsTrue, IsWithin, Item, Knows, LinkFits, LinksOn, List, MarkRefused, Marks, Match, Node, NodeRefused, None, Option, PageWrong, PutsAside, RowsAre, SaysSo, Some, Spot, StandsAsked, StandsBy, StandsIn, Stems, Stood, Task, TopLeads, Tree, Uses, Walk, Walking, [], ap, apart_snoc, append-nil, append_assoc, arith, cond, either, every_append, every_in, every_weaker, false, follows, free_leaf, fresh_marked, holder, in_btree, in_cases, in_freelist, in_left, in_map, in_overflow, in_right, in_trees, inl, inr, is_free, is_link, is_marked, is_node, is_root, kind_code, kind_named, length, link, match_append, node, numbers, overflow, page, parent_by, refl, refused_by, reverse, reverse-append, role_of, root_in, subst, sum_by-append, sym, true, trunk, twice, usable_size, ℕ, ⊎_elim, ◌++◌, ◌<◌, ◌∙◌, ◌∷◌, ◌≡◌, ◌≢◌, ◌≤◌, ◌⊎◌}
+use Rattle.sqcheck.specs.Places.{Role}
 use Rattle.sqpage.specs.declared.fault.Fault.TheVariants as faults
-use Rattle.sqpage.specs.Lists.{In, Every, Apart}
-use Rattle.sqpage.specs.Freelist.{IsPage, IsWithin, usable_size}
-use Rattle.sqpage.specs.PointerMaps.{IsEntryPlace, kind_code}
-use Rattle.sqpage.specs.declared.pointer_map.EntryPlace.{EntryPlace}
-use Rattle.sqpage.specs.internal.Taking.{is_marked, Marks, MarkRefused}
-use Rattle.sqpage.proofs.chain.ListsByRecursion.{in_left, in_right, in_cases, every_in, every_append, apart_snoc}
-use Rattle.sqcheck.specs.declared.item.Item.{Item}
-use Rattle.sqcheck.specs.declared.item.Task.{Task}
 use Rattle.sqcheck.specs.declared.item.Task.TheVariants as tasks
-use Rattle.sqcheck.specs.declared.tree.Tree.{Tree}
-use Rattle.sqcheck.specs.declared.node.Walk.{Walk}
-use Rattle.sqcheck.specs.declared.uses.Counts.{Counts}
-use Rattle.sqcheck.specs.declared.uses.Uses.{Uses}
-use Rattle.sqcheck.specs.Places.{overflow, holder, Role, trunk, free_leaf, link, node, Node, Spot, InPageAs, StandsIn}
-use Rattle.sqcheck.specs.WellFormed.{IsReached, IsAutoVacuum, IsSetAside, HasEntry, SaysSo, kind_named, parent_by, IsSound, IsSoundAs, numbers, is_root, is_node, is_link, is_free}
-use Rattle.sqcheck.specs.Stands.{StandsBy, IsAsideWith, NodeRefused}
-use Rattle.sqcheck.specs.internal.Walking.{role_of, IsMapped, EntrySays, EntryRefused, IsItemOf, Match, IsSchemaLeaf, PutsAside, PageWrong, LinksOn, FollowRefused, FollowRefusedBy, IsFirstLevel, IsPutDown, Knows, Follows, IsProper, TopLeads}
-use Rattle.sqcheck.specs.internal.Counting.{in_trees, in_btree, in_overflow, in_freelist, root_in, AddsItem}
-use Rattle.sqcheck.specs.internal.Agenda.{IsAside, AreMarked, StandsAsked, LinkFits, Agenda, Stems, RowsAre, AreCounted, AreEntered, Walking, Stood}
-use Rattle.sqcheck.proofs.checks.ListsByRecursion.{every_weaker, in_map, either}
-use Rattle.sqcheck.proofs.visit.AgendaOfWalk.{follows, twice, fresh_marked}
-use Rattle.sqcheck.proofs.btree.KeysAndPlaces.{match_append}
-use Rattle.sqcheck.proofs.visit.RefusedItems.{refused_by}
 
 -- The item on top of the stack, with its place.
 pub record Top (tree : Tree) (it : Item) (below : List Item) (pending : List Spot) : Type 0 where

@@ -1,38 +1,7 @@
 -- What a survey has of all pages: how it begins, counts the freelist, goes on with the roots, and ends.
-use Rattle.std.proofs.Common.{◌==◌, ◌≡◌, ◌≢◌, ◌⊎◌, ℕ, suc, ◌+◌, ◌-◌, ◌<◌, ◌≤◌, List, [], ◌∷◌, ◌++◌, length, map, get_or, take, Bool, true, false, cond, count_by, refl, sym, ap, subst, ◌∙◌, inl, inr, arith, append-nil}
-use Rattle.std.proofs.lemmas.Bool.{cases_eq}
-use Rattle.std.proofs.lemmas.List.Sums.{sum_by-cons}
-use Rattle.sqval.specs.Bytes.{word}
-use Rattle.sqval.specs.Database.{Database, page}
-use Rattle.sqpage.specs.declared.fault.CheckError.{CheckError}
-use Rattle.sqpage.specs.declared.kind.Kind.{Kind}
-use Rattle.sqpage.specs.declared.kind.Kind.TheVariants.{TableLeaf}
-use Rattle.sqpage.specs.Freelist.{IsPage, IsWithin, first_trunk, free_pages}
-use Rattle.sqpage.specs.Lists.{In, Every, Apart}
-use Rattle.sqpage.specs.Page.{is_interior}
-use Rattle.sqpage.specs.internal.Taking.{is_marked}
-use Rattle.sqpage.proofs.chain.ListsByRecursion.{in_left, in_right, every_append, every_in, every_from_in}
-use Rattle.sqcheck.specs.declared.chart.Chart.{Chart}
-use Rattle.sqcheck.specs.declared.node.Walk.{Walk}
-use Rattle.sqcheck.specs.declared.role.Role.{Role}
-use Rattle.sqcheck.specs.declared.role.Role.TheVariants.{Btree, Overflow, FreeTrunk, FreeLeaf, Unused}
-use Rattle.sqcheck.specs.declared.schema.Root.{Root}
-use Rattle.sqcheck.specs.declared.uses.Uses.{Uses}
-use Rattle.sqcheck.specs.Found.{IsWhole, IsFound, IsRoleIn, IsFoundFault, IsWrongAt, IsFaultOf, IsInShortRow, HasManyRoots}
+use Rattle.sqcheck.proofs.Facts.{AddsRoots, Apart, AreFreePages, AreLeaves, AreMarked, ArePutDown, AreRolesFound, AreToldFound, Begins, Bool, Btree, Chart, CheckError, Database, Every, FreeDiffers, FreeLeaf, FreeTrunk, HasFreeCount, HasJudgedRole, HasKind, HasManyRoots, HasNoFree, HasSoundHeader, In, InRow, InRowAs, InRowsOf, IsAboveOf, IsAutoVacuum, IsBarred, IsDealtWith, IsFaultOf, IsFirst, IsFound, IsFoundFault, IsFreeCount, IsHeaderNamed, IsHome, IsInShortRow, IsJudged, IsLargestFault, IsLargestIn, IsLeafFound, IsLookedAt, IsLookedThrough, IsNamed, IsNamedFault, IsPage, IsProperRoot, IsRoleIn, IsRootAt, IsRootIn, IsSchemaLeaf, IsSurveyed, IsThrough, IsToldBy, IsWhole, IsWithin, IsWrongAt, Kind, LinkFits, List, Mapped, Names, Node, NotRoot, NotSchema, Off, Overflow, Place, Role, Root, RootsMatch, Spot, StandsIn, StandsInRow, TableLeaf, TellsFound, TellsLargest, Tour, Unused, Uses, Walk, [], ap, append-nil, arith, cases_eq, child, cond, count_by, either, every_append, every_from_in, every_in, every_take, every_weaker, false, first, first_root, first_root_spot, first_trunk, first_trunk_place, first_trunk_spot, found_in_row, free_leaf, free_pages, from_map, get_or, home, in_left, in_map, in_right, inl, inr, is_free, is_interior, is_marked, is_root, judged_by, leaf, length, link, map, most_faults, names_down, names_more, next, no_more, node, node_found_so, numbers, overflow, page, put_down_is, refl, role_at, root, subst, suc, sum_by-cons, sym, take, taken, told_unused, true, trunk, unnamed, unused_at, unused_faults, word, ℕ, ◌++◌, ◌+◌, ◌-◌, ◌<◌, ◌==◌, ◌∙◌, ◌∷◌, ◌≡◌, ◌≢◌, ◌≤◌, ◌⊎◌}
 use Rattle.sqcheck.specs.Places as places
-use Rattle.sqcheck.specs.Places.{Node, Place, first_trunk_place, first_root, next, leaf, overflow, child, root, Spot, trunk, free_leaf, link, node, StandsIn, StandsInRow, InRow, InRowAs, HasKind, IsFirst, first, first_root_spot, first_trunk_spot}
-use Rattle.sqcheck.specs.Surveys.{role_at, most_faults, Names, IsNamed, IsLookedAt, IsLookedThrough, HasJudgedRole, AreFreePages, HasFreeCount, IsRootIn, IsLargestIn, IsNamedFault}
-use Rattle.sqcheck.specs.WellFormed.{IsAutoVacuum, HasSoundHeader, is_free, is_root, numbers}
-use Rattle.sqcheck.specs.internal.Agenda.{Tour, LinkFits, NotRoot, NotSchema, AreMarked, IsHome, Off, home}
 use Rattle.sqcheck.specs.internal.Agenda as agenda
-use Rattle.sqcheck.specs.internal.Charting.{ArePutDown, unused_faults}
-use Rattle.sqcheck.specs.internal.Found.{AreToldFound, TellsFound, IsBarred, IsDealtWith, IsThrough, IsJudged, AreLeaves, FreeDiffers, IsFreeCount, IsToldBy, IsAboveOf, IsProperRoot, IsLargestFault, TellsLargest, Mapped, Begins, IsLeafFound, AddsRoots, HasNoFree, AreRolesFound, IsHeaderNamed, IsSurveyed}
-use Rattle.sqcheck.specs.internal.Schema.{IsRootAt, RootsMatch, InRowsOf}
-use Rattle.sqcheck.specs.internal.Walking.{IsSchemaLeaf}
-use Rattle.sqcheck.proofs.checks.ListsByRecursion.{every_weaker, in_map, from_map, either, no_more}
-use Rattle.sqcheck.proofs.visit.ChartedPlaces.{judged_by, node_found_so}
-use Rattle.sqcheck.proofs.visit.FaultsFound.{names_more, names_down, put_down_is, every_take, taken, unnamed, told_unused, unused_at}
-use Rattle.sqcheck.proofs.visit.FoundPlaces.{found_in_row}
 
 -- How it begins, with these places.
 begun : (maps : Bool) (d : Database) (size : ℕ) (chart : Chart) (uses : Uses) (walk : Walk) (pending : List Spot) → Begins maps d size uses walk chart → Every (IsFound d) pending → Apart (agenda.places pending)

@@ -1,20 +1,5 @@
 -- What a visitor is told of.
-use Rattle.std.proofs.Common.{◌≡◌, ℕ, Bool, List, [], ◌∷◌, ◌++◌, map, refl, sym, ap, subst, append_assoc}
-use Rattle.sqval.specs.Database.{Database}
-use Rattle.sqpage.specs.Lists.{Every}
-use Rattle.sqcheck.specs.declared.item.Item.{Item}
-use Rattle.sqcheck.specs.declared.item.Task.{Task}
-use Rattle.sqcheck.specs.declared.tree.Tree.{Tree}
-use Rattle.sqcheck.specs.declared.node.Walk.{Walk}
-use Rattle.sqcheck.specs.declared.uses.Uses.{Uses}
-use Rattle.sqcheck.specs.declared.role.Role.{Role}
-use Rattle.sqcheck.specs.Places.{Spot}
-use Rattle.sqcheck.specs.WellFormed.{IsReached, numbers}
-use Rattle.sqcheck.specs.internal.Walking.{role_of, IsItemOf}
-use Rattle.sqcheck.specs.internal.Agenda.{Walking, WalksOn}
-use Rattle.sqcheck.specs.internal.Checking.{Visited, VisitsMore}
-use Rattle.sqcheck.specs.Roles.{IsRoleOf, HasRole, Visit, Told}
-use Rattle.sqcheck.specs.internal.Roles.{TellsOf}
+use Rattle.sqcheck.proofs.Words.{Bool, Database, Every, HasRole, IsItemOf, IsReached, IsRoleOf, Item, List, Role, Spot, Task, TellsOf, Told, Tree, Uses, Visit, Visited, VisitsMore, Walk, Walking, WalksOn, [], ap, append_assoc, map, numbers, refl, role_of, subst, sym, ℕ, ◌++◌, ◌∷◌, ◌≡◌}
 
 -- the role of an item's page
 pub role_by : (d : Database) (tree : Tree) (it : Item) (task : Task) (role : Role) → it.task ≡ task → IsRoleOf d it.page (role_of tree task) role → IsRoleOf d it.page (role_of tree it.task) role

@@ -1,10 +1,5 @@
-use Rattle.std.proofs.Common.{◌≢◌, false}
+use Rattle.sqcheck.proofs.Between.{Stands, UnlessUnread, WellFormed, false, if_err, if_ok, none_stands, ◌≢◌}
 use Rattle.sqpage.specs.declared.fault.Fault.TheVariants as faults
-use Rattle.sqpage.specs.Source.{UnlessUnread}
-use Rattle.sqcheck.specs.Stands.{Stands}
-use Rattle.sqcheck.specs.WellFormed.{WellFormed}
-use Rattle.sqcheck.proofs.checks.ResultsOfCalls.{if_ok, if_err}
-use Rattle.sqcheck.proofs.checks.RefutationOfWellFormedness.{none_stands}
 use Rattle.sqcheck.proofs.checker.check.Goals as goal
 
 pub returns-clause-none : goal.returns-clause-none

@@ -1,14 +1,5 @@
-use Rattle.std.proofs.Common.{◌≡◌, ◌∙◌, ℕ, List, length, refl, sym, ap, subst}
-use Rattle.std.proofs.lemmas.List.{with_items_is}
-use Rattle.sqval.specs.Database.{Database, page}
-use Rattle.sqval.specs.PageSize.{IsPageSize}
-use Rattle.sqpage.proofs.file.PagesInMemory.{least_page_size}
-use Rattle.sqcheck.specs.internal.Heading.{HasHeaderOf, HeaderFault}
+use Rattle.sqcheck.proofs.Between.{Database, HasHeaderOf, HeaderFault, IsPageSize, List, StandsWith, UnlessUnread, ap, exits, first_sized, header_sound, header_stands, if_err, knows_maps, least_page_size, length, maps_all, maps_used, no_magic, page, page_stands, refl, stands_read, subst, sym, with_items_is, ℕ, ◌∙◌, ◌≡◌}
 use Rattle.sqpage.specs.declared.fault.Fault.TheVariants as faults
-use Rattle.sqpage.specs.Source.{UnlessUnread}
-use Rattle.sqcheck.specs.Stands.{StandsWith}
-use Rattle.sqcheck.proofs.checks.ResultsOfCalls.{if_err, exits}
-use Rattle.sqcheck.proofs.checks.EndsOfCheck.{no_magic, header_sound, header_stands, page_stands, stands_read, first_sized, knows_maps, maps_used, maps_all}
 use Rattle.sqcheck.proofs.checker.check_snapshot.Goals as goal
 
 pub returns-then-count-eq0-clause-err : goal.returns-then-count-eq0-clause-err

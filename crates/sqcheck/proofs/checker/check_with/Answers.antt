@@ -1,10 +1,5 @@
-use Rattle.std.proofs.Common.{◌≢◌}
+use Rattle.sqcheck.proofs.Between.{StandsWith, UnlessUnread, WellFormedWith, if_err, if_ok, none_stands, ◌≢◌}
 use Rattle.sqpage.specs.declared.fault.Fault.TheVariants as faults
-use Rattle.sqpage.specs.Source.{UnlessUnread}
-use Rattle.sqcheck.specs.Stands.{StandsWith}
-use Rattle.sqcheck.specs.WellFormed.{WellFormedWith}
-use Rattle.sqcheck.proofs.checks.ResultsOfCalls.{if_ok, if_err}
-use Rattle.sqcheck.proofs.checks.RefutationOfWellFormedness.{none_stands}
 use Rattle.sqcheck.proofs.checker.check_with.Goals as goal
 
 pub returns-clause-none : goal.returns-clause-none

@@ -1,12 +1,4 @@
-use Rattle.std.proofs.Common.{◌≡◌, ◌∙◌, ◌-◌, ℕ, List, Bool, Vec, Global, true, false, inl, length, replicate, sym, ap, subst}
-use Rattle.std.proofs.lemmas.List.{length-replicate, with_items_is}
-use Rattle.std.specs.Vec.{with_items}
-use Rattle.sqpage.specs.PointerMaps.{lock_byte_page}
-use Rattle.sqcheck.specs.internal.Agenda.{MarksAside}
-use Rattle.sqcheck.specs.internal.Checking.{MarksOne}
-use Rattle.sqcheck.proofs.visit.MarkedPages.{aside_marked, maps_marked, maps_barred}
-use Rattle.sqpage.specs.Freelist.{IsWithin}
-use Rattle.sqpage.specs.internal.Taking.{is_marked}
+use Rattle.sqcheck.proofs.Below.{Bool, Global, IsWithin, List, MarksAside, MarksOne, Vec, ap, aside_marked, false, inl, is_marked, length, length-replicate, lock_byte_page, maps_barred, maps_marked, replicate, subst, sym, true, with_items, with_items_is, ℕ, ◌-◌, ◌∙◌, ◌≡◌}
 use Rattle.sqcheck.proofs.checker.first_marks.Goals.{then-maps, else-maps}
 use Rattle.sqcheck.proofs.checker.first_marks.Goals as goal
 

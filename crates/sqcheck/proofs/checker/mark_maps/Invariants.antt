@@ -1,5 +1,4 @@
-use Rattle.std.proofs.Common.{◌≡◌, ◌-◌, length}
-use Rattle.sqcheck.proofs.visit.MarkedPages.{MarkedTo}
+use Rattle.sqcheck.proofs.Below.{MarkedTo, length, ◌-◌, ◌≡◌}
 use Rattle.sqcheck.proofs.checker.mark_maps.Given as goal
 
 abbrev pub invariant-pages : goal.invariant-pages

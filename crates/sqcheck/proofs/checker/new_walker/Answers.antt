@@ -1,5 +1,4 @@
-use Rattle.std.proofs.Common.{◌+◌, ◌<◌, ◌≤◌, ◌^◌, List, Bool, not, length, count_by, refl, inl, arith}
-use Rattle.std.proofs.lemmas.List.Sums.{count_by-le-length}
+use Rattle.sqcheck.proofs.Words.{Bool, List, arith, count_by, count_by-le-length, inl, length, not, refl, ◌+◌, ◌<◌, ◌^◌, ◌≤◌}
 use Rattle.sqcheck.proofs.checker.new_walker.Goals as goal
 
 pub invariant_of-result : goal.invariant_of-result

@@ -1,4 +1,4 @@
-use Rattle.std.proofs.Common.{false}
+use Rattle.sqcheck.proofs.Words.{false}
 use Rattle.sqcheck.proofs.checker.visit_pages.Given as goal
 
 abbrev pub ghosts-check_snapshot : goal.ghosts-check_snapshot

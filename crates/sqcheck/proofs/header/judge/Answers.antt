@@ -1,10 +1,5 @@
-use Rattle.std.proofs.Common.{◌≡◌, ◌≢◌, ℕ, ◌+◌, ◌≤◌, List, take, true, false, sym, subst, ◌∙◌}
-use Rattle.sqpage.specs.Header.{HasMagic, HasPageSize, size_named, IsHeader, HeaderRefused}
-use Rattle.sqcheck.specs.internal.Heading.{HeaderFault}
-use Rattle.sqcheck.proofs.checks.ResultsOfCalls.{exits}
-use Rattle.sqcheck.proofs.checks.HeaderInFirstPage.{heading_is, heading_refused, size_differs, not_plain, not_incremental}
-use Rattle.sqcheck.proofs.header.judge.Goals.{else-not-maps-via-then-not-maps+else-header-ne0, else-not-maps-via-else-not-maps}
-use Rattle.sqcheck.proofs.header.judge.Goals.{else-maps-via-then-maps+then-header-eq0+else-header-ne0-2, else-maps-via-then-maps+else-header-eq0, else-maps-via-else-maps}
+use Rattle.sqcheck.proofs.Below.{HasMagic, HasPageSize, HeaderFault, HeaderRefused, IsHeader, List, exits, false, heading_is, heading_refused, not_incremental, not_plain, size_differs, size_named, subst, sym, take, true, ℕ, ◌+◌, ◌∙◌, ◌≡◌, ◌≢◌, ◌≤◌}
+use Rattle.sqcheck.proofs.header.judge.Goals.{else-not-maps-via-then-not-maps+else-header-ne0, else-not-maps-via-else-not-maps, else-maps-via-then-maps+then-header-eq0+else-header-ne0-2, else-maps-via-then-maps+else-header-eq0, else-maps-via-else-maps}
 use Rattle.sqcheck.proofs.header.judge.Goals as goal
 
 pub returns-then-names_another-clause-err : goal.returns-then-names_another-clause-err

@@ -1,10 +1,4 @@
-use Rattle.std.proofs.Common.{◌≡◌, ℕ, suc, sym, ap, subst, refl}
-use Rattle.sqpage.specs.Page.{Page}
-use Rattle.sqcheck.specs.Places.{HasKind, page_as, InCell}
-use Rattle.sqcheck.specs.WellFormed.{first_child}
-use Rattle.sqcheck.specs.internal.Walking.{node_in, Pushes, IsBelow, Judged}
-use Rattle.sqcheck.proofs.btree.FaultsOfTreePage.{as_page}
-use Rattle.sqcheck.proofs.btree.EnteredPage.{Aside, entered_page, entered_sound, entered_pushes, entered_aside, entered_knows}
+use Rattle.sqcheck.proofs.Facts.{Aside, HasKind, InCell, IsBelow, Judged, Page, Pushes, ap, as_page, entered_aside, entered_knows, entered_page, entered_pushes, entered_sound, first_child, node_in, page_as, refl, subst, suc, sym, ℕ, ◌≡◌}
 use Rattle.sqcheck.proofs.node.enter.Goals as goal
 
 pub returns-clause-ok : goal.returns-clause-ok

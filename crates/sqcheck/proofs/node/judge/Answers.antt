@@ -1,9 +1,4 @@
-use Rattle.std.proofs.Common.{◌≡◌, ◌∙◌, Some, true, false, refl, sym, ap, inl}
-use Rattle.sqcheck.specs.internal.Walking.{node_in, IsPutDown}
-use Rattle.sqcheck.proofs.btree.FaultsOfTreePage.{page_refused, layout_refused, keys_refused, kind_read, level_put}
-use Rattle.sqcheck.proofs.checks.ResultsOfCalls.{exits}
-use Rattle.sqcheck.specs.Stands.{NodeRefusedBy}
-use Rattle.sqpage.specs.Page.{is_interior, is_table}
+use Rattle.sqcheck.proofs.Facts.{IsPutDown, NodeRefusedBy, Some, ap, exits, false, inl, is_interior, is_table, keys_refused, kind_read, layout_refused, level_put, node_in, page_refused, refl, sym, true, ◌∙◌, ◌≡◌}
 use Rattle.sqcheck.proofs.node.judge.Goals.{then-not-is_interior+in_ok-leaf_level, else-not-is_interior}
 use Rattle.sqcheck.proofs.node.judge.Goals as goal
 

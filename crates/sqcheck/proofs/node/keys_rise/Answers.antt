@@ -1,6 +1,4 @@
-use Rattle.std.proofs.Common.{◌<◌, ◌≤◌, inl, inr, arith}
-use Rattle.sqpage.specs.Page.{cell_count}
-use Rattle.sqcheck.proofs.btree.KeysAndPlaces.{rise_goes_on, rise_ends, rise_breaks, says_no, says_yes}
+use Rattle.sqcheck.proofs.Between.{arith, cell_count, inl, inr, rise_breaks, rise_ends, rise_goes_on, says_no, says_yes, ◌<◌, ◌≤◌}
 use Rattle.sqcheck.proofs.node.keys_rise.Goals.{then-not-is_behind-via-then-not-is_behind, then-not-is_behind-via-else-not-is_behind+then-not-is_at_most}
 use Rattle.sqcheck.proofs.node.keys_rise.Goals as goal
 

@@ -1,4 +1,4 @@
-use Rattle.sqcheck.proofs.btree.KeysAndPlaces.{Rising}
+use Rattle.sqcheck.proofs.Between.{Rising}
 use Rattle.sqcheck.proofs.node.keys_rise.Given as goal
 
 abbrev pub invariant-cells : goal.invariant-cells

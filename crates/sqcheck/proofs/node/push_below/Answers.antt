@@ -1,8 +1,4 @@
-use Rattle.std.proofs.Common.{◌≡◌, true, sym, ◌∙◌, ap}
-use Rattle.sqpage.specs.Page.{is_interior}
-use Rattle.sqcheck.specs.internal.Walking.{node_in, IsChild, IsBelow}
-use Rattle.sqcheck.proofs.checks.ResultsOfCalls.{on_ok}
-use Rattle.sqcheck.proofs.btree.KeysAndPlaces.{push_none}
+use Rattle.sqcheck.proofs.Between.{IsBelow, IsChild, ap, is_interior, node_in, on_ok, push_none, sym, true, ◌∙◌, ◌≡◌}
 use Rattle.sqcheck.proofs.node.push_below.Goals as goal
 
 pub returns-then-is_interior-clause-ok : goal.returns-then-is_interior-clause-ok

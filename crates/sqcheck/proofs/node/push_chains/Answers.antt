@@ -1,10 +1,4 @@
-use Rattle.std.proofs.Common.{◌≡◌, ◌+◌, ◌-◌, ◌<◌, true, sym, subst, ap, refl, arith, ◌∙◌}
-use Rattle.sqpage.specs.Page.{cell_count}
-use Rattle.sqpage.specs.Chain.{bytes_beyond}
-use Rattle.sqcheck.specs.declared.item.Item.{Item}
-use Rattle.sqcheck.specs.declared.item.Task.TheVariants.{Link}
-use Rattle.sqcheck.specs.internal.Walking.{Pushes, InCellFrom}
-use Rattle.sqcheck.proofs.btree.KeysAndPlaces.{chain_more, chain_not, chains_none, chains_all, needs, link_leads}
+use Rattle.sqcheck.proofs.Between.{InCellFrom, Item, Link, Pushes, ap, arith, bytes_beyond, cell_count, chain_more, chain_not, chains_all, chains_none, link_leads, needs, refl, subst, sym, true, ◌+◌, ◌-◌, ◌<◌, ◌∙◌, ◌≡◌}
 use Rattle.sqcheck.proofs.node.push_chains.Goals as goal
 
 pub cells-init : goal.cells-init

@@ -1,8 +1,4 @@
-use Rattle.std.proofs.Common.{◌≤◌, ℕ, reverse}
-use Rattle.sqval.specs.Database.{Database}
-use Rattle.sqpage.specs.Page.{cell_count}
-use Rattle.sqcheck.specs.declared.tree.Tree.{Tree}
-use Rattle.sqcheck.specs.internal.Walking.{Pushes, InCellFrom, TopLeads}
+use Rattle.sqcheck.proofs.Words.{Database, InCellFrom, Pushes, TopLeads, Tree, cell_count, reverse, ℕ, ◌≤◌}
 use Rattle.sqcheck.proofs.node.push_chains.Given as goal
 
 abbrev pub invariant-cells : goal.invariant-cells

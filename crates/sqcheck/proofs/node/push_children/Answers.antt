@@ -1,11 +1,5 @@
-use Rattle.std.proofs.Common.{◌≡◌, ◌+◌, ◌-◌, ◌<◌, suc, unwrap_or, inl, inr, sym, subst, ap, refl, arith, ◌∙◌}
-use Rattle.sqval.specs.Bytes.{word}
-use Rattle.sqpage.specs.Page.{cell_count, head_at, if_present}
-use Rattle.sqcheck.specs.declared.item.Item.{Item}
+use Rattle.sqcheck.proofs.Between.{ChildFrom, IsNext, Item, Pushes, ap, arith, cell_count, child_more, children_all, children_none, first_is, head_at, if_present, inl, inr, node_in, node_leads, on_ok, refl, subst, suc, sym, unwrap_or, word, ◌+◌, ◌-◌, ◌<◌, ◌∙◌, ◌≡◌}
 use Rattle.sqcheck.specs.declared.item.Task.TheVariants.{Node}
-use Rattle.sqcheck.specs.internal.Walking.{Pushes, node_in}
-use Rattle.sqcheck.proofs.btree.KeysAndPlaces.{ChildFrom, IsNext, child_more, children_none, children_all, first_is, node_leads}
-use Rattle.sqcheck.proofs.checks.ResultsOfCalls.{on_ok}
 use Rattle.sqcheck.proofs.node.push_children.Goals as goal
 
 pub cells-init : goal.cells-init

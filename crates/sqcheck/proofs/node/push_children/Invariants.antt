@@ -1,8 +1,4 @@
-use Rattle.std.proofs.Common.{◌+◌, ◌≤◌}
-use Rattle.sqpage.specs.Page.{cell_count}
-use Rattle.sqcheck.specs.declared.tree.Tree.{Tree}
-use Rattle.sqcheck.specs.internal.Walking.{Pushes, node_in}
-use Rattle.sqcheck.proofs.btree.KeysAndPlaces.{ChildFrom, IsNext}
+use Rattle.sqcheck.proofs.Between.{ChildFrom, IsNext, Pushes, Tree, cell_count, node_in, ◌+◌, ◌≤◌}
 use Rattle.sqcheck.proofs.node.push_children.Given as goal
 
 abbrev pub invariant-cells : goal.invariant-cells

@@ -1,15 +1,4 @@
-use Rattle.std.proofs.Common.{◌≡◌, ◌∙◌, sym, subst, ap}
-use Rattle.sqpage.specs.declared.kind.Kind.TheVariants.{TableLeaf}
-use Rattle.sqpage.specs.Page.{Page, cell_count}
-use Rattle.sqcheck.specs.Places.{page_as}
-use Rattle.sqcheck.specs.internal.Schema.{InRowBelow, KeepsFound, AreSchemaRows}
-use Rattle.sqcheck.specs.Stands.{NodeRefused}
-use Rattle.sqcheck.specs.WellFormed.{FirstLeaf, IsReached, IsSound}
-use Rattle.sqcheck.proofs.checks.ResultsOfCalls.{on_ok}
-use Rattle.sqcheck.proofs.btree.FaultsOfTreePage.{as_page, page_refused}
-use Rattle.sqcheck.proofs.visit.FollowedItem.{used_read}
-use Rattle.sqcheck.proofs.checks.RowsOfSchema.{all_rows}
-use Rattle.sqcheck.proofs.visit.StepsOfWalk.{node_stands}
+use Rattle.sqcheck.proofs.Facts.{AreSchemaRows, FirstLeaf, InRowBelow, IsReached, IsSound, KeepsFound, NodeRefused, Page, TableLeaf, all_rows, ap, as_page, cell_count, node_stands, on_ok, page_as, page_refused, subst, sym, used_read, ◌∙◌, ◌≡◌}
 use Rattle.sqcheck.proofs.schema.page_roots.Goals as goal
 
 pub returns-in-Err-clause-err : goal.returns-in-Err-clause-err

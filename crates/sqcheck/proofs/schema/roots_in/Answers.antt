@@ -1,11 +1,4 @@
-use Rattle.std.proofs.Common.{◌≡◌, ◌+◌, ◌∷◌, ◌++◌, ◌∙◌, [], ℕ, take, get_or, sym, subst, refl}
-use Rattle.std.proofs.lemmas.List.{take_more}
-use Rattle.sqpage.specs.Lists.{Every}
-use Rattle.sqpage.proofs.chain.ListsByRecursion.{every_append}
-use Rattle.sqcheck.specs.internal.Agenda.{StandsNow}
-use Rattle.sqcheck.specs.internal.Schema.{IsRowsPage, KeepsFound, InRowsOf, AllSchemaRows}
-use Rattle.sqcheck.proofs.checks.ResultsOfCalls.{exits}
-use Rattle.sqcheck.proofs.checks.RowsOfSchema.{page_more, not_before, every_index}
+use Rattle.sqcheck.proofs.Between.{AllSchemaRows, Every, InRowsOf, IsRowsPage, KeepsFound, StandsNow, [], every_append, every_index, exits, get_or, not_before, page_more, refl, subst, sym, take, take_more, ℕ, ◌++◌, ◌+◌, ◌∙◌, ◌∷◌, ◌≡◌}
 use Rattle.sqcheck.proofs.schema.roots_in.Goals as goal
 
 pub returns-in_err-page_roots-clause-err : goal.returns-in_err-page_roots-clause-err

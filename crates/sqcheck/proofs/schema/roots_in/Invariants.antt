@@ -1,7 +1,4 @@
-use Rattle.std.proofs.Common.{◌≡◌, [], take}
-use Rattle.sqpage.specs.Lists.{Every, Apart}
-use Rattle.sqcheck.specs.internal.Schema.{IsRowsPage, KeepsFound, InRowsOf, AllSchemaRows}
-use Rattle.sqcheck.specs.internal.Snapshots.{SameSource}
+use Rattle.sqcheck.proofs.Words.{AllSchemaRows, Apart, Every, InRowsOf, IsRowsPage, KeepsFound, SameSource, [], take, ◌≡◌}
 use Rattle.sqcheck.proofs.schema.roots_in.Given as goal
 
 abbrev pub invariant-pages : goal.invariant-pages

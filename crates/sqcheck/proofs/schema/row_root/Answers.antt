@@ -1,11 +1,5 @@
-use Rattle.std.proofs.Common.{◌≡◌, ◌≢◌, ◌∙◌, ◌++◌, ◌⊎◌, ℕ, List, Option, Some, inl, inr, sym, subst, ap, refl}
-use Rattle.sqval.specs.Database.{Database}
-use Rattle.sqpage.specs.declared.fault.Fault.{Fault}
+use Rattle.sqcheck.proofs.Between.{Database, Fault, IsPayload, IsSchemaRow, List, Option, Some, ap, exits, inl, inr, is_no_memory, no_row_fault, refl, subst, sym, ℕ, ◌++◌, ◌∙◌, ◌≡◌, ◌≢◌, ◌⊎◌}
 use Rattle.sqpage.specs.declared.fault.Fault.TheVariants as faults
-use Rattle.sqpage.specs.Chain.{IsPayload}
-use Rattle.sqcheck.specs.Places.{IsSchemaRow}
-use Rattle.sqcheck.proofs.checks.ResultsOfCalls.{exits}
-use Rattle.sqcheck.proofs.checks.RowsOfSchema.{is_no_memory, no_row_fault}
 use Rattle.sqcheck.proofs.schema.row_root.Goals as goal
 
 pub returns-in_err-payload-clause-err : goal.returns-in_err-payload-clause-err

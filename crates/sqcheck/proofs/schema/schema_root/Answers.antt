@@ -1,5 +1,4 @@
-use Rattle.std.proofs.Common.{sym, subst, refl}
-use Rattle.sqcheck.specs.Places.{IsRootOf}
+use Rattle.sqcheck.proofs.Words.{IsRootOf, refl, subst, sym}
 use Rattle.sqcheck.proofs.schema.schema_root.Goals as goal
 
 pub returns-in-Ok : goal.returns-in-Ok

@@ -1,16 +1,5 @@
-use Rattle.std.proofs.Common.{◌≡◌, ◌<◌, ◌≤◌, ◌∙◌, ◌++◌, ◌∷◌, [], ℕ, length, ⊎_elim, sym, ap, subst, rules, arith}
-use Rattle.sqval.specs.Database.{Database}
+use Rattle.sqcheck.proofs.Between.{AreSchemaRows, Database, InRowBelow, IsCellAt, IsReached, IsSound, KeepsFound, StandsBy, StandsNow, TableLeaf, [], ap, arith, cell_count, exits, keep_nothing, length, memory_now, page_as, row_more, row_stands, rules, subst, sym, ℕ, ⊎_elim, ◌++◌, ◌<◌, ◌∙◌, ◌∷◌, ◌≡◌, ◌≤◌}
 use Rattle.sqpage.specs.declared.fault.Fault.TheVariants as faults
-use Rattle.sqpage.specs.declared.kind.Kind.TheVariants.{TableLeaf}
-use Rattle.sqpage.specs.Page.{cell_count}
-use Rattle.sqcheck.specs.Places.{IsCellAt, page_as}
-use Rattle.sqcheck.specs.Stands.{StandsBy}
-use Rattle.sqcheck.specs.WellFormed.{IsSound, IsReached}
-use Rattle.sqcheck.specs.internal.Agenda.{StandsNow}
-use Rattle.sqcheck.specs.internal.Schema.{InRowBelow, KeepsFound, AreSchemaRows}
-use Rattle.sqcheck.proofs.checks.EndsOfCheck.{memory_now}
-use Rattle.sqcheck.proofs.checks.ResultsOfCalls.{exits}
-use Rattle.sqcheck.proofs.checks.RowsOfSchema.{keep_nothing, row_more, row_stands}
 use Rattle.sqcheck.proofs.schema.take_rows.Goals as goal
 
 pub rows-init : goal.rows-init

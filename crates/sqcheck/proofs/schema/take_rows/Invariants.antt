@@ -1,8 +1,4 @@
-use Rattle.std.proofs.Common.{◌≡◌}
-use Rattle.sqpage.specs.declared.kind.Kind.TheVariants.{TableLeaf}
-use Rattle.sqcheck.specs.Places.{page_as}
-use Rattle.sqcheck.specs.internal.Schema.{KeepsFound, InRowBelow, AreSchemaRows}
-use Rattle.sqcheck.specs.internal.Snapshots.{SameSource}
+use Rattle.sqcheck.proofs.Words.{AreSchemaRows, InRowBelow, KeepsFound, SameSource, TableLeaf, page_as, ◌≡◌}
 use Rattle.sqcheck.proofs.schema.take_rows.Given as goal
 
 abbrev pub invariant-rows : goal.invariant-rows

@@ -1,6 +1,4 @@
-use Rattle.std.proofs.Common.{◌≡◌, ◌≢◌, inl, inr}
-use Rattle.std.specs.Prelude.{Option, Some, None}
-use Rattle.sqpage.specs.declared.kind.Kind.{Kind}
+use Rattle.sqcheck.proofs.Words.{Kind, None, Option, Some, inl, inr, ◌≡◌, ◌≢◌}
 use Rattle.sqcheck.proofs.survey.kind_or_leaf.Goals as goal
 
 pub returns-in-Some : goal.returns-in-Some

@@ -1,13 +1,4 @@
-use Rattle.std.proofs.Common.{◌≡◌, ◌∙◌, ◌≢◌, ℕ, ◌-◌, List, length, refl, sym, ap, subst, arith}
-use Rattle.std.specs.Prelude.{Some}
-use Rattle.std.proofs.lemmas.List.{with_items_is}
-use Rattle.sqval.specs.Bytes.{word}
-use Rattle.sqval.specs.Database.{page}
-use Rattle.sqval.specs.PageSize.{IsPageSize}
-use Rattle.sqpage.specs.Header.{byte}
-use Rattle.sqpage.specs.Freelist.{usable_size}
-use Rattle.sqpage.proofs.file.PagesInMemory.{least_page_size}
-use Rattle.sqcheck.proofs.checks.ResultsOfCalls.{of_ok}
+use Rattle.sqcheck.proofs.Below.{IsPageSize, List, Some, ap, arith, byte, least_page_size, length, of_ok, page, refl, subst, sym, usable_size, with_items_is, word, ℕ, ◌-◌, ◌∙◌, ◌≡◌, ◌≢◌}
 use Rattle.sqcheck.proofs.survey.reserved_by_maps.Goals as goal
 
 pub reserved_in-requires : goal.reserved_in-requires

@@ -1,11 +1,4 @@
-use Rattle.std.proofs.Common.{List, subst}
-use Rattle.sqval.specs.Database.{Database}
-use Rattle.sqpage.specs.declared.fault.CheckError.{CheckError}
-use Rattle.sqcheck.specs.Surveys.{AreFoundRoles, AreFoundFaults}
-use Rattle.sqcheck.specs.declared.role.Role.{Role}
-use Rattle.sqcheck.specs.internal.Surveys.{IsReserved}
-use Rattle.std.specs.Prelude.{IfSome, Option}
-use Rattle.sqcheck.proofs.visit.FoundPlaces.{found_roles, judged_roles, none_free, along_reserved}
+use Rattle.sqcheck.proofs.Facts.{AreFoundFaults, AreFoundRoles, CheckError, Database, IfSome, IsReserved, List, Option, Role, along_reserved, found_roles, judged_roles, none_free, subst}
 use Rattle.sqcheck.proofs.survey.survey_behind.Goals as goal
 
 pub returns-clause-roles : goal.returns-clause-roles

@@ -1,11 +1,5 @@
-use Rattle.std.proofs.Common.{◌≡◌, ◌⊎◌, inr, refl, sym, subst, true}
+use Rattle.sqcheck.proofs.Facts.{HasHeaderOf, HeaderFault, IsFoundFault, header_found, header_kind, header_sound, inr, is_of_header, names_down, on_ok, refl, subst, sym, tells_nothing, tells_one, true, ◌≡◌, ◌⊎◌}
 use Rattle.sqpage.specs.declared.fault.Fault.TheVariants.{PointerMap}
-use Rattle.sqcheck.specs.Found.{IsFoundFault}
-use Rattle.sqcheck.specs.Stands.{is_of_header}
-use Rattle.sqcheck.specs.internal.Heading.{HasHeaderOf, HeaderFault}
-use Rattle.sqcheck.proofs.checks.EndsOfCheck.{header_sound}
-use Rattle.sqcheck.proofs.checks.ResultsOfCalls.{on_ok}
-use Rattle.sqcheck.proofs.visit.FaultsFound.{tells_nothing, tells_one, names_down, header_found, header_kind}
 use Rattle.sqcheck.proofs.survey.survey_header.Goals as goal
 
 pub returns-in-Ok-clause-tells : goal.returns-in-Ok-clause-tells

@@ -1,21 +1,5 @@
-use Rattle.std.proofs.Common.{◌≡◌, ◌≢◌, ◌∙◌, ◌<◌, ℕ, length, [], inl, inr, ⊎_elim, ap, sym, subst}
-use Rattle.std.proofs.lemmas.Bool.{cases_Bool}
-use Rattle.std.specs.Prelude.{Result, Err, IfErr}
-use Rattle.sqval.specs.Bytes.{word}
-use Rattle.sqval.specs.Database.{Database, page}
-use Rattle.sqpage.specs.Freelist.{IsPage, usable_size}
-use Rattle.sqpage.specs.Source.{UnlessUnread}
-use Rattle.sqpage.specs.declared.fault.CheckError.{CheckError}
-use Rattle.sqpage.specs.declared.fault.Fault.{Fault}
+use Rattle.sqcheck.proofs.Between.{AreAllRoles, AreFoundFaults, AreFoundRoles, CheckError, Database, Err, Fault, FindsDamagedWith, IfErr, IsAutoVacuum, IsEnd, IsPage, IsReport, KnowsReserved, Report, Result, StandsWith, Survey, SurveyRefusedWith, UnlessUnread, WellFormedWith, [], all_roles, ap, cases_Bool, if_both, if_err, if_ok, inl, inr, length, page, subst, sym, told_long, usable_size, word, ℕ, ⊎_elim, ◌<◌, ◌∙◌, ◌≡◌, ◌≢◌}
 use Rattle.sqpage.specs.declared.fault.Fault.TheVariants as faults
-use Rattle.sqcheck.specs.Stands.{StandsWith}
-use Rattle.sqcheck.specs.declared.report.Report.{Report}
-use Rattle.sqcheck.specs.declared.survey.Survey.{Survey}
-use Rattle.sqcheck.specs.Surveys.{AreAllRoles, AreFoundRoles, AreFoundFaults, FindsDamagedWith, SurveyRefusedWith}
-use Rattle.sqcheck.specs.WellFormed.{WellFormedWith, IsReport, IsAutoVacuum}
-use Rattle.sqcheck.specs.internal.Surveys.{IsEnd, KnowsReserved}
-use Rattle.sqcheck.proofs.checks.ResultsOfCalls.{if_ok, if_err, if_both}
-use Rattle.sqcheck.proofs.checks.ChartOfAllPages.{all_roles, told_long}
 use Rattle.sqcheck.proofs.survey.survey_pages_with.Goals as goal
 
 pub returns-in-Ok-clause-clean : goal.returns-in-Ok-clause-clean

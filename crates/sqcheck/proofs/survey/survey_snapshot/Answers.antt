@@ -1,17 +1,5 @@
-use Rattle.std.proofs.Common.{◌≡◌, ◌∙◌, ◌-◌, ℕ, List, refl, length, sym, ap, subst, arith}
-use Rattle.std.proofs.lemmas.List.{with_items_is}
-use Rattle.sqval.specs.Bytes.{word}
-use Rattle.sqval.specs.Database.{Database, page}
-use Rattle.sqcheck.specs.declared.role.Role.{Role}
-use Rattle.sqcheck.specs.declared.chart.Chart.{Chart}
-use Rattle.sqcheck.specs.WellFormed.{HasSoundHeader}
-use Rattle.sqcheck.specs.internal.Found.{AreToldFound, TellsFound, IsHeaderNamed, Begins, HasNoFree, IsSurveyed}
-use Rattle.sqcheck.proofs.visit.FaultsFound.{told_more}
+use Rattle.sqcheck.proofs.Facts.{AreToldFound, Begins, Chart, Database, HasNoFree, HasSoundHeader, IsHeaderNamed, IsPageSize, IsSurveyed, List, Role, TellsFound, ap, arith, byte, first_sized, least_page_size, length, none_used, page, refl, subst, sym, told_more, with_items_is, word, ℕ, ◌-◌, ◌∙◌, ◌≡◌}
 use Rattle.sqcheck.proofs.visit.SurveyedPages.{surveyed}
-use Rattle.sqval.specs.PageSize.{IsPageSize}
-use Rattle.sqpage.proofs.file.PagesInMemory.{least_page_size}
-use Rattle.sqpage.specs.Header.{byte}
-use Rattle.sqcheck.proofs.checks.EndsOfCheck.{none_used, first_sized}
 use Rattle.sqcheck.proofs.survey.survey_snapshot.Goals as goal
 
 pub returns-then-count-eq0-clause-not : goal.returns-then-count-eq0-clause-not

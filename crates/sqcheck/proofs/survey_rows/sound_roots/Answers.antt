@@ -1,11 +1,4 @@
-use Rattle.std.proofs.Common.{◌≡◌, ℕ, ◌+◌, ◌∷◌, ◌++◌, ◌∙◌, [], get_or, take, refl, sym, subst}
-use Rattle.std.proofs.lemmas.List.{take_more, take_all}
-use Rattle.sqpage.specs.Lists.{Every}
-use Rattle.sqcheck.specs.internal.Found.{IsLeafFound, AddsRoots}
-use Rattle.sqcheck.specs.internal.Schema.{InRowsOf}
-use Rattle.sqcheck.proofs.checks.RowsOfSchema.{every_index, not_before}
-use Rattle.sqcheck.proofs.checks.RowsOfSurvey.{pages_add, none_of}
-use Rattle.sqcheck.proofs.visit.FaultsFound.{tells_both}
+use Rattle.sqcheck.proofs.Facts.{AddsRoots, Every, InRowsOf, IsLeafFound, [], every_index, get_or, none_of, not_before, pages_add, refl, subst, sym, take, take_all, take_more, tells_both, ℕ, ◌++◌, ◌+◌, ◌∙◌, ◌∷◌, ◌≡◌}
 use Rattle.sqcheck.proofs.survey_rows.sound_roots.Goals as goal
 
 pub pages-preserved : goal.pages-preserved

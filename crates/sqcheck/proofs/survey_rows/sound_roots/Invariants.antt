@@ -1,8 +1,4 @@
-use Rattle.std.proofs.Common.{◌≡◌, [], length, take}
-use Rattle.sqpage.specs.Lists.{Every, Apart}
-use Rattle.sqcheck.specs.internal.Found.{IsLeafFound, AddsRoots, TellsFound}
-use Rattle.sqcheck.specs.internal.Schema.{InRowsOf}
-use Rattle.sqcheck.specs.internal.Snapshots.{SameSource}
+use Rattle.sqcheck.proofs.Words.{AddsRoots, Apart, Every, InRowsOf, IsLeafFound, SameSource, TellsFound, [], length, take, ◌≡◌}
 use Rattle.sqcheck.proofs.survey_rows.sound_roots.Given as goal
 
 abbrev pub invariant-pages : goal.invariant-pages

@@ -1,13 +1,4 @@
-use Rattle.std.proofs.Common.{◌≡◌, ℕ, ◌+◌, ◌<◌, ◌∙◌, refl, sym, subst, arith}
-use Rattle.sqpage.specs.declared.kind.Kind.TheVariants.{TableLeaf}
-use Rattle.sqpage.specs.Page.{Page, cell_count}
-use Rattle.sqcheck.specs.Places.{page_as}
-use Rattle.sqcheck.specs.internal.Found.{AddsRoots}
-use Rattle.sqcheck.specs.internal.Schema.{InRowAt, InRowBelow}
-use Rattle.sqcheck.proofs.checks.ResultsOfCalls.{on_ok}
-use Rattle.sqcheck.proofs.checks.RowsOfSurvey.{none_below, rows_add, page_adds}
-use Rattle.sqcheck.proofs.visit.FaultsFound.{tells_nothing, tells_both}
-use Rattle.sqcheck.proofs.visit.FoundPlaces.{cell_found}
+use Rattle.sqcheck.proofs.Facts.{AddsRoots, InRowAt, InRowBelow, Page, TableLeaf, arith, cell_count, cell_found, none_below, on_ok, page_adds, page_as, refl, rows_add, subst, sym, tells_both, tells_nothing, ℕ, ◌+◌, ◌<◌, ◌∙◌, ◌≡◌}
 use Rattle.sqcheck.proofs.survey_rows.survey_cells.Goals as goal
 
 pub rows-preserved : goal.rows-preserved

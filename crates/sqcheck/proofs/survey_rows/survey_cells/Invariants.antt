@@ -1,7 +1,4 @@
-use Rattle.std.proofs.Common.{◌≡◌, length}
-use Rattle.sqcheck.specs.internal.Found.{IsPageFound, AddsRoots, TellsFound}
-use Rattle.sqcheck.specs.internal.Schema.{InRowBelow}
-use Rattle.sqcheck.specs.internal.Snapshots.{SameSource}
+use Rattle.sqcheck.proofs.Words.{AddsRoots, InRowBelow, IsPageFound, SameSource, TellsFound, length, ◌≡◌}
 use Rattle.sqcheck.proofs.survey_rows.survey_cells.Given as goal
 
 abbrev pub invariant-rows : goal.invariant-rows

@@ -1,9 +1,4 @@
-use Rattle.std.proofs.Common.{◌≡◌, ◌≤◌, ◌∙◌, List, ℕ, true, false, length, refl, sym, ap, arith}
-use Rattle.sqpage.proofs.file.PagesInMemory.{least_page_size}
-use Rattle.sqcheck.proofs.checks.ResultsOfCalls.{on_ok}
-use Rattle.sqcheck.proofs.visit.FaultsFound.{tells_nothing, row_told}
-use Rattle.sqval.specs.Database.{Database}
-use Rattle.sqcheck.proofs.checks.RowsOfSurvey.{row_adds, chain_adds}
+use Rattle.sqcheck.proofs.Facts.{Database, List, ap, arith, chain_adds, false, least_page_size, length, on_ok, refl, row_adds, row_told, sym, tells_nothing, true, ℕ, ◌∙◌, ◌≡◌, ◌≤◌}
 use Rattle.sqcheck.proofs.survey_rows.survey_row.Goals as goal
 
 pub takes-requires-clause-room : goal.takes-requires-clause-room

@@ -1,16 +1,4 @@
-use Rattle.std.proofs.Common.{◌≡◌, ◌∙◌, refl, sym, ap, subst}
-use Rattle.sqpage.specs.declared.kind.Kind.TheVariants.{TableLeaf}
-use Rattle.sqpage.specs.Header.{byte}
-use Rattle.sqpage.specs.Page.{Page, head_at, code_of}
-use Rattle.sqcheck.specs.Places.{page_as, HasKind, InRow}
-use Rattle.sqcheck.specs.internal.Found.{AddsRoots}
-use Rattle.sqcheck.proofs.checks.RefutationOfWellFormedness.{kind_once}
-use Rattle.sqcheck.proofs.checks.ResultsOfCalls.{on_ok}
-use Rattle.sqcheck.proofs.checks.RowsOfSurvey.{adds_nothing}
-use Rattle.sqcheck.proofs.btree.FaultsOfTreePage.{as_page}
-use Rattle.sqcheck.proofs.visit.FollowedItem.{used_read}
-use Rattle.sqcheck.proofs.visit.FaultsFound.{tells_nothing}
-use Rattle.sqcheck.proofs.visit.FoundPlaces.{page_found, never_refused}
+use Rattle.sqcheck.proofs.Facts.{AddsRoots, HasKind, InRow, Page, TableLeaf, adds_nothing, ap, as_page, byte, code_of, head_at, kind_once, never_refused, on_ok, page_as, page_found, refl, subst, sym, tells_nothing, used_read, ◌∙◌, ◌≡◌}
 use Rattle.sqcheck.proofs.survey_rows.survey_rows.Goals as goal
 
 pub returns-in-TableLeaf-clause-found : goal.returns-in-TableLeaf-clause-found

@@ -1,10 +1,4 @@
-use Rattle.std.proofs.Common.{◌≡◌, ◌+◌, ◌-◌, ◌<◌, sym, subst, refl, arith}
-use Rattle.sqpage.specs.Freelist.{leaf_count_in}
-use Rattle.sqcheck.specs.declared.item.Item.{Item}
-use Rattle.sqcheck.specs.declared.item.Task.TheVariants.{Leaf}
-use Rattle.sqcheck.specs.internal.Walking.{Pushes, IsLeafFrom}
-use Rattle.sqcheck.proofs.btree.KeysAndPlaces.{free_leads}
-use Rattle.sqcheck.proofs.visit.FreelistTrunks.{leaf_more, leaves_none}
+use Rattle.sqcheck.proofs.Facts.{IsLeafFrom, Item, Leaf, Pushes, arith, free_leads, leaf_count_in, leaf_more, leaves_none, refl, subst, sym, ◌+◌, ◌-◌, ◌<◌, ◌≡◌}
 use Rattle.sqcheck.proofs.trunk.push_leaves.Goals as goal
 
 pub leaves-init : goal.leaves-init

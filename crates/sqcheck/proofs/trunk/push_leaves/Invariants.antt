@@ -1,8 +1,4 @@
-use Rattle.std.proofs.Common.{◌≤◌, ℕ, reverse}
-use Rattle.sqval.specs.Database.{Database}
-use Rattle.sqpage.specs.Freelist.{leaf_count_in}
-use Rattle.sqcheck.specs.declared.tree.Tree.{Tree}
-use Rattle.sqcheck.specs.internal.Walking.{Pushes, IsLeafFrom, TopLeads}
+use Rattle.sqcheck.proofs.Words.{Database, IsLeafFrom, Pushes, TopLeads, Tree, leaf_count_in, reverse, ℕ, ◌≤◌}
 use Rattle.sqcheck.proofs.trunk.push_leaves.Given as goal
 
 abbrev pub invariant-leaves : goal.invariant-leaves

@@ -1,6 +1,4 @@
-use Rattle.std.proofs.Common.{refl}
-use Rattle.sqcheck.proofs.checks.ResultsOfCalls.{on_ok}
-use Rattle.sqcheck.proofs.visit.FreelistTrunks.{next_pushed, next_none}
+use Rattle.sqcheck.proofs.Facts.{next_none, next_pushed, on_ok, refl}
 use Rattle.sqcheck.proofs.trunk.push_next.Goals as goal
 
 pub returns-then-next-eq0-clause-ok : goal.returns-then-next-eq0-clause-ok

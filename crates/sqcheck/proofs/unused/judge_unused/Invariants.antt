@@ -1,4 +1,4 @@
-use Rattle.std.proofs.Common.{◌≡◌, ◌<◌, ℕ, get_or, true, false}
+use Rattle.sqcheck.proofs.Words.{false, get_or, true, ℕ, ◌<◌, ◌≡◌}
 use Rattle.sqcheck.proofs.unused.judge_unused.Given as goal
 
 abbrev pub invariant-pages : goal.invariant-pages

@@ -1,10 +1,4 @@
-use Rattle.std.proofs.Common.{◌≡◌, ◌+◌, ◌<◌, ◌≤◌, ◌∙◌, [], ◌∷◌, ◌++◌, List, ℕ, length, refl, ap, arith}
-use Rattle.sqval.specs.Database.{Database}
-use Rattle.sqpage.specs.Freelist.{next_in}
-use Rattle.sqpage.proofs.file.PagesInMemory.{keeps_on}
-use Rattle.sqpage.proofs.chain.OverflowChains.{linked_on, length_snoc}
-use Rattle.sqcheck.proofs.checks.ResultsOfCalls.{of_ok}
-use Rattle.sqcheck.proofs.checks.TakenChains.{taking_none, taking_more, chain_taken}
+use Rattle.sqcheck.proofs.Between.{Database, List, [], ap, arith, chain_taken, keeps_on, length, length_snoc, linked_on, next_in, of_ok, refl, taking_more, taking_none, ℕ, ◌++◌, ◌+◌, ◌<◌, ◌∙◌, ◌∷◌, ◌≡◌, ◌≤◌}
 use Rattle.sqcheck.proofs.chains.Chains.takes.Goals as goal
 
 pub links-init : goal.links-init

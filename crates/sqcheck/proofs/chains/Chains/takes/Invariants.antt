@@ -1,8 +1,4 @@
-use Rattle.std.proofs.Common.{◌≡◌, ℕ, ◌+◌, ◌<◌, ◌≤◌, List, length}
-use Rattle.sqpage.specs.Source.{KeepsPages}
-use Rattle.sqpage.specs.Chain.{links}
-use Rattle.sqpage.specs.Freelist.{Leads}
-use Rattle.sqcheck.proofs.checks.TakenChains.{Taking}
+use Rattle.sqcheck.proofs.Between.{KeepsPages, Leads, List, Taking, length, links, ℕ, ◌+◌, ◌<◌, ◌≡◌, ◌≤◌}
 use Rattle.sqcheck.proofs.chains.Chains.takes.Given as goal
 
 abbrev pub invariant-links : goal.invariant-links

@@ -1,4 +1,4 @@
-use Rattle.sqcheck.proofs.checks.ChartOfAllPages.{SetTo}
+use Rattle.sqcheck.proofs.Between.{SetTo}
 use Rattle.sqcheck.proofs.chart.Chart.new.Given as goal
 
 abbrev pub invariant-pages : goal.invariant-pages

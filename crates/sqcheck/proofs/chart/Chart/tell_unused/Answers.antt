@@ -1,11 +1,6 @@
-use Rattle.std.proofs.Common.{◌≡◌, ◌≢◌, ◌<◌, ◌+◌, ◌∷◌, [], length, get_or, take, arith, rules, sym, ap, ◌∙◌, subst}
-use Rattle.sqpage.specs.declared.fault.Fault.TheVariants.{PageUnused}
-use Rattle.sqcheck.specs.declared.chart.Chart.{Chart}
-use Rattle.sqcheck.specs.declared.role.Role.TheVariants.{Unused}
-use Rattle.sqcheck.specs.internal.Charting.{ArePutDown, unused_faults}
-use Rattle.sqcheck.proofs.checks.FaultsPutDown.{all_told, next_named, next_told}
-use Rattle.sqcheck.proofs.chart.Chart.tell_unused.Goals as goal
+use Rattle.sqcheck.proofs.Below.{ArePutDown, Chart, PageUnused, Unused, [], all_told, ap, arith, get_or, length, next_named, next_told, rules, subst, sym, take, unused_faults, ◌+◌, ◌<◌, ◌∙◌, ◌∷◌, ◌≡◌, ◌≢◌}
 use Rattle.sqcheck.proofs.chart.Chart.tell_unused.Goals.{then-eq+in_ok-tell, else-eq}
+use Rattle.sqcheck.proofs.chart.Chart.tell_unused.Goals as goal
 
 pub returns-clause-down : goal.returns-clause-down
 returns-clause-down c =

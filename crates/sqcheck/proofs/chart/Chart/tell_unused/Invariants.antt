@@ -1,5 +1,4 @@
-use Rattle.std.proofs.Common.{◌≡◌, take}
-use Rattle.sqcheck.specs.internal.Charting.{ArePutDown, unused_faults}
+use Rattle.sqcheck.proofs.Words.{ArePutDown, take, unused_faults, ◌≡◌}
 use Rattle.sqcheck.proofs.chart.Chart.tell_unused.Given as goal
 
 -- the roles stay, and the faults of the pages so far are put down

@@ -1,8 +1,4 @@
-use Rattle.std.proofs.Common.{◌+◌, ◌-◌, sym, ap, ◌∙◌}
-use Rattle.sqval.specs.Bytes.{word}
-use Rattle.sqpage.specs.Header.{byte}
-use Rattle.sqpage.specs.PointerMaps.{kind_code}
-use Rattle.sqcheck.proofs.checks.PointerMapEntries.{entry_once, same_entry, entry_by}
+use Rattle.sqcheck.proofs.Below.{ap, byte, entry_by, entry_once, kind_code, same_entry, sym, word, ◌+◌, ◌-◌, ◌∙◌}
 use Rattle.sqcheck.proofs.maps.Maps.judge.Goals as goal
 
 pub returns-in_default-clause-ok : goal.returns-in_default-clause-ok

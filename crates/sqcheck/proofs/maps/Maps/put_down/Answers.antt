@@ -1,6 +1,4 @@
-use Rattle.std.proofs.Common.{◌∙◌, inl}
-use Rattle.sqcheck.proofs.checks.ResultsOfCalls.{on_ok, both_ok}
-use Rattle.sqcheck.proofs.visit.FaultsFound.{tells_nothing, tells_one, tells_both, entry_found}
+use Rattle.sqcheck.proofs.Facts.{both_ok, entry_found, inl, on_ok, tells_both, tells_nothing, tells_one, ◌∙◌}
 use Rattle.sqcheck.proofs.maps.Maps.put_down.Goals as goal
 
 pub returns-in-Ok-clause-tells : goal.returns-in-Ok-clause-tells

@@ -1,6 +1,4 @@
-use Rattle.std.proofs.Common.{◌≡◌, ◌∙◌, ◌+◌, ◌<◌, ◌≤◌, ◌^◌, List, Bool, length, count_by, not, sym, subst}
-use Rattle.std.proofs.lemmas.List.{with_items_is}
-use Rattle.std.specs.Vec.{with_items}
+use Rattle.sqcheck.proofs.Words.{Bool, List, count_by, length, not, subst, sym, with_items, with_items_is, ◌+◌, ◌<◌, ◌^◌, ◌∙◌, ◌≡◌, ◌≤◌}
 use Rattle.sqcheck.proofs.uses.Uses.take.Goals as goal
 
 pub invariant_of-self : goal.invariant_of-self

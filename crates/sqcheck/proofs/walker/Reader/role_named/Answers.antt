@@ -1,7 +1,4 @@
-use Rattle.std.proofs.Common.{ℕ, refl, sym, ap, subst, inl, inr, ⊎_elim}
-use Rattle.sqcheck.specs.Found.{IsRoleIn}
-use Rattle.sqcheck.specs.declared.role.Role.TheVariants.{Btree}
-use Rattle.sqcheck.specs.internal.Walking.{role_of}
+use Rattle.sqcheck.proofs.Words.{Btree, IsRoleIn, ap, inl, inr, refl, role_of, subst, sym, ℕ, ⊎_elim}
 use Rattle.sqcheck.proofs.walker.Reader.role_named.Goals as goal
 
 pub returns-in_ok-kind-in-Node-clause-role : goal.returns-in_ok-kind-in-Node-clause-role

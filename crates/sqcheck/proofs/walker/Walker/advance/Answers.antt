@@ -1,5 +1,4 @@
-use Rattle.std.proofs.Common.{◌≤◌, ◌∙◌, count_by, not, refl, arith}
-use Rattle.sqcheck.specs.declared.node.Walk.{Walk}
+use Rattle.sqcheck.proofs.Words.{Walk, arith, count_by, not, refl, ◌∙◌, ◌≤◌}
 use Rattle.sqcheck.proofs.visit.FollowedPlaces.{next_of}
 use Rattle.sqcheck.proofs.walker.Walker.advance.Goals as goal
 

@@ -1,8 +1,4 @@
-use Rattle.std.proofs.Common.{◌≡◌, ◌≤◌, Bool, List, length, vec_len, count_by, not}
-use Rattle.sqcheck.specs.Places.{Spot}
-use Rattle.sqcheck.specs.declared.chart.Chart.{Chart}
-use Rattle.sqcheck.specs.internal.Found.{AreFound}
-use Rattle.sqcheck.specs.internal.Snapshots.{SameSource}
+use Rattle.sqcheck.proofs.Words.{AreFound, Bool, Chart, List, SameSource, Spot, count_by, length, not, vec_len, ◌≡◌, ◌≤◌}
 use Rattle.sqcheck.proofs.walker.Walker.advance.Given as goal
 
 abbrev pub invariant-places : goal.invariant-places

@@ -1,10 +1,4 @@
-use Rattle.std.proofs.Common.{◌≡◌, ◌∙◌, ⊎_elim, ◌++◌, [], length, sym, subst, true}
-use Rattle.sqcheck.specs.internal.Agenda.{StandsNow}
-use Rattle.sqcheck.specs.WellFormed.{IsAutoVacuum, AreEachOnce, IsSetAside}
-use Rattle.sqcheck.proofs.checks.ResultsOfCalls.{exits}
-use Rattle.sqcheck.proofs.checks.PhasesOfCheck.{concludes, mapped_of, once_of, reported}
-use Rattle.sqcheck.proofs.checks.ListsByRecursion.{either}
-use Rattle.sqcheck.proofs.visit.VisitedPlaces.{visits_more, visits_of}
+use Rattle.sqcheck.proofs.Facts.{AreEachOnce, IsAutoVacuum, IsSetAside, StandsNow, [], concludes, either, exits, length, mapped_of, once_of, reported, subst, sym, true, visits_more, visits_of, ⊎_elim, ◌++◌, ◌∙◌, ◌≡◌}
 use Rattle.sqcheck.proofs.walker.Walker.check_pages.Goals as goal
 
 pub returns-in_err-follow_others-clause-err : goal.returns-in_err-follow_others-clause-err

@@ -1,13 +1,5 @@
-use Rattle.std.proofs.Common.{◌≢◌, refl, sym, subst}
+use Rattle.sqcheck.proofs.Facts.{Btree, FollowRefusedBy, FreeLeaf, IsProper, IsPutDown, IsRoleOf, Leaf, exits, leaf_visited, other_followed, other_passed, refl, role_by, role_of, subst, sym, ◌≢◌}
 use Rattle.sqpage.specs.declared.fault.Fault.TheVariants as faults
-use Rattle.sqcheck.specs.internal.Walking.{FollowRefusedBy, IsPutDown, IsProper, role_of}
-use Rattle.sqcheck.specs.Roles.{IsRoleOf}
-use Rattle.sqcheck.proofs.checks.ResultsOfCalls.{exits}
-use Rattle.sqcheck.specs.declared.item.Task.TheVariants.{Leaf}
-use Rattle.sqcheck.specs.declared.role.Role.TheVariants.{FreeLeaf, Btree}
-use Rattle.sqcheck.proofs.visit.FreelistTrunks.{leaf_visited}
-use Rattle.sqcheck.proofs.visit.FollowedItem.{other_followed, other_passed}
-use Rattle.sqcheck.proofs.visit.VisitedPlaces.{role_by}
 use Rattle.sqcheck.proofs.walker.Walker.follow.Goals as goal
 
 pub returns-in_ok-take-in-Leaf-clause-ok : goal.returns-in_ok-take-in-Leaf-clause-ok

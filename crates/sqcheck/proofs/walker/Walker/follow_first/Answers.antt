@@ -1,12 +1,5 @@
-use Rattle.std.proofs.Common.{◌≡◌, ◌∙◌, [], sym, subst, false}
-use Rattle.sqpage.specs.declared.fault.Fault.{Fault}
+use Rattle.sqcheck.proofs.Facts.{Fault, IsReached, IsSound, StandsBy, StandsNow, [], exits, false, free_count_stands, free_visited, on_ok, subst, sym, visits_more, ◌∙◌, ◌≡◌}
 use Rattle.sqpage.specs.declared.fault.Fault.TheVariants as faults
-use Rattle.sqcheck.specs.Stands.{StandsBy}
-use Rattle.sqcheck.specs.WellFormed.{IsSound, IsReached}
-use Rattle.sqcheck.specs.internal.Agenda.{StandsNow}
-use Rattle.sqcheck.proofs.checks.ResultsOfCalls.{exits, on_ok}
-use Rattle.sqcheck.proofs.visit.VisitedPlaces.{visits_more}
-use Rattle.sqcheck.proofs.checks.PhasesOfCheck.{free_count_stands, free_visited}
 use Rattle.sqcheck.proofs.walker.Walker.follow_first.Goals as goal
 
 pub returns-in_err-judge_free_count-clause-err : goal.returns-in_err-judge_free_count-clause-err

@@ -1,7 +1,4 @@
-use Rattle.std.proofs.Common.{◌∷◌, ◌++◌, ◌∙◌, [], None, ap, refl}
-use Rattle.sqcheck.specs.declared.node.Walk.{Walk}
-use Rattle.sqcheck.proofs.checks.ResultsOfCalls.{on_ok, both_ok}
-use Rattle.sqcheck.proofs.visit.StepsOfWalk.{starts_walk, ends_walk}
+use Rattle.sqcheck.proofs.Facts.{None, Walk, [], ap, both_ok, ends_walk, on_ok, refl, starts_walk, ◌++◌, ◌∙◌, ◌∷◌}
 use Rattle.sqcheck.proofs.walker.Walker.follow_from.Goals as goal
 
 pub returns-clause-ok : goal.returns-clause-ok

@@ -1,11 +1,4 @@
-use Rattle.std.proofs.Common.{◌≡◌, ◌∙◌, ◌-◌, ◌≤◌, length, false, refl, ap, arith}
-use Rattle.sqval.specs.Database.{Database}
-use Rattle.sqpage.specs.Freelist.{next_in}
-use Rattle.sqcheck.specs.declared.item.Task.TheVariants.{Link}
-use Rattle.sqcheck.proofs.checks.ResultsOfCalls.{on_ok}
-use Rattle.sqcheck.proofs.visit.FreelistTrunks.{link_visited, last_visited}
-use Rattle.sqcheck.proofs.btree.KeysAndPlaces.{link_leads}
-use Rattle.sqcheck.proofs.visit.FollowedItem.{other_followed, other_passed}
+use Rattle.sqcheck.proofs.Facts.{Database, Link, ap, arith, false, last_visited, length, link_leads, link_visited, next_in, on_ok, other_followed, other_passed, refl, ◌-◌, ◌∙◌, ◌≡◌, ◌≤◌}
 use Rattle.sqcheck.proofs.walker.Walker.follow_link.Goals as goal
 
 pub returns-then-needed-gt1-clause-ok : goal.returns-then-needed-gt1-clause-ok

@@ -1,6 +1,4 @@
-use Rattle.std.proofs.Common.{◌∙◌, inr}
-use Rattle.sqcheck.proofs.checks.ResultsOfCalls.{if_ok}
-use Rattle.sqcheck.proofs.visit.FollowedItem.{knows_at, used_read, node_followed, node_passed}
+use Rattle.sqcheck.proofs.Facts.{if_ok, inr, knows_at, node_followed, node_passed, used_read, ◌∙◌}
 use Rattle.sqcheck.proofs.walker.Walker.follow_node.Goals as goal
 
 pub returns-clause-ok : goal.returns-clause-ok

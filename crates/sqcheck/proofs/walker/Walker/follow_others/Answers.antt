@@ -1,17 +1,4 @@
-use Rattle.std.proofs.Common.{◌≡◌, ◌∙◌, ◌≤◌, ◌++◌, [], ℕ, suc, List, length, take, drop, refl, sym, ap, subst, true, false, arith}
-use Rattle.std.proofs.lemmas.List.{take-append-drop}
-use Rattle.sqval.specs.Database.{Database}
-use Rattle.sqpage.specs.Freelist.{usable_size}
-use Rattle.sqpage.specs.Lists.{Every, Apart}
-use Rattle.sqcheck.specs.declared.schema.Root.{Root}
-use Rattle.sqcheck.specs.declared.node.Walk.{Walk}
-use Rattle.sqcheck.specs.declared.uses.Uses.{Uses}
-use Rattle.sqcheck.specs.Places.{Spot}
-use Rattle.sqcheck.specs.internal.Agenda.{StandsNow}
-use Rattle.sqcheck.specs.internal.Schema.{IsRowsPage, InRowsOf, AllSchemaRows, KeepsFound, Finds, RootsMatch}
-use Rattle.sqcheck.specs.internal.Checking.{Visited}
-use Rattle.sqcheck.proofs.checks.ResultsOfCalls.{exits, on_ok}
-use Rattle.sqcheck.proofs.checks.PhasesOfCheck.{is_long, rows_pages, becomes_late, first_roots, none_left}
+use Rattle.sqcheck.proofs.Facts.{AllSchemaRows, Apart, Database, Every, Finds, InRowsOf, IsRowsPage, KeepsFound, List, Root, RootsMatch, Spot, StandsNow, Uses, Visited, Walk, [], ap, arith, becomes_late, drop, exits, false, first_roots, is_long, length, none_left, on_ok, refl, rows_pages, subst, suc, sym, take, take-append-drop, true, usable_size, ℕ, ◌++◌, ◌∙◌, ◌≡◌, ◌≤◌}
 use Rattle.sqcheck.proofs.walker.Walker.follow_others.Goals as goal
 
 -- The roots that were kept, and those that weren't.

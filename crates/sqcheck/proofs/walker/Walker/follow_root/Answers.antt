@@ -1,13 +1,5 @@
-use Rattle.std.proofs.Common.{◌≡◌, ◌∙◌, None, sym, ap, Bool, true, false}
-use Rattle.sqval.specs.Database.{Database}
+use Rattle.sqcheck.proofs.Below.{Bool, Database, IsItemOf, IsRootAt, None, Root, Spot, StandsNow, ap, exits, false, kind_named, names_table, node, root_of_tree, sym, true, ◌∙◌, ◌≡◌}
 use Rattle.sqcheck.specs.declared.item.Task.TheVariants as tasks
-use Rattle.sqcheck.specs.declared.schema.Root.{Root}
-use Rattle.sqcheck.specs.Places.{Spot, node, names_table, root_of_tree}
-use Rattle.sqcheck.specs.internal.Agenda.{StandsNow}
-use Rattle.sqcheck.specs.internal.Schema.{IsRootAt}
-use Rattle.sqcheck.specs.WellFormed.{kind_named}
-use Rattle.sqcheck.specs.internal.Walking.{IsItemOf}
-use Rattle.sqcheck.proofs.checks.ResultsOfCalls.{exits}
 use Rattle.sqcheck.proofs.walker.Walker.follow_root.Goals as goal
 
 -- the item of a root's tree

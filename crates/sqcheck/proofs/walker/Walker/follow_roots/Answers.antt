@@ -1,13 +1,4 @@
-use Rattle.std.proofs.Common.{◌≡◌, ◌+◌, ◌++◌, [], suc, drop, get_or, sym, subst, refl, true, arith, append-nil}
-use Rattle.std.proofs.Math.Seq.{drop-cons}
-use Rattle.std.proofs.lemmas.List.{drop_all}
-use Rattle.sqcheck.specs.declared.schema.Root.{Root}
-use Rattle.sqcheck.specs.internal.Agenda.{StandsNow}
-use Rattle.sqcheck.specs.internal.Schema.{RootsMatch}
-use Rattle.sqcheck.specs.internal.Checking.{Visited}
-use Rattle.sqcheck.proofs.checks.ResultsOfCalls.{exits}
-use Rattle.sqcheck.proofs.checks.PhasesOfCheck.{first_root_at, last_root}
-use Rattle.sqcheck.proofs.visit.VisitedPlaces.{visits_more}
+use Rattle.sqcheck.proofs.Facts.{Root, RootsMatch, StandsNow, Visited, [], append-nil, arith, drop, drop-cons, drop_all, exits, first_root_at, get_or, last_root, refl, subst, suc, sym, true, visits_more, ◌++◌, ◌+◌, ◌≡◌}
 use Rattle.sqcheck.proofs.walker.Walker.follow_roots.Goals as goal
 
 pub roots-init : goal.roots-init

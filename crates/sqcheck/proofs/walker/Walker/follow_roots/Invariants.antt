@@ -1,9 +1,4 @@
-use Rattle.std.proofs.Common.{◌≡◌, ◌++◌, List, [], drop, true}
-use Rattle.sqcheck.specs.Places.{Spot}
-use Rattle.sqcheck.specs.internal.Schema.{RootsMatch}
-use Rattle.sqcheck.specs.internal.Snapshots.{SameSource}
-use Rattle.sqcheck.specs.internal.Checking.{Visited}
-use Rattle.sqcheck.specs.internal.Roles.{TellsOf}
+use Rattle.sqcheck.proofs.Words.{List, RootsMatch, SameSource, Spot, TellsOf, Visited, [], drop, true, ◌++◌, ◌≡◌}
 use Rattle.sqcheck.proofs.walker.Walker.follow_roots.Given as goal
 
 abbrev pub invariant-roots : goal.invariant-roots

@@ -1,5 +1,4 @@
-use Rattle.std.proofs.Common.{[], refl, false}
-use Rattle.sqcheck.specs.Places.{first_root_spot}
+use Rattle.sqcheck.proofs.Words.{[], false, first_root_spot, refl}
 use Rattle.sqcheck.proofs.walker.Walker.follow_schema.Goals as goal
 
 pub returns-clause-ok : goal.returns-clause-ok

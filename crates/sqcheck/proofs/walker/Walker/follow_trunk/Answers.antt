@@ -1,9 +1,4 @@
-use Rattle.std.proofs.Common.{◌≤◌, ◌∙◌, List, ℕ, refl, arith}
-use Rattle.sqpage.specs.Freelist.{leaf_count_in, most_leaves}
-use Rattle.sqcheck.specs.declared.item.Task.TheVariants.{Trunk}
-use Rattle.sqcheck.proofs.checks.ResultsOfCalls.{on_ok, both_ok}
-use Rattle.sqcheck.proofs.visit.FreelistTrunks.{trunk_visited}
-use Rattle.sqcheck.proofs.visit.FollowedItem.{other_followed, other_passed}
+use Rattle.sqcheck.proofs.Facts.{List, Trunk, arith, both_ok, leaf_count_in, most_leaves, on_ok, other_followed, other_passed, refl, trunk_visited, ℕ, ◌∙◌, ◌≤◌}
 use Rattle.sqcheck.proofs.walker.Walker.follow_trunk.Goals as goal
 
 pub returns-clause-ok : goal.returns-clause-ok

@@ -1,6 +1,4 @@
-use Rattle.std.proofs.Common.{◌∙◌, ◌∷◌, [], refl, sym, false}
-use Rattle.sqcheck.specs.Places.{first_root_spot, first_trunk_spot}
-use Rattle.sqcheck.proofs.checks.PhasesOfCheck.{begins_trunk, begins_root}
+use Rattle.sqcheck.proofs.Facts.{[], begins_root, begins_trunk, false, first_root_spot, first_trunk_spot, refl, sym, ◌∙◌, ◌∷◌}
 use Rattle.sqcheck.proofs.walker.Walker.follow_trunks.Goals as goal
 
 pub returns-then-first-eq0-clause-ok : goal.returns-then-first-eq0-clause-ok

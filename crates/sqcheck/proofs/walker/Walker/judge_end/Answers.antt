@@ -1,13 +1,5 @@
-use Rattle.std.proofs.Common.{◌≡◌, ◌∙◌, length, false, sym, subst}
-use Rattle.sqpage.specs.declared.fault.Fault.{Fault}
+use Rattle.sqcheck.proofs.Facts.{Fault, IsReached, IsSound, IsWithin, StandsBy, StandsNow, all_visited, exits, false, free_count_stands, if_err, is_marked, largest_stands, length, subst, sym, unused_stands, ◌∙◌, ◌≡◌}
 use Rattle.sqpage.specs.declared.fault.Fault.TheVariants as faults
-use Rattle.sqpage.specs.Freelist.{IsWithin}
-use Rattle.sqpage.specs.internal.Taking.{is_marked}
-use Rattle.sqcheck.specs.Stands.{StandsBy}
-use Rattle.sqcheck.specs.WellFormed.{IsSound, IsReached}
-use Rattle.sqcheck.specs.internal.Agenda.{StandsNow}
-use Rattle.sqcheck.proofs.checks.ResultsOfCalls.{exits, if_err}
-use Rattle.sqcheck.proofs.checks.PhasesOfCheck.{unused_stands, free_count_stands, largest_stands, all_visited}
 use Rattle.sqcheck.proofs.walker.Walker.judge_end.Goals as goal
 
 pub returns-in_err-judge_unused-clause-err : goal.returns-in_err-judge_unused-clause-err

@@ -1,4 +1,4 @@
-use Rattle.sqcheck.proofs.checks.ResultsOfCalls.{on_ok}
+use Rattle.sqcheck.proofs.Below.{on_ok}
 use Rattle.sqcheck.proofs.walker.Walker.put_refused.Goals as goal
 
 pub returns-clause-put : goal.returns-clause-put

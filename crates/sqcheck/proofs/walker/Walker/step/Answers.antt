@@ -1,10 +1,8 @@
-use Rattle.std.proofs.Common.{◌≡◌, ◌≢◌, ◌≤◌, length, true, inl, inr, refl, sym, subst}
-use Rattle.sqpage.specs.declared.fault.Fault.TheVariants as faults
-use Rattle.sqpage.specs.internal.Taking.{is_marked}
-use Rattle.sqcheck.specs.internal.Found.{AreFound}
+use Rattle.sqcheck.proofs.Words.{AreFound, inl, inr, is_marked, length, refl, subst, sym, true, ◌≡◌, ◌≢◌, ◌≤◌}
 use Rattle.sqcheck.proofs.visit.FollowedPlaces.{step_on, step_wrong, step_left, within_marked}
-use Rattle.sqcheck.proofs.walker.Walker.step.Goals as goal
 use Rattle.sqcheck.proofs.walker.Walker.step.Goals.{else-not-before-via-then-not-before+else-is_taken, else-not-before-via-else-not-before}
+use Rattle.sqpage.specs.declared.fault.Fault.TheVariants as faults
+use Rattle.sqcheck.proofs.walker.Walker.step.Goals as goal
 
 pub returns-in_ok-put_down-in-Ok-clause-found : goal.returns-in_ok-put_down-in-Ok-clause-found
 returns-in_ok-put_down-in-Ok-clause-found g c = λ right first bars counted late rest n.

@@ -1,6 +1,4 @@
-use Rattle.std.proofs.Common.{[], true, sym, subst}
-use Rattle.sqcheck.specs.internal.Found.{Mapped}
-use Rattle.sqcheck.proofs.checks.ResultsOfCalls.{on_ok}
+use Rattle.sqcheck.proofs.Below.{Mapped, [], on_ok, subst, sym, true}
 use Rattle.sqcheck.proofs.walker.Walker.survey_all.Goals as goal
 
 pub returns-clause-found : goal.returns-clause-found

@@ -1,6 +1,4 @@
-use Rattle.std.proofs.Common.{[], ◌∷◌, true, false, refl, sym, subst}
-use Rattle.sqcheck.specs.Places.{first_root_spot}
-use Rattle.sqcheck.specs.internal.Found.{Mapped}
+use Rattle.sqcheck.proofs.Words.{Mapped, [], false, first_root_spot, refl, subst, sym, true, ◌∷◌}
 use Rattle.sqcheck.proofs.visit.SurveyedPages.{free_counted}
 use Rattle.sqcheck.proofs.walker.Walker.survey_first.Goals as goal
 

@@ -1,5 +1,4 @@
-use Rattle.std.proofs.Common.{inl, inr, refl}
-use Rattle.sqcheck.proofs.checks.ResultsOfCalls.{on_ok}
+use Rattle.sqcheck.proofs.Below.{inl, inr, on_ok, refl}
 use Rattle.sqcheck.proofs.walker.Walker.survey_free_count.Goals as goal
 
 pub returns-in-Ok-clause-tells : goal.returns-in-Ok-clause-tells

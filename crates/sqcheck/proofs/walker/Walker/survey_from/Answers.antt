@@ -1,5 +1,4 @@
-use Rattle.std.proofs.Common.{◌≡◌, ◌++◌, ◌∷◌, ◌∙◌, [], ap, refl}
-use Rattle.sqcheck.specs.declared.node.Walk.{Walk}
+use Rattle.sqcheck.proofs.Words.{Walk, [], ap, refl, ◌++◌, ◌∙◌, ◌∷◌, ◌≡◌}
 use Rattle.sqcheck.proofs.visit.FollowedPlaces.{pushed_next, all_followed}
 use Rattle.sqcheck.proofs.walker.Walker.survey_from.Goals as goal
 

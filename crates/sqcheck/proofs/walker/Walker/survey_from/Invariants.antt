@@ -1,9 +1,4 @@
-use Rattle.std.proofs.Common.{◌≡◌, ◌∷◌, Bool, List, length, count_by, not}
-use Rattle.sqcheck.specs.Places.{Spot}
-use Rattle.sqcheck.specs.declared.chart.Chart.{Chart}
-use Rattle.sqcheck.specs.internal.Found.{AreFound, HasFound}
-use Rattle.sqcheck.specs.internal.Walking.{IsItemOf}
-use Rattle.sqcheck.specs.internal.Snapshots.{SameSource}
+use Rattle.sqcheck.proofs.Words.{AreFound, Bool, Chart, HasFound, IsItemOf, List, SameSource, Spot, count_by, length, not, ◌∷◌, ◌≡◌}
 use Rattle.sqcheck.proofs.walker.Walker.survey_from.Given as goal
 
 abbrev pub invariant-pages : goal.invariant-pages

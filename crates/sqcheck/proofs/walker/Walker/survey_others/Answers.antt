@@ -1,8 +1,4 @@
-use Rattle.std.proofs.Common.{[], true, false, sym, subst, ◌∙◌}
-use Rattle.sqpage.specs.Lists.{Every, Apart}
-use Rattle.sqcheck.specs.internal.Found.{Mapped, IsLeafFound, AddsRoots}
-use Rattle.sqcheck.specs.internal.Schema.{InRowsOf, RootsMatch}
-use Rattle.sqcheck.proofs.visit.ChartedPlaces.{mapped_told}
+use Rattle.sqcheck.proofs.Facts.{AddsRoots, Apart, Every, InRowsOf, IsLeafFound, Mapped, RootsMatch, [], false, mapped_told, subst, sym, true, ◌∙◌}
 use Rattle.sqcheck.proofs.visit.SurveyedPages.{leaves_found, rooted}
 use Rattle.sqcheck.proofs.walker.Walker.survey_others.Goals as goal
 

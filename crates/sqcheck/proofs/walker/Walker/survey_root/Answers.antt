@@ -1,16 +1,6 @@
-use Rattle.std.proofs.Common.{◌≡◌, ◌<◌, ◌≤◌, [], ◌∷◌, ◌∙◌, true, length, inl, inr, refl, sym, ap, subst, arith}
-use Rattle.sqval.specs.Database.{Database}
-use Rattle.sqpage.specs.Freelist.{IsPage}
-use Rattle.sqpage.specs.declared.fault.CheckError.{CheckError}
-use Rattle.sqpage.specs.declared.fault.Fault.TheVariants.{PageOutside}
-use Rattle.sqcheck.specs.Found.{IsFaultOf}
-use Rattle.sqcheck.specs.internal.Found.{Mapped}
-use Rattle.sqcheck.proofs.checks.ResultsOfCalls.{on_ok}
-use Rattle.sqcheck.proofs.visit.ChartedPlaces.{mapped_told, mapped_left}
-use Rattle.sqcheck.proofs.visit.FaultsFound.{tells_one, names_down, root_outside}
-use Rattle.sqcheck.proofs.visit.FoundPlaces.{root_item}
-use Rattle.sqcheck.proofs.walker.Walker.survey_root.Goals as goal
+use Rattle.sqcheck.proofs.Facts.{CheckError, Database, IsFaultOf, IsPage, Mapped, PageOutside, [], ap, arith, inl, inr, length, mapped_left, mapped_told, names_down, on_ok, refl, root_item, root_outside, subst, sym, tells_one, true, ◌<◌, ◌∙◌, ◌∷◌, ◌≡◌, ◌≤◌}
 use Rattle.sqcheck.proofs.walker.Walker.survey_root.Goals.{then-root-eq0-via-then-root-eq0, then-root-eq0-via-else-root-eq0+then-root-from}
+use Rattle.sqcheck.proofs.walker.Walker.survey_root.Goals as goal
 
 pub returns-then-root-eq0-clause-found : goal.returns-then-root-eq0-clause-found
 returns-then-root-eq0-clause-found g c = λ right first bars rest s is was.

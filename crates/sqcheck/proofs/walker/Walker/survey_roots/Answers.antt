@@ -1,10 +1,4 @@
-use Rattle.std.proofs.Common.{◌≡◌, ◌+◌, ◌∙◌, [], suc, drop, get_or, subst, refl, true, arith}
-use Rattle.std.proofs.Math.Seq.{drop-cons}
-use Rattle.std.proofs.lemmas.List.{drop_all}
-use Rattle.sqcheck.specs.declared.schema.Root.{Root}
-use Rattle.sqcheck.specs.internal.Found.{HasFound}
-use Rattle.sqcheck.specs.internal.Schema.{RootsMatch}
-use Rattle.sqcheck.proofs.checks.PhasesOfCheck.{first_root_at, last_root}
+use Rattle.sqcheck.proofs.Facts.{HasFound, Root, RootsMatch, [], arith, drop, drop-cons, drop_all, first_root_at, get_or, last_root, refl, subst, suc, true, ◌+◌, ◌∙◌, ◌≡◌}
 use Rattle.sqcheck.proofs.walker.Walker.survey_roots.Goals as goal
 
 pub roots-init : goal.roots-init

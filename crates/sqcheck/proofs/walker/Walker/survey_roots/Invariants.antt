@@ -1,9 +1,4 @@
-use Rattle.std.proofs.Common.{◌≡◌, Bool, List, true, length, drop}
-use Rattle.sqcheck.specs.Places.{Spot}
-use Rattle.sqcheck.specs.declared.chart.Chart.{Chart}
-use Rattle.sqcheck.specs.internal.Found.{HasFound}
-use Rattle.sqcheck.specs.internal.Schema.{RootsMatch}
-use Rattle.sqcheck.specs.internal.Snapshots.{SameSource}
+use Rattle.sqcheck.proofs.Words.{Bool, Chart, HasFound, List, RootsMatch, SameSource, Spot, drop, length, true, ◌≡◌}
 use Rattle.sqcheck.proofs.walker.Walker.survey_roots.Given as goal
 
 abbrev pub invariant-roots : goal.invariant-roots

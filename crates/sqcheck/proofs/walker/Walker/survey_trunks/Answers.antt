@@ -1,5 +1,4 @@
-use Rattle.std.proofs.Common.{[], ◌∷◌, false, refl, sym, ◌∙◌}
-use Rattle.sqcheck.specs.Places.{first_trunk_spot, first_root_spot}
+use Rattle.sqcheck.proofs.Words.{[], false, first_root_spot, first_trunk_spot, refl, sym, ◌∙◌, ◌∷◌}
 use Rattle.sqcheck.proofs.visit.SurveyedPages.{begun_trunk, begun_root}
 use Rattle.sqcheck.proofs.walker.Walker.survey_trunks.Goals as goal
 

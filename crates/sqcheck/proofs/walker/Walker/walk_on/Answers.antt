@@ -1,11 +1,4 @@
-use Rattle.std.proofs.Common.{◌++◌, ◌≤◌, [], sym, subst, refl, append-nil}
-use Rattle.sqcheck.specs.declared.node.Walk.{Walk}
-use Rattle.sqcheck.specs.internal.Agenda.{Walking}
-use Rattle.sqcheck.specs.internal.Agenda.{StandsNow}
-use Rattle.sqpage.proofs.chain.TakenPages.{fewer_unmarked}
-use Rattle.sqcheck.proofs.checks.ResultsOfCalls.{exits}
-use Rattle.sqcheck.proofs.visit.StepsOfWalk.{walks_on, walk_refused, entry_stands, proper_top, knows_top, nothing_popped}
-use Rattle.sqcheck.proofs.visit.VisitedPlaces.{walks_more}
+use Rattle.sqcheck.proofs.Facts.{StandsNow, Walk, Walking, [], append-nil, entry_stands, exits, fewer_unmarked, knows_top, nothing_popped, proper_top, refl, subst, sym, walk_refused, walks_more, walks_on, ◌++◌, ◌≤◌}
 use Rattle.sqcheck.proofs.walker.Walker.walk_on.Goals as goal
 
 pub places-init : goal.places-init

@@ -1,7 +1,4 @@
-use Rattle.std.proofs.Common.{List, Bool, count_by, not}
-use Rattle.sqcheck.specs.Places.{Spot}
-use Rattle.sqcheck.specs.internal.Snapshots.{SameSource}
-use Rattle.sqcheck.specs.internal.Agenda.{Walking, WalksOn}
+use Rattle.sqcheck.proofs.Words.{Bool, List, SameSource, Spot, Walking, WalksOn, count_by, not}
 use Rattle.sqcheck.proofs.walker.Walker.walk_on.Given as goal
 
 abbrev pub invariant-places : goal.invariant-places
