@@ -102,9 +102,9 @@ pub not_held : (held : Bool) → held ≡ false → held ≡ true → ⊥
 not_held held is other = cc
 
 -- the first range goes on with one more entry
-pub started_on : (key : IndexKey) (old new : Part) (found : Found) (bytes : List ℕ) (xs : List Stored) (result : Result (Unit {0}) IndexError) (good held : Bool) → good ≡ is_ok result → held ≡ true
-    → OnOk result (Gathers key old found bytes new) → IsStartOf key old held xs → IsStartOf key new good (xs ++ plain found bytes ∷ [])
-started_on key old new found bytes xs (Ok x) good held is were h w = λ still.
+pub started_on : (key : IndexKey) (old new : Part) (found : Found) (rowid : ℤ) (bytes : List ℕ) (xs : List Stored) (result : Result (Unit {0}) IndexError) (good held : Bool) → good ≡ is_ok result → held ≡ true
+    → IsKeyed (width key) rowid (decode bytes) → OnOk result (Gathers old found rowid bytes new) → IsStartOf key old held xs → IsStartOf key new good (xs ++ plain found bytes ∷ [])
+started_on key old new found rowid bytes xs (Ok x) good held is were keyed h w = λ still.
     let was = w were in
-    ((h.1.0 ∙ was.0.0, h.1.1 was.0.1), h.2 xs was.1)
-started_on key old new found bytes xs (Err e) good held is were h w = λ still. absurd (cc)
+    ((h.0.0 ∙ was.0.0, h.0.1 was.0.1), h.1 key xs keyed was.1)
+started_on key old new found rowid bytes xs (Err e) good held is were keyed h w = λ still. absurd (cc)

@@ -1,5 +1,6 @@
 pub mod Places
 pub mod FieldsLeft
+pub mod PayloadsWhole
 pub mod CellsTaken
 pub mod RowidsOfEntries
 pub mod EntriesHeld
@@ -13,6 +14,7 @@ pub mod RowsInSpans
 pub mod EntriesInSpans
 pub mod IndexesJudged
 pub mod EntriesStreamed
+pub mod RowsGiven
 pub mod RangesMatched
 pub mod RowsScanned
 pub mod KeyedScanned

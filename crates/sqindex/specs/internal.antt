@@ -9,4 +9,5 @@ pub mod Marking
 pub mod Spans
 pub mod Streaming
 pub mod Parts
+pub mod RowsGiven
 pub mod Matching

@@ -193,7 +193,7 @@ impl Entries {
     }
 
     /// A rowid below the greatest that about half of them are up to, as far as there is one.
-    pub(crate) fn middle(&self) -> Option<i64> {
+    fn middle(&self) -> Option<i64> {
         let mut low = self.list.iter().map(|p| p.rowid).min()?;
         let greatest = self.list.iter().map(|p| p.rowid).max()?;
         let mut high = greatest.checked_sub(1)?;
@@ -213,6 +213,16 @@ impl Entries {
             }
         }
         Some(high)
+    }
+
+    /// Where to end a range that has no room for this rowid: at the greatest of theirs where that is below it, else at
+    /// one that about half of them are up to.
+    pub(crate) fn end_before(&self, rowid: i64) -> Option<i64> {
+        let greatest = self.list.iter().map(|p| p.rowid).max()?;
+        if greatest < rowid {
+            return Some(greatest);
+        }
+        self.middle()
     }
 
     /// Keeps those whose rowids are up to this one, in their order.
@@ -238,8 +248,9 @@ impl Entries {
     pub(crate) fn keep_to(&mut self, alloc: Global, last: i64) -> Result<(), AllocError>
         ensures { OnOk result (KeepsTo last self.old self.new) }
     {
+        let many = self.list.len();
         self.retain_to(last);
-        if self.bytes.is_empty() {
+        if self.bytes.is_empty() || self.list.len() == many {
             return Ok(());
         }
         *self = self.packed(alloc)?;

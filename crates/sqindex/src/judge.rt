@@ -38,9 +38,9 @@ fn judge_any<S: PageSource>(
 /// EntryOfNoRow stands at; and where a tree can't be read, also as an entry has more than `limit` bytes. It holds one
 /// payload of a row, two of entries, and of the entries at once as many as take 64 MiB and an eighth of the index, or
 /// `limit` bytes in place of 64 MiB where that is less: for each 40 bytes, and one and a half times its payload where
-/// that is longer than 16. An index that takes more is judged by ranges of rowids, for each of which it is read once,
-/// and the table up to the range's end. Texts are compared by their bytes, so NOCASE and RTRIM serve for databases in
-/// UTF-8 alone.
+/// that is longer than 16. An index that takes more is judged by ranges of rowids, for each of which it is read once;
+/// the table is read once for all. Texts are compared by their bytes, so NOCASE and RTRIM serve for databases in UTF-8
+/// alone.
 pub fn judge_index<S: PageSource>(
     alloc: Global,
     source: &mut S,

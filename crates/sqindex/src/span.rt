@@ -20,7 +20,7 @@ fn is_passed(above: Option<i64>, rowid: i64) -> bool
 }
 
 /// Whether a rowid is at most this one, where there is one.
-fn is_up_to(last: Option<i64>, rowid: i64) -> bool
+pub(crate) fn is_up_to(last: Option<i64>, rowid: i64) -> bool
     ensures { result ≡ up_to last rowid }
 {
     match last {

@@ -4,9 +4,10 @@ ghost use Rattle.sqpage.specs.Source.{KeepsPages};
 ghost use Rattle.sqindex.specs.Stored.{Stored};
 ghost use Rattle.sqindex.specs.internal.KeyedScanning.{IsBefore};
 ghost use Rattle.sqindex.specs.internal.Reading.{stored_of};
-ghost use Rattle.sqindex.specs.internal.Streaming.{MayStand, MayNotStand, IsStream, StreamEnds};
+ghost use Rattle.sqindex.specs.internal.Streaming.{HasRowid, MayStand, MayNotStand, IsStream, StreamEnds};
 ghost use Rattle.sqindex.specs.internal.Streaming.{IsStartOf, StartsIndex, StreamRefused};
 ghost use Rattle.sqindex.specs.internal.Held.{plain};
+ghost use Rattle.sqkeys.specs.declared.key.IndexKey.{IndexKey as SpecKey};
 
 use crate::entries::Entries;
 use crate::error::{EntryError, IndexError, ReadError};
@@ -32,17 +33,24 @@ pub(crate) struct Start {
     pub(crate) room: Room,
 }
 
-/// Judges an entry beside the one before it, where there is one. Refused by EntryForm, EntryOrder and KeyTwice.
-fn judge_beside(key: &IndexKey, before: Option<&[u8]>, entry: &[u8]) -> Result<(), IndexFault>
+/// Judges an entry that has this rowid beside the one before it, where there is one. Refused by EntryForm where it has
+/// none, EntryOrder and KeyTwice.
+fn judge_beside(
+    key: &IndexKey,
+    before: Option<&[u8]>,
+    rowid: Option<i64>,
+    entry: &[u8],
+) -> Result<(), IndexFault>
+    requires { HasRowid key.now entry.now rowid }
     ensures ok { OnOk result (MayStand key.now (option_map (λ b. b.now) before.entry) entry.now) }
     ensures err { IfErr result (MayNotStand key.now (option_map (λ b. b.now) before.entry) entry.now) }
 {
-    let Some(_) = rowid_in(entry, key.columns.len()) else {
-        return Err(IndexFault::EntryForm);
-    };
-    match before {
-        Some(before) => judge_next(key, before, entry),
-        None => Ok(()),
+    match rowid {
+        None => Err(IndexFault::EntryForm),
+        Some(_) => match before {
+            Some(before) => judge_next(key, before, entry),
+            None => Ok(()),
+        },
     }
 }
 
@@ -52,15 +60,17 @@ fn see(
     fault: Option<EntryError>,
     before: Option<&[u8]>,
     found: Found,
+    rowid: Option<i64>,
     entry: &[u8],
 ) -> Option<EntryError>
+    requires { HasRowid key.now entry.now rowid }
     ensures { (xs : List Stored) → IsBefore xs (option_map (λ b. b.now) before.entry)
         → IsStream key.now xs fault → IsStream key.now (xs ++ stored_of found entry.now ∷ []) result }
 {
     if fault.is_some() {
         return fault;
     }
-    match judge_beside(key, before, entry) {
+    match judge_beside(key, before, rowid, entry) {
         Ok(()) => None,
         Err(fault) => Some(EntryError {
             fault,
@@ -70,27 +80,21 @@ fn see(
     }
 }
 
-/// Goes on with the entries of the first range, where those before are held and no fault was found.
-fn gather_first(
-    alloc: Global,
-    key: &IndexKey,
-    start: &mut Start,
-    fault: Option<EntryError>,
-    found: Found,
-    entry: &[u8],
-)
-    ensures starts { (xs : List Stored) → IsStartOf key.now start.old.part start.old.held xs
-        → IsStartOf key.now start.new.part start.new.held (xs ++ plain found entry.now ∷ []) }
+/// Goes on with the entries of the first range, where those before are held, and this one has a rowid.
+fn gather_first(alloc: Global, start: &mut Start, found: Found, rowid: Option<i64>, entry: &[u8])
+    ensures starts { (key : SpecKey) (xs : List Stored) → HasRowid key entry.now rowid
+        → IsStartOf key start.old.part start.old.held xs
+        → IsStartOf key start.new.part start.new.held (xs ++ plain found entry.now ∷ []) }
     ensures room { start.new.room ≡ start.old.room }
 {
     if !start.held {
         return;
     }
-    if fault.is_some() {
+    let Some(rowid) = rowid else {
         start.held = false;
         return;
-    }
-    start.held = gather(alloc, key, &mut start.part, found, entry, start.room.held).is_ok();
+    };
+    start.held = gather(alloc, &mut start.part, found, rowid, entry, start.room.held).is_ok();
 }
 
 /// What is told behind the last entry: the first fault, or how many there are, whose payloads have so many bytes.
@@ -153,8 +157,9 @@ pub(crate) fn order_index<S: PageSource>(
         if found.rowid.is_some() {
             return Err(IndexError::Index(ReadError::OtherKind));
         }
-        fault = see(key, fault, held(some, &before), found, &walk.payload);
-        gather_first(alloc, key, &mut start, fault, found, &walk.payload);
+        let rowid = rowid_in(&walk.payload, key.columns.len());
+        fault = see(key, fault, held(some, &before), found, rowid, &walk.payload);
+        gather_first(alloc, &mut start, found, rowid, &walk.payload);
         bytes = bytes.saturating_add(walk.payload.len() as u64);
         some = true;
         keep(&mut before, &mut walk);

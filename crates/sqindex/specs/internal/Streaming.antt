@@ -1,5 +1,5 @@
 -- Words of the function that takes the entries of an index one after another (own). No public contract cites them.
-use Rattle.std.specs.Prelude.{◌≡◌, ◌⊎◌, ℕ, Bool, true, List, length, slice_get, Option, Some, None, Result, MatchResult, ℤ}
+use Rattle.std.specs.Prelude.{◌≡◌, ◌⊎◌, ℕ, Bool, true, List, length, slice_get, Option, Some, None, Result, MatchOption, MatchResult, ℤ}
 use Rattle.sqval.specs.Database.{Database}
 use Rattle.sqlite_record.specs.Record.{decode}
 use Rattle.sqkeys.specs.declared.key.IndexKey.{IndexKey}
@@ -16,6 +16,10 @@ use Rattle.sqindex.specs.Rules.{width, HasEntries}
 use Rattle.sqindex.specs.Indexes.{EntryRefused, ReadRefused, NoEntries}
 use Rattle.sqindex.specs.internal.Judging.{IsBehind, NotBehind, AreSoundEntries}
 use Rattle.sqindex.specs.internal.Spans.{IsFirst, AreOfSpan}
+
+-- It is keyed by this rowid, or by none.
+abbrev pub HasRowid : IndexKey → (entry : List ℕ) → (rowid : Option ℤ) → Type 0
+HasRowid key entry rowid = MatchOption rowid ((r : ℤ) → ¬ IsKeyed (width key) r (decode entry)) (λ r. IsKeyed (width key) r (decode entry))
 
 -- An entry comes behind the one before it, where there is one.
 abbrev pub IsNext : IndexKey → (before : Option (List ℕ)) → (entry : List ℕ) → Type 0

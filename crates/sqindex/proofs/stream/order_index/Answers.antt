@@ -1,5 +1,8 @@
 use Rattle.std.proofs.Common.{◌≡◌, ◌≢◌, ◌++◌, ◌∷◌, [], ◌∙◌, ◌+◌, ℕ, ℤ, List, Option, Some, None, Bool, cond, is_some, true, false, refl, subst, sym, ap, arith, length, length-append}
-use Rattle.std.specs.Prelude.{Result, Ok, Err, IfOk, IfErr}
+use Rattle.std.specs.Prelude.{Result, Ok, Err, IfOk, IfErr, MatchOption}
+use Rattle.std.proofs.lemmas.Grind.{common_steps}
+use Rattle.sqlite_record.specs.Record.{decode}
+use Rattle.sqindex.specs.Keys.{IsKeyed}
 use Rattle.sqval.specs.Database.{Database}
 use Rattle.sqkeys.specs.declared.key.IndexKey.{IndexKey}
 use Rattle.sqrows.specs.Cursor.{IsOver}
@@ -18,7 +21,7 @@ use Rattle.sqindex.specs.internal.Reading.{stored_of, WalkMoves, WalkRefused}
 use Rattle.sqindex.specs.internal.KeyedScanning.{IsBefore, ArePlain}
 use Rattle.sqindex.specs.internal.Held.{plain}
 use Rattle.sqindex.specs.internal.Spans.{passed}
-use Rattle.sqindex.specs.internal.Streaming.{IsStream, StreamEnds, IsStartOf, StartsIndex, StreamRefused}
+use Rattle.sqindex.specs.internal.Streaming.{HasRowid, IsStream, StreamEnds, IsStartOf, StartsIndex, StreamRefused}
 use Rattle.sqindex.proofs.CellsTaken.{none_taken, one_taken, unread}
 use Rattle.sqindex.proofs.EntriesRead.{stored_plain, other_kind}
 use Rattle.sqindex.proofs.EntriesInSpans.{none_gathered}
@@ -34,6 +37,12 @@ none_of (Some r) e = absurd (cc)
 some_of : (o : Option ℤ) → is_some o ≡ true → o ≢ None
 some_of None e is = cc
 some_of (Some r) e is = cc
+
+-- the entry that has a rowid, or has none
+keyed_as : (key : IndexKey) (n : ℕ) (rowid : Option ℤ) (entry same : List ℕ) → n ≡ length key.columns.items → entry ≡ same
+    → MatchOption rowid ((r : ℤ) → ¬ IsKeyed n r (decode entry)) (λ r. IsKeyed n r (decode entry)) → HasRowid key same rowid
+keyed_as key n rowid entry same many is h =
+    subst (λ (b : List ℕ). HasRowid key b rowid) is (subst (λ (n : ℕ). MatchOption rowid ((r : ℤ) → ¬ IsKeyed n r (decode entry)) (λ r. IsKeyed n r (decode entry))) many h)
 
 -- what is told behind the last entry
 ended_ok : (d : Database) (index : ℕ) (key : IndexKey) (xs : List Stored) (fault : Option EntryError) (old : Start) (many : ℕ) (result : Result Start IndexError) → HasEntries d index xs → IsStream key xs fault → length xs ≡ many
@@ -123,6 +132,11 @@ returns-then-is_some-clause-err g c = λ gives.
     let one = one_taken d c.args.index c.turns.walk.cells walk found seen.0 seen.1.taken (subst (λ (d : Database). WalkMoves d c.turns.walk.cells (Some found) walk) i.kept.same_pages moves) in
     other_kind d c.args.index walk.cells seen.0 (stored_of found walk.payload.items) one (some_of found.rowid (sym c.is_some.ensures ∙ c.if-is_some.true))
 
+pub see-fault-requires : goal.see-fault-requires
+see-fault-requires g c =
+    let many : c.len.result ≡ length c.args.key.now.columns.items = grind (arith, common_steps) in
+    keyed_as c.args.key.now c.len.result c.rowid_in-rowid.result c.deref.result.now c.deref-in-turns-2.result.now many (c.deref.ensures.value ∙ sym c.deref-in-turns-2.ensures.value) c.rowid_in-rowid.ensures
+
 pub turns-preserved : goal.turns-preserved
 turns-preserved g c =
     let d = g.S.PageSource.pages c.args.source.now in
@@ -149,11 +163,13 @@ turns-preserved g c =
           let xs = seen.0 in
           let x = stored_of found walk.payload.items in
           let more = one_plain d c.args.index c.turns.walk.cells walk found xs seen.1 (subst (λ (d : Database). WalkMoves d c.turns.walk.cells (Some found) walk) i.kept.same_pages moves) (none_of found.rowid (sym c.is_some.ensures ∙ c.if-is_some.false)) in
-          let held : c.deref.result.now ≡ c.turns.before.items = c.deref.ensures.value in
-          let same : c.deref-in-turns.result.now ≡ walk.payload.items = c.deref-in-turns.ensures.value in
-          let same' : c.deref-in-turns-2.result.now ≡ walk.payload.items = c.deref-in-turns-2.ensures.value in
+          let held : c.deref-in-turns.result.now ≡ c.turns.before.items = c.deref-in-turns.ensures.value in
+          let same : c.deref-in-turns-2.result.now ≡ walk.payload.items = c.deref-in-turns-2.ensures.value in
+          let same' : c.deref-in-turns-3.result.now ≡ walk.payload.items = c.deref-in-turns-3.ensures.value in
+          let many : c.len.result ≡ length c.args.key.now.columns.items = grind (arith, common_steps) in
+          let keyed = keyed_as c.args.key.now c.len.result c.rowid_in-rowid.result c.deref.result.now c.deref-in-turns-3.result.now many (c.deref.ensures.value ∙ sym same') c.rowid_in-rowid.ensures in
           let plain' : stored_of found walk.payload.items ≡ plain found walk.payload.items = stored_plain found walk.payload.items (none_of found.rowid (sym c.is_some.ensures ∙ c.if-is_some.false)) in
-          let starts = subst (λ (b : List ℕ). IsStartOf c.args.key.now c.gather_first.new.start.part c.gather_first.new.start.held (xs ++ plain found b ∷ [])) same' (c.gather_first.ensures.starts xs seen.5) in
+          let starts = subst (λ (b : List ℕ). IsStartOf c.args.key.now c.gather_first.new.start.part c.gather_first.new.start.held (xs ++ plain found b ∷ [])) same' (c.gather_first.ensures.starts c.args.key.now xs keyed seen.5) in
           let before = subst (IsBefore xs) (sym (c.held.ensures ∙ ap (λ (b : List ℕ). cond c.turns.some (Some b) None) held)) seen.3 in
           let streamed = c.see-fault.ensures xs before seen.2 in
           let long = seen.4 in
