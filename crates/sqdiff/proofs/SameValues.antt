@@ -49,7 +49,7 @@ same_values [] (b ∷ ys) = inr (λ e. cc)
 same_values (a ∷ xs) [] = inr (λ e. cc)
 same_values (a ∷ xs) (b ∷ ys) = same_heads a b xs ys (same_datum a b) (same_values xs ys)
 
-same_rowid : (a b : Option ℤ) → (a ≡ b) ⊎ (a ≢ b)
+pub same_rowid : (a b : Option ℤ) → (a ≡ b) ⊎ (a ≢ b)
 same_rowid None None = inl refl
 same_rowid None (Some b) = inr (λ e. cc)
 same_rowid (Some a) None = inr (λ e. cc)

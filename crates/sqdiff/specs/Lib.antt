@@ -1,3 +1,4 @@
 pub mod Changes
 pub mod DiffCursor
+pub mod Made
 pub mod internal

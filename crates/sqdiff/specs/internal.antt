@@ -1,3 +1,2 @@
 -- What no public clause reaches.
-pub mod Made
 pub mod Turns

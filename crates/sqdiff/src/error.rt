@@ -12,8 +12,8 @@ pub enum SideError {
     /// The payload of a row is no record.
     #[error("a row is unsound: {0}")]
     Record(RecordError),
-    /// A row has no rowid, or one that isn't above that of the row before it.
-    #[error("the rowids of a table don't rise")]
+    /// A row has no rowid or key that the order tells, or one that isn't above that of the row before it.
+    #[error("the rowids or keys of a table don't rise")]
     Unordered,
 }
 

@@ -24,7 +24,7 @@ turned_equal Greater e = cc
 -- Two keys.
 module _ (order : Order) where
   -- a key equals itself
-  self_equal : (a : List Value) → entry_cmp order a a ≡ Equal
+  pub self_equal : (a : List Value) → entry_cmp order a a ≡ Equal
   self_equal a = turned_equal (entry_cmp order a a) ((entry_cmp_total order).antisymm a a)
 
   turned : (a b : List Value) → entry_cmp order a b ≡ Equal → entry_cmp order b a ≡ Equal

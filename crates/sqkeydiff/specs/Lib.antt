@@ -1,3 +1,4 @@
 pub mod KeyChanges
 pub mod KeyCursor
+pub mod Made
 pub mod internal

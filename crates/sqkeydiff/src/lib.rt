@@ -3,9 +3,11 @@
 
 mod diff;
 mod key;
+mod laws;
 mod side;
 mod turn;
 mod values;
 
 pub use diff::KeyDiff;
 pub use key::KeyOrder;
+pub use laws::changes_make_the_new_rows;
