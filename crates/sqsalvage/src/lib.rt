@@ -16,4 +16,5 @@ mod tree_page;
 
 pub use cursor::{Piece, Salvage};
 pub use page::TreePage;
+pub use parts::parts_at;
 pub use piece::PieceRead;

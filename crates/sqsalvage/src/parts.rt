@@ -58,8 +58,9 @@ fn varint_at(present: bool, used: &[u8], from: usize) -> Option<(u64, usize)>
     }
 }
 
-/// The parts of the cell that begins at `at`. None where it doesn't end in `used`, the usable part of a page.
-pub(crate) fn parts_at(kind: Kind, used: &[u8], at: usize) -> Option<Parts>
+/// The parts of the cell that begins at `at`, of a page of this kind. None where it doesn't end in `used`, the usable
+/// part of the page.
+pub fn parts_at(kind: Kind, used: &[u8], at: usize) -> Option<Parts>
     requires least { 480 ≤ length used.now }
     requires most { length used.now ≤ 65536 }
     requires place { at < 65536 }

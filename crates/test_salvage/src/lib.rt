@@ -2,6 +2,8 @@
 #![tactic(auto)]
 
 #[cfg(test)]
+mod deleted_tests;
+#[cfg(test)]
 mod files;
 #[cfg(test)]
 mod leaves_tests;
