@@ -9,9 +9,10 @@ use Rattle.sqlite_value.specs.declared.keys.Collation.TheVariants.{Binary, NoCas
 use Rattle.sqlite_value.specs.declared.keys.Order.{Order}
 use Rattle.sqlite_value.specs.Keys.{first_key, later}
 use Rattle.sqkeydiff.specs.declared.key.KeyOrder.{KeyOrder}
-use Rattle.cli_row_text.specs.declared.form.Form.{Form}
-use Rattle.cli_row_text.specs.declared.form.Form.TheVariants.{Json, Sql}
-use Rattle.cli_row_text.specs.Lines.{IsText, between_marks, integer_text, name_text}
+use Rattle.cli_row_text.specs.declared.form.Notation.{Notation}
+use Rattle.cli_row_text.specs.declared.form.Notation.TheVariants.{Json, Sql}
+use Rattle.sqdeep.specs.declared.text.Encoding.{Encoding}
+use Rattle.cli_row_text.specs.Lines.{IsText, form_of, between_marks, integer_text, name_text}
 use Rattle.cli_change_text.specs.declared.style.Naming.{Naming}
 use Rattle.cli_change_text.specs.declared.style.Naming.TheVariants.{InLine, InObject, InCondition}
 
@@ -23,11 +24,11 @@ abbrev pub column_text : Option (List ℕ) → (j : ℕ) → List ℕ
 column_text (Some name) j = between_marks 34 name
 column_text None j = codes "c" ++ decimal (suc j)
 
--- the form in which values stand
-abbrev pub form_in : Naming → Form
-form_in InLine = Sql
-form_in InObject = Json
-form_in InCondition = Sql
+-- the notation in which values stand
+abbrev pub notation_in : Naming → Notation
+notation_in InLine = Sql
+notation_in InObject = Json
+notation_in InCondition = Sql
 
 -- the name of a column
 abbrev pub name_at : Columns → Option ℕ → Option (List ℕ)
@@ -76,22 +77,22 @@ abbrev pub stored_in : List Datum → (place : ℕ) → Datum
 stored_in values place = unwrap_or (slice_get values place) null
 
 -- A column of a key: its name and the value that a row stores.
-abbrev pub IsKeyColumn : Naming → Columns → Collation → (place : ℕ) → Datum → List ℕ → Type 0
-IsKeyColumn naming columns collation place value t =
-    (own : List ℕ) × IsText (form_in naming) value own
+abbrev pub IsKeyColumn : Encoding → Naming → Columns → Collation → (place : ℕ) → Datum → List ℕ → Type 0
+IsKeyColumn encoding naming columns collation place value t =
+    (own : List ℕ) × IsText (form_of (notation_in naming) encoding) value own
     × (t ≡ mark_at naming place ++ (label_in naming (stored_name columns place) place ++ (sign_in naming ++ (own ++ compared_by naming collation value))))
 
 -- The columns from a place on, so many: each as the order says that it is sorted.
-abbrev pub AreKeyColumns : Naming → Columns → Order → (values : List Datum) → (place n : ℕ) → List ℕ → Type 0
-AreKeyColumns naming columns order values place zero t = t ≡ []
-AreKeyColumns naming columns order values place (suc n) t =
-    (own more : List ℕ) × IsKeyColumn naming columns (first_key order).collation place (stored_in values place) own
-    × AreKeyColumns naming columns (later order) values (suc place) n more × (t ≡ own ++ more)
+abbrev pub AreKeyColumns : Encoding → Naming → Columns → Order → (values : List Datum) → (place n : ℕ) → List ℕ → Type 0
+AreKeyColumns encoding naming columns order values place zero t = t ≡ []
+AreKeyColumns encoding naming columns order values place (suc n) t =
+    (own more : List ℕ) × IsKeyColumn encoding naming columns (first_key order).collation place (stored_in values place) own
+    × AreKeyColumns encoding naming columns (later order) values (suc place) n more × (t ≡ own ++ more)
 
 -- the text of a rowid, and what stands before it, before a key and behind it
-abbrev pub rowid_text : Form → (rowid : Option ℤ) → List ℕ
-rowid_text form (Some id) = integer_text form id
-rowid_text form None = []
+abbrev pub rowid_text : Notation → (rowid : Option ℤ) → List ℕ
+rowid_text notation (Some id) = integer_text notation id
+rowid_text notation None = []
 
 abbrev pub rowid_label : Naming → List ℕ
 rowid_label InLine = []
@@ -109,7 +110,7 @@ key_end InObject = codes "}"
 key_end InCondition = []
 
 -- What names a row: its rowid, or in a table WITHOUT ROWID the columns of its key, which it stores first.
-abbrev pub IsRowName : Naming → Columns → (key : Option KeyOrder) → Row → List ℕ → Type 0
-IsRowName naming columns None row t = t ≡ rowid_label naming ++ rowid_text (form_in naming) row.rowid
-IsRowName naming columns (Some key) row t =
-    (all : List ℕ) × AreKeyColumns naming columns key.order row.values 0 key.width all × (t ≡ key_label naming ++ (all ++ key_end naming))
+abbrev pub IsRowName : Encoding → Naming → Columns → (key : Option KeyOrder) → Row → List ℕ → Type 0
+IsRowName encoding naming columns None row t = t ≡ rowid_label naming ++ rowid_text (notation_in naming) row.rowid
+IsRowName encoding naming columns (Some key) row t =
+    (all : List ℕ) × AreKeyColumns encoding naming columns key.order row.values 0 key.width all × (t ≡ key_label naming ++ (all ++ key_end naming))

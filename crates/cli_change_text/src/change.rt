@@ -90,7 +90,8 @@ fn write_changed_line<W: Write>(
     old: &Row<'_>,
     new: &Row<'_>,
 ) -> io::Result<()>
-    ensures { OnOk result ((t : List ℕ) × IsChangedText Writing.Line style.entry.head.now style.entry.columns.now
+    ensures { OnOk result ((t : List ℕ) × IsChangedText style.entry.encoding Writing.Line style.entry.head.now
+        style.entry.columns.now
         style.entry.leads style.entry.key (record { rowid = old.now.rowid; values = old.now.values })
         (record { rowid = new.now.rowid; values = new.now.values }) t
         × Appends (W.contents out.old) (W.contents out.new) t) }
@@ -98,7 +99,7 @@ fn write_changed_line<W: Write>(
     out.write_all(b"~ ")?;
     write_row_name(out, Naming::InLine, style, new)?;
     out.write_all(b": ")?;
-    write_differences(out, style.columns, old, new)?;
+    write_differences(out, style, old, new)?;
     out.write_all(b"\n")
 }
 
@@ -116,8 +117,8 @@ fn write_changed_object<W: Write>(
 {
     let names = &style.columns.names;
     write_object_start(out, style, "update", row)?;
-    write_member(out, ",\"old\":{", names, was)?;
-    write_member(out, ",\"new\":{", names, is)?;
+    write_member(out, style.encoding, ",\"old\":{", names, was)?;
+    write_member(out, style.encoding, ",\"new\":{", names, is)?;
     out.write_all(b"}\n")
 }
 

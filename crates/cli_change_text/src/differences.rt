@@ -8,9 +8,9 @@ ghost use Rattle.cli_change_text.specs.Names.{column_text};
 ghost use Rattle.cli_change_text.specs.internal.Steps.{TakesColumn};
 
 use crate::name::write_name;
-use cli_row_text::{Form, write_value};
+use crate::style::Style;
+use cli_row_text::{Form, Notation, write_value};
 use sqrows::Row;
-use sqtables::Columns;
 use sqval::Value;
 use std::io::{self, Write};
 
@@ -40,67 +40,72 @@ fn write_column<W: Write>(out: &mut W, names: &[Vec<u8>], j: usize) -> io::Resul
 /// A column's change.
 fn write_difference<W: Write>(
     out: &mut W,
-    columns: &Columns,
+    style: Style<'_>,
     j: usize,
     begun: bool,
     old: Value<'_>,
     new: Value<'_>,
 ) -> io::Result<()>
     requires { j + 1 < 2 ^ 64 }
-    ensures { OnOk result ((t : List ℕ) × IsDifference columns.now begun j (datum_of old.entry) (datum_of new.entry) t
+    ensures { OnOk result ((t : List ℕ) × IsDifference style.entry.encoding style.entry.columns.now begun j (datum_of
+        old.entry) (datum_of new.entry) t
         × Appends (W.contents out.old) (W.contents out.new) t) }
 {
+    let form = Form {
+        notation: Notation::Sql,
+        encoding: style.encoding,
+    };
     write_mark(out, begun)?;
-    write_column(out, &columns.names, j)?;
+    write_column(out, &style.columns.names, j)?;
     out.write_all(b" ")?;
-    write_value(out, Form::Sql, old)?;
+    write_value(out, form, old)?;
     out.write_all(b" -> ")?;
-    write_value(out, Form::Sql, new)
+    write_value(out, form, new)
 }
 
 /// A column's change, where it shows another value. Whether some change is written then.
 fn write_column_change<W: Write>(
     out: &mut W,
-    columns: &Columns,
+    style: Style<'_>,
     old: &Row<'_>,
     new: &Row<'_>,
     j: usize,
     begun: bool,
 ) -> io::Result<bool>
     requires { j + 1 < 2 ^ 64 }
-    ensures { IfOk result (λ written. (t : List ℕ) × TakesColumn columns.now
+    ensures { IfOk result (λ written. (t : List ℕ) × TakesColumn style.entry.encoding style.entry.columns.now
         (record { rowid = old.now.rowid; values = old.now.values })
         (record { rowid = new.now.rowid; values = new.now.values }) j begun written t
         × Appends (W.contents out.old) (W.contents out.new) t) }
 {
-    let was = columns.value_at(old, j);
-    let is = columns.value_at(new, j);
+    let was = style.columns.value_at(old, j);
+    let is = style.columns.value_at(new, j);
     if is_same(was, is) {
         return Ok(begun);
     }
-    write_difference(out, columns, j, begun, was, is)?;
+    write_difference(out, style, j, begun, was, is)?;
     Ok(true)
 }
 
 /// The changes of the columns of a row.
 pub(crate) fn write_differences<W: Write>(
     out: &mut W,
-    columns: &Columns,
+    style: Style<'_>,
     old: &Row<'_>,
     new: &Row<'_>,
 ) -> io::Result<()>
-    ensures { OnOk result ((t : List ℕ) × AreDifferences columns.now
+    ensures { OnOk result ((t : List ℕ) × AreDifferences style.entry.encoding style.entry.columns.now
         (record { rowid = old.now.rowid; values = old.now.values })
         (record { rowid = new.now.rowid; values = new.now.values }) false 0
-        (column_count columns.now (record { rowid = old.now.rowid; values = old.now.values })
+        (column_count style.entry.columns.now (record { rowid = old.now.rowid; values = old.now.values })
         (record { rowid = new.now.rowid; values = new.now.values })) t
         × Appends (W.contents out.old) (W.contents out.new) t) }
 {
     let stored = old.values.len().max(new.values.len());
-    let count = stored.max(columns.names.len());
+    let count = stored.max(style.columns.names.len());
     let mut begun = false;
     for j in 0..count {
-        begun = write_column_change(out, columns, old, new, j, begun)?;
+        begun = write_column_change(out, style, old, new, j, begun)?;
     }
     Ok(())
 }

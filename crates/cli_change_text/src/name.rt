@@ -4,11 +4,11 @@ ghost use Rattle.std.specs.Io.KnownBytes.{Appends};
 ghost use Rattle.sqval.specs.Datum.{datum_of};
 ghost use Rattle.cli_change_text.specs.Names.{AreKeyColumns, IsKeyColumn, IsRowName, collation_text, column_at};
 ghost use Rattle.cli_change_text.specs.Names.{column_text, name_at};
-ghost use Rattle.cli_change_text.specs.Names.{compared_by, form_in, key_end, key_label, label_in, mark_at, mark_in};
+ghost use Rattle.cli_change_text.specs.Names.{compared_by, key_end, key_label, label_in, mark_at, mark_in, notation_in};
 ghost use Rattle.cli_change_text.specs.Names.{rowid_label, rowid_text, sign_in, stored_in, stored_name};
 
 use crate::style::{Naming, Style};
-use cli_row_text::{Form, write_between, write_integer, write_string, write_value};
+use cli_row_text::{Form, Notation, write_between, write_integer, write_string, write_value};
 use sqkeydiff::KeyOrder;
 use sqlite_value::keys::Collation;
 use sqrows::Row;
@@ -31,13 +31,13 @@ pub(crate) fn write_name<W: Write>(out: &mut W, name: Option<&Vec<u8>>, j: usize
     }
 }
 
-/// The form in which values stand.
-fn form_in(naming: Naming) -> Form
-    ensures { result ≡ form_in naming }
+/// The notation in which values stand.
+fn notation_in(naming: Naming) -> Notation
+    ensures { result ≡ notation_in naming }
 {
     match naming {
-        Naming::InLine | Naming::InCondition => Form::Sql,
-        Naming::InObject => Form::Json,
+        Naming::InLine | Naming::InCondition => Notation::Sql,
+        Naming::InObject => Notation::Json,
     }
 }
 
@@ -141,19 +141,24 @@ fn write_label<W: Write>(
 fn write_key_column<W: Write>(
     out: &mut W,
     naming: Naming,
-    columns: &Columns,
+    style: Style<'_>,
     collation: Collation,
     place: usize,
     value: Value<'_>,
 ) -> io::Result<()>
     requires { place + 1 < 2 ^ 64 }
-    ensures { OnOk result ((t : List ℕ) × IsKeyColumn naming columns.now collation place (datum_of value.entry) t
+    ensures { OnOk result ((t : List ℕ) × IsKeyColumn style.entry.encoding naming style.entry.columns.now collation
+        place (datum_of value.entry) t
         × Appends (W.contents out.old) (W.contents out.new) t) }
 {
+    let form = Form {
+        notation: notation_in(naming),
+        encoding: style.encoding,
+    };
     out.write_all(mark_at(naming, place).as_bytes())?;
-    write_label(out, naming, stored_name(columns, place), place)?;
+    write_label(out, naming, stored_name(style.columns, place), place)?;
     out.write_all(sign_in(naming).as_bytes())?;
-    write_value(out, form_in(naming), value)?;
+    write_value(out, form, value)?;
     out.write_all(compared_by(naming, collation, value).as_bytes())
 }
 
@@ -171,29 +176,30 @@ fn stored_in<'a>(values: &Record<'a>, place: usize) -> Value<'a>
 fn write_key_columns<W: Write>(
     out: &mut W,
     naming: Naming,
-    columns: &Columns,
+    style: Style<'_>,
     key: KeyOrder,
     values: &Record<'_>,
 ) -> io::Result<()>
-    ensures { OnOk result ((t : List ℕ) × AreKeyColumns naming columns.now key.order values.now 0 key.width t
+    ensures { OnOk result ((t : List ℕ) × AreKeyColumns style.entry.encoding naming style.entry.columns.now key.order
+        values.now 0 key.width t
         × Appends (W.contents out.old) (W.contents out.new) t) }
 {
     let mut order = key.order;
     for place in 0..key.width {
         let sorted = order.first();
         let value = stored_in(values, place);
-        write_key_column(out, naming, columns, sorted.collation, place, value)?;
+        write_key_column(out, naming, style, sorted.collation, place, value)?;
         order = order.later();
     }
     Ok(())
 }
 
 /// The rowid of a row.
-fn write_rowid<W: Write>(out: &mut W, form: Form, rowid: Option<i64>) -> io::Result<()>
-    ensures { OnOk result (Appends (W.contents out.old) (W.contents out.new) (rowid_text form rowid)) }
+fn write_rowid<W: Write>(out: &mut W, notation: Notation, rowid: Option<i64>) -> io::Result<()>
+    ensures { OnOk result (Appends (W.contents out.old) (W.contents out.new) (rowid_text notation rowid)) }
 {
     match rowid {
-        Some(id) => write_integer(out, form, id),
+        Some(id) => write_integer(out, notation, id),
         None => Ok(()),
     }
 }
@@ -221,27 +227,27 @@ fn key_labels(naming: Naming) -> (&'static str, &'static str)
 /// The rowid that names a row.
 fn write_rowid_name<W: Write>(out: &mut W, naming: Naming, rowid: Option<i64>) -> io::Result<()>
     ensures { OnOk result (Appends (W.contents out.old) (W.contents out.new)
-        (rowid_label naming ++ rowid_text (form_in naming) rowid)) }
+        (rowid_label naming ++ rowid_text (notation_in naming) rowid)) }
 {
     out.write_all(rowid_label(naming).as_bytes())?;
-    write_rowid(out, form_in(naming), rowid)
+    write_rowid(out, notation_in(naming), rowid)
 }
 
 /// The key that names a row.
 fn write_key_name<W: Write>(
     out: &mut W,
     naming: Naming,
-    columns: &Columns,
+    style: Style<'_>,
     key: KeyOrder,
     values: &Record<'_>,
 ) -> io::Result<()>
     ensures { OnOk result ((t : List ℕ) × ((all : List ℕ)
-        × AreKeyColumns naming columns.now key.order values.now 0 key.width all
+        × AreKeyColumns style.entry.encoding naming style.entry.columns.now key.order values.now 0 key.width all
         × (t ≡ key_label naming ++ (all ++ key_end naming))) × Appends (W.contents out.old) (W.contents out.new) t) }
 {
     let (label, end) = key_labels(naming);
     out.write_all(label.as_bytes())?;
-    write_key_columns(out, naming, columns, key, values)?;
+    write_key_columns(out, naming, style, key, values)?;
     out.write_all(end.as_bytes())
 }
 
@@ -252,12 +258,12 @@ pub(crate) fn write_row_name<W: Write>(
     style: Style<'_>,
     row: &Row<'_>,
 ) -> io::Result<()>
-    ensures { OnOk result ((t : List ℕ) × IsRowName naming style.entry.columns.now style.entry.key
+    ensures { OnOk result ((t : List ℕ) × IsRowName style.entry.encoding naming style.entry.columns.now style.entry.key
         (record { rowid = row.now.rowid; values = row.now.values }) t
         × Appends (W.contents out.old) (W.contents out.new) t) }
 {
     match style.key {
-        Some(key) => write_key_name(out, naming, style.columns, key, &row.values),
+        Some(key) => write_key_name(out, naming, style, key, &row.values),
         None => write_rowid_name(out, naming, row.rowid),
     }
 }

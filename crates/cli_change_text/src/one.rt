@@ -10,7 +10,8 @@ ghost use Rattle.cli_change_text.specs.declared.style.Naming.{Naming};
 
 use crate::name::write_row_name;
 use crate::style::{Naming, Style, Writing};
-use cli_row_text::{Form, write_line, write_values};
+use cli_row_text::{Form, Notation, write_line, write_values};
+use sqdeep::Encoding;
 use sqrows::Row;
 use sqval::Value;
 use std::io::{self, Write};
@@ -44,30 +45,41 @@ fn write_row<W: Write>(
     row: &Row<'_>,
     values: &[Value<'_>],
 ) -> io::Result<()>
-    ensures { OnOk result ((t : List ℕ) × ((name : List ℕ) × IsRowName Naming.InLine style.entry.columns.now
+    ensures { OnOk result ((t : List ℕ) × ((name : List ℕ) × IsRowName style.entry.encoding Naming.InLine
+        style.entry.columns.now
         style.entry.key (record { rowid = row.now.rowid; values = row.now.values }) name
-        × IsLineOf sign.now (names_of style.entry.columns.now) name (row_of values.now) t)
+        × IsLineOf style.entry.encoding sign.now (names_of style.entry.columns.now) name (row_of values.now) t)
         × Appends (W.contents out.old) (W.contents out.new) t) }
 {
+    let form = Form {
+        notation: Notation::Sql,
+        encoding: style.encoding,
+    };
     out.write_all(sign.as_bytes())?;
     write_row_name(out, Naming::InLine, style, row)?;
     out.write_all(b": ")?;
-    write_values(out, Form::Sql, &style.columns.names, values)?;
+    write_values(out, form, &style.columns.names, values)?;
     out.write_all(b"\n")
 }
 
 /// The member of an object that has a row.
 pub(crate) fn write_member<W: Write>(
     out: &mut W,
+    encoding: Encoding,
     member: &str,
     names: &[Vec<u8>],
     values: &[Value<'_>],
 ) -> io::Result<()>
-    ensures { OnOk result ((t : List ℕ) × IsMember member.now (map (λ n. n.items) names.now) (row_of values.now) t
+    ensures { OnOk result ((t : List ℕ) × IsMember encoding member.now (map (λ n. n.items) names.now) (row_of
+        values.now) t
         × Appends (W.contents out.old) (W.contents out.new) t) }
 {
     out.write_all(member.as_bytes())?;
-    write_values(out, Form::Json, names, values)?;
+    let form = Form {
+        notation: Notation::Json,
+        encoding,
+    };
+    write_values(out, form, names, values)?;
     out.write_all(b"}")
 }
 
@@ -78,7 +90,8 @@ pub(crate) fn write_object_start<W: Write>(
     word: &str,
     row: &Row<'_>,
 ) -> io::Result<()>
-    ensures { OnOk result ((name : List ℕ) × IsRowName Naming.InObject style.entry.columns.now style.entry.key
+    ensures { OnOk result ((name : List ℕ) × IsRowName style.entry.encoding Naming.InObject style.entry.columns.now
+        style.entry.key
         (record { rowid = row.now.rowid; values = row.now.values }) name
         × Appends (W.contents out.old) (W.contents out.new) (object_start style.entry.head.now word.now name)) }
 {
@@ -95,13 +108,16 @@ fn write_object<W: Write>(
     row: &Row<'_>,
     values: &[Value<'_>],
 ) -> io::Result<()>
-    ensures { OnOk result ((t : List ℕ) × ((name : List ℕ) × IsRowName Naming.InObject style.entry.columns.now
+    ensures { OnOk result ((t : List ℕ) × ((name : List ℕ) × IsRowName style.entry.encoding Naming.InObject
+        style.entry.columns.now
         style.entry.key (record { rowid = row.now.rowid; values = row.now.values }) name
-        × IsObjectOf style.entry.head.now comes (names_of style.entry.columns.now) name (row_of values.now) t)
+        × IsObjectOf style.entry.encoding style.entry.head.now comes (names_of style.entry.columns.now) name (row_of
+        values.now) t)
         × Appends (W.contents out.old) (W.contents out.new) t) }
 {
     write_object_start(out, style, word_of(comes), row)?;
-    write_member(out, member_of(comes), &style.columns.names, values)?;
+    let names = &style.columns.names;
+    write_member(out, style.encoding, member_of(comes), names, values)?;
     out.write_all(b"}\n")
 }
 
@@ -111,7 +127,8 @@ pub(crate) fn write_removal<W: Write>(
     style: Style<'_>,
     row: &Row<'_>,
 ) -> io::Result<()>
-    ensures { OnOk result ((name : List ℕ) × IsRowName Naming.InCondition style.entry.columns.now style.entry.key
+    ensures { OnOk result ((name : List ℕ) × IsRowName style.entry.encoding Naming.InCondition style.entry.columns.now
+        style.entry.key
         (record { rowid = row.now.rowid; values = row.now.values }) name
         × Appends (W.contents out.old) (W.contents out.new) (removal_text style.entry.head.now name)) }
 {
@@ -134,19 +151,17 @@ pub(crate) fn write_arrival<W: Write>(
     rowid: Option<i64>,
     values: &[Value<'_>],
 ) -> io::Result<()>
-    ensures { OnOk result ((t : List ℕ) × IsArrival style.entry.head.now (map
+    ensures { OnOk result ((t : List ℕ) × IsArrival style.entry.encoding style.entry.head.now (map
         (λ n. n.items) style.entry.columns.now.names.items)
         style.entry.leads rowid (row_of values.now) t × Appends (W.contents out.old) (W.contents out.new) t) }
 {
     let rowid = led_by(style.leads, rowid);
-    write_line(
-        out,
-        Form::Sql,
-        style.head,
-        &style.columns.names,
-        rowid,
-        values,
-    )
+    let names = &style.columns.names;
+    let form = Form {
+        notation: Notation::Sql,
+        encoding: style.encoding,
+    };
+    write_line(out, form, style.head, names, rowid, values)
 }
 
 /// A row that came or went.
@@ -157,7 +172,8 @@ pub(crate) fn write_one<W: Write>(
     row: &Row<'_>,
     values: &[Value<'_>],
 ) -> io::Result<()>
-    ensures { OnOk result ((t : List ℕ) × IsOneText style.entry.writing style.entry.head.now style.entry.columns.now
+    ensures { OnOk result ((t : List ℕ) × IsOneText style.entry.encoding style.entry.writing style.entry.head.now
+        style.entry.columns.now
         style.entry.leads style.entry.key comes (record { rowid = row.now.rowid; values = row.now.values })
         (row_of values.now) t × Appends (W.contents out.old) (W.contents out.new) t) }
 {

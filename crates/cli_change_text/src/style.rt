@@ -1,4 +1,5 @@
 //! How changes are written (own).
+use sqdeep::Encoding;
 use sqkeydiff::KeyOrder;
 use sqtables::Columns;
 
@@ -19,6 +20,8 @@ pub enum Writing {
 #[derive(Clone, Copy)]
 pub struct Style<'a> {
     pub writing: Writing,
+    /// That of the texts of the databases.
+    pub encoding: Encoding,
     /// The table's columns.
     pub columns: &'a Columns,
     /// What stands before the first change.

@@ -133,7 +133,7 @@ fn word_of_stop(stop: &Stop) -> &'static str
         Stop::NotUnderstood => "columns not understood",
         Stop::Default => "default not understood",
         Stop::Behind => "more columns than the table has",
-        Stop::Encoding => "not UTF-8",
+        Stop::Encoding => "text encoding",
         Stop::NoSuchTable => "no such table",
         Stop::NoMemory => "no memory",
         Stop::Write(error) => word_of_write(error.kind()),

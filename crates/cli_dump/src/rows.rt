@@ -2,11 +2,11 @@
 ghost use Rattle.std.specs.Prelude.{◌≡◌, IfErr, IfOk, None, OnOk, Some};
 ghost use Rattle.cli_show.specs.Contents.{AreGiven};
 ghost use Rattle.cli_show.specs.Fronts.{IsAskedFront};
-ghost use Rattle.cli_dump.specs.Rows.{ArePrinted, AreRowsShown, AreStopped, form_named};
+ghost use Rattle.cli_dump.specs.Rows.{ArePrinted, AreRowsShown, AreStopped, notation_named};
 ghost use Rattle.cli_show.specs.Views.{IsUnasked};
 
 use cli_facts::{Front, Refusal};
-use cli_row_text::Form;
+use cli_row_text::Notation;
 use cli_show::{Contents, limits_of, view_of};
 use cli_show_rows::{Stop, print_named, print_tables};
 use cli_words::{Options, RowForm};
@@ -30,14 +30,14 @@ pub struct Printed {
     pub ended: Result<(), Stop>,
 }
 
-/// The form of lines that is asked for.
-fn form_of(form: RowForm) -> Form
-    ensures { result ≡ form_named form }
+/// The notation that is asked for.
+fn notation_of(form: RowForm) -> Notation
+    ensures { result ≡ notation_named form }
 {
     match form {
-        RowForm::Json => Form::Json,
-        RowForm::Csv => Form::Csv,
-        RowForm::Sql => Form::Sql,
+        RowForm::Json => Notation::Json,
+        RowForm::Csv => Notation::Csv,
+        RowForm::Sql => Notation::Sql,
     }
 }
 
@@ -46,36 +46,36 @@ fn print_table<S: PageSource, W: Write>(
     alloc: Global,
     source: &mut S,
     name: &str,
-    form: Form,
+    notation: Notation,
     out: &mut W,
 ) -> Result<(), Stop>
-    ensures ok { S.gives_pages source.old → OnOk result (ArePrinted (S.pages source.old) (Some name.entry) form
+    ensures ok { S.gives_pages source.old → OnOk result (ArePrinted (S.pages source.old) (Some name.entry) notation
         (W.contents out.old) (W.contents out.new)) }
     ensures err { S.gives_pages source.old → IfErr result (λ stop. AreStopped (S.pages source.old) (Some name.entry)
-        form stop (W.contents out.old) (W.contents out.new)) }
+        notation stop (W.contents out.old) (W.contents out.new)) }
 {
     if source.count() == 0 {
         return Err(Stop::NoSuchTable);
     }
-    print_named(alloc, source, name.as_bytes(), form, out)
+    print_named(alloc, source, name.as_bytes(), notation, out)
 }
 
 /// Prints the rows of each table.
 fn print_all<S: PageSource, W: Write>(
     alloc: Global,
     source: &mut S,
-    form: Form,
+    notation: Notation,
     out: &mut W,
 ) -> Result<(), Stop>
-    ensures ok { S.gives_pages source.old → OnOk result (ArePrinted (S.pages source.old) None form
+    ensures ok { S.gives_pages source.old → OnOk result (ArePrinted (S.pages source.old) None notation
         (W.contents out.old) (W.contents out.new)) }
-    ensures err { S.gives_pages source.old → IfErr result (λ stop. AreStopped (S.pages source.old) None form stop
+    ensures err { S.gives_pages source.old → IfErr result (λ stop. AreStopped (S.pages source.old) None notation stop
         (W.contents out.old) (W.contents out.new)) }
 {
     if source.count() == 0 {
         return Ok(());
     }
-    print_tables(alloc, source, form, out)
+    print_tables(alloc, source, notation, out)
 }
 
 /// Prints the rows that are wanted.
@@ -86,14 +86,14 @@ fn print_wanted<S: PageSource, W: Write>(
     out: &mut W,
 ) -> Result<(), Stop>
     ensures ok { S.gives_pages source.old → OnOk result (ArePrinted (S.pages source.old) wanted.entry.table
-        (form_named wanted.entry.form) (W.contents out.old) (W.contents out.new)) }
+        (notation_named wanted.entry.form) (W.contents out.old) (W.contents out.new)) }
     ensures err { S.gives_pages source.old → IfErr result (λ stop. AreStopped (S.pages source.old) wanted.entry.table
-        (form_named wanted.entry.form) stop (W.contents out.old) (W.contents out.new)) }
+        (notation_named wanted.entry.form) stop (W.contents out.old) (W.contents out.new)) }
 {
-    let form = form_of(wanted.form);
+    let notation = notation_of(wanted.form);
     match wanted.table {
-        Some(name) => print_table(alloc, source, name, form, out),
-        None => print_all(alloc, source, form, out),
+        Some(name) => print_table(alloc, source, name, notation, out),
+        None => print_all(alloc, source, notation, out),
     }
 }
 

@@ -4,7 +4,7 @@ use Rattle.std.specs.List.{flat_map}
 use Rattle.std.proofs.Math.Seq.{take-suc}
 use Rattle.std.proofs.lemmas.Grind.{flat_map-append}
 use Rattle.std.proofs.lemmas.List.{map-append}
-use Rattle.cli_row_text.specs.declared.form.Form.{Form}
+use Rattle.cli_row_text.specs.declared.form.Notation.{Notation}
 use Rattle.cli_row_text.specs.Headings.{name_in_quotes, names_listed, next_name}
 
 pub texts_more : {A : Type 0} (f : List ℕ → List ℕ) (g : A → List ℕ) (xs : List A) (i : ℕ) (d : A) → i < length xs
@@ -17,10 +17,10 @@ texts_more f g xs i d within =
     ∙ ap (λ z. flat_map f (map g (take i xs)) ++ z) (append-nil (f (g (get_or xs i d))))
 
 -- names of which these are the first one and the others, and none
-pub listed_first : {A : Type 0} (form : Form) (g : A → List ℕ) (names : List A) (first : A) (rest : List A) → names ≡ first ∷ rest
-    → names_listed form (map g names) ≡ name_in_quotes form (g first) ++ flat_map (next_name form) (map g rest)
-listed_first form g names first rest e = ap (λ z. names_listed form (map g z)) e
+pub listed_first : {A : Type 0} (notation : Notation) (g : A → List ℕ) (names : List A) (first : A) (rest : List A) → names ≡ first ∷ rest
+    → names_listed notation (map g names) ≡ name_in_quotes notation (g first) ++ flat_map (next_name notation) (map g rest)
+listed_first notation g names first rest e = ap (λ z. names_listed notation (map g z)) e
 
-pub listed_none : {A : Type 0} (form : Form) (g : A → List ℕ) (names : List A) → length names ≡ 0 → names_listed form (map g names) ≡ []
-listed_none form g [] none = refl
-listed_none form g (name ∷ names) none = absurd (omega arith)
+pub listed_none : {A : Type 0} (notation : Notation) (g : A → List ℕ) (names : List A) → length names ≡ 0 → names_listed notation (map g names) ≡ []
+listed_none notation g [] none = refl
+listed_none notation g (name ∷ names) none = absurd (omega arith)

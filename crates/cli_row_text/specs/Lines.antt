@@ -1,8 +1,7 @@
 -- How a row is written: as a JSON object (RFC 8259), a line of comma-separated values (RFC 4180) or an INSERT of SQL.
-use Rattle.std.specs.Prelude.{◌≡◌, ℕ, suc, ◌^◌, ◌==◌, nat_lt, nat_le, if◌then◌else◌, Bool, false, List, [], ◌∷◌, ◌++◌, codes, length, slice_get, Option, Some, None, ℤ, pos, negsuc, IsTrue, IsFalse, is_nan, from_bits}
-use Rattle.std.specs.List.{flat_map, list_any}
+use Rattle.std.specs.Prelude.{◌≡◌, ℕ, suc, ◌^◌, ◌==◌, nat_lt, nat_le, if◌then◌else◌, Bool, false, List, [], ◌∷◌, ◌++◌, ◌⊎◌, codes, length, slice_get, Option, Some, None, ℤ, pos, negsuc, IsTrue, IsFalse, is_nan, from_bits}
+use Rattle.std.specs.List.{flat_map}
 use Rattle.std.specs.Fmt.{decimal, signed_decimal}
-use Rattle.std.specs.Str.{IsUtf8}
 use Rattle.std.specs.Float.{Float, binary64, float_is_finite, is_sign_negative}
 use Rattle.fast_float.specs.Parse.{parse_float}
 use Rattle.byteorder.specs.Endian.{big_number}
@@ -10,7 +9,14 @@ use Rattle.ryu.specs.Plain.{IsPlainNumber}
 use Rattle.hex.specs.Hex.{encode_lower}
 use Rattle.sqval.specs.Datum.{Datum, null, integer, real, text, blob}
 use Rattle.cli_row_text.specs.declared.form.Form.{Form}
-use Rattle.cli_row_text.specs.declared.form.Form.TheVariants.{Json, Csv, Sql}
+use Rattle.sqdeep.specs.declared.text.Encoding.{Encoding}
+use Rattle.sqtext.specs.Texts.{IsTextOf, has_zero}
+use Rattle.cli_row_text.specs.declared.form.Notation.{Notation}
+use Rattle.cli_row_text.specs.declared.form.Notation.TheVariants.{Json, Csv, Sql}
+
+-- how values are written in a notation, where texts are in this encoding
+abbrev pub form_of : Notation → Encoding → Form
+form_of notation encoding = record { notation = notation; encoding = encoding }
 
 -- a byte of a text between quotes, of which each that stands in it is there twice
 abbrev pub doubled : (mark : ℕ) → ℕ → List ℕ
@@ -45,13 +51,13 @@ tagged_integer n = codes "{\"integer\":\"" ++ (signed_decimal n ++ codes "\"}")
 abbrev pub json_integer : ℤ → List ℕ
 json_integer n = if is_safe n then signed_decimal n else tagged_integer n
 
-abbrev pub integer_text : Form → ℤ → List ℕ
+abbrev pub integer_text : Notation → ℤ → List ℕ
 integer_text Json n = json_integer n
 integer_text Csv n = signed_decimal n
 integer_text Sql n = signed_decimal n
 
 -- what stands for NULL
-abbrev pub null_text : Form → List ℕ
+abbrev pub null_text : Notation → List ℕ
 null_text Json = codes "null"
 null_text Csv = []
 null_text Sql = codes "NULL"
@@ -61,49 +67,54 @@ abbrev pub float_of : List ℕ → Float
 float_of bytes = from_bits binary64 (big_number 8 bytes)
 
 -- A number that isn't finite: NULL where it is none, as SQLite reads it, and else a numeral above all.
-abbrev pub wide_text : Form → Float → List ℕ
-wide_text form x = if is_nan x then null_text form else (if is_sign_negative x then codes "-9e999" else codes "9e999")
+abbrev pub wide_text : Notation → Float → List ℕ
+wide_text notation x = if is_nan x then null_text notation else (if is_sign_negative x then codes "-9e999" else codes "9e999")
 
 -- The text of a number: one that reads back as it, with a point or an exponent.
-abbrev pub IsReal : Form → Float → List ℕ → Type 0
-IsReal form x t =
-    (IsTrue (float_is_finite x) → (parse_float binary64 t ≡ Some x) × IsPlainNumber t) × (IsFalse (float_is_finite x) → t ≡ wide_text form x)
+abbrev pub IsReal : Notation → Float → List ℕ → Type 0
+IsReal notation x t =
+    (IsTrue (float_is_finite x) → (parse_float binary64 t ≡ Some x) × IsPlainNumber t) × (IsFalse (float_is_finite x) → t ≡ wide_text notation x)
 
 -- bytes as hex
-abbrev pub blob_text : Form → List ℕ → List ℕ
+abbrev pub blob_text : Notation → List ℕ → List ℕ
 blob_text Json bytes = tagged_hex (codes "blob") bytes
 blob_text Csv bytes = hex_literal bytes
 blob_text Sql bytes = hex_literal bytes
 
--- some byte is zero
-abbrev pub has_zero : List ℕ → Bool
-has_zero = list_any (λ b. b == 0)
+-- A text in UTF-8 can stand as it is: in SQL where it has no zero byte, at which the text of a statement ends.
+abbrev pub Stands : Notation → (utf8 : List ℕ) → Type 0
+Stands Json utf8 = Unit {0}
+Stands Csv utf8 = Unit {0}
+Stands Sql utf8 = has_zero utf8 ≡ false
 
--- A text stands as it is where it is UTF-8, and in SQL has no zero byte, at which the text of a statement ends.
-abbrev pub IsPlain : Form → List ℕ → Type 0
-IsPlain Json bytes = IsUtf8 bytes
-IsPlain Csv bytes = IsUtf8 bytes
-IsPlain Sql bytes = IsUtf8 bytes × (has_zero bytes ≡ false)
+-- A text of a database stands as its characters in UTF-8 where it is one in the database's encoding that can.
+abbrev pub IsPlain : Form → (bytes utf8 : List ℕ) → Type 0
+IsPlain form bytes utf8 = IsTextOf form.encoding bytes utf8 × Stands form.notation utf8
 
 -- such a text
-abbrev pub plain_text : Form → List ℕ → List ℕ
+abbrev pub plain_text : Notation → List ℕ → List ℕ
 plain_text Json bytes = json_string bytes
 plain_text Csv bytes = between_marks 34 bytes
 plain_text Sql bytes = between_marks 39 bytes
 
--- any other text: its bytes as hex
-abbrev pub other_text : Form → List ℕ → List ℕ
+-- any other text: its bytes as they are stored, as hex
+abbrev pub other_text : Notation → List ℕ → List ℕ
 other_text Json bytes = tagged_hex (codes "text") bytes
 other_text Csv bytes = codes "T" ++ hex_literal bytes
 other_text Sql bytes = codes "CAST(" ++ (hex_literal bytes ++ codes " AS TEXT)")
 
+-- The text of a text, of these bytes.
+abbrev pub IsTextText : Form → (bytes : List ℕ) → List ℕ → Type 0
+IsTextText form bytes t =
+    ((utf8 : List ℕ) × IsPlain form bytes utf8 × (t ≡ plain_text form.notation utf8)) ⊎ (((utf8 : List ℕ) → ¬ IsPlain form bytes utf8) × (t ≡ other_text form.notation bytes))
+
 -- The text of a value.
 abbrev pub IsText : Form → Datum → List ℕ → Type 0
-IsText form null t = t ≡ null_text form
-IsText form (integer n) t = t ≡ integer_text form n
-IsText form (real bytes) t = IsReal form (float_of bytes) t
-IsText form (text bytes) t = (IsPlain form bytes → t ≡ plain_text form bytes) × (¬ IsPlain form bytes → t ≡ other_text form bytes)
-IsText form (blob bytes) t = t ≡ blob_text form bytes
+IsText form null t = t ≡ null_text form.notation
+IsText form (integer n) t = t ≡ integer_text form.notation n
+IsText form (real bytes) t = IsReal form.notation (float_of bytes) t
+IsText form (text bytes) t = IsTextText form bytes t
+IsText form (blob bytes) t = t ≡ blob_text form.notation bytes
 
 -- what stands before value i, from 0
 abbrev pub mark_before : (i : ℕ) → List ℕ
@@ -115,7 +126,7 @@ name_text (Some name) i = json_string name
 name_text None i = codes "\"c" ++ (decimal (suc i) ++ codes "\"")
 
 -- its name in an object of JSON
-abbrev pub label : Form → List (List ℕ) → (i : ℕ) → List ℕ
+abbrev pub label : Notation → List (List ℕ) → (i : ℕ) → List ℕ
 label Json names i = name_text (slice_get names i) i ++ codes ":"
 label Csv names i = []
 label Sql names i = []
@@ -125,31 +136,31 @@ abbrev pub AreTexts : Form → List (List ℕ) → (i : ℕ) → List Datum → 
 AreTexts form names i [] t = t ≡ []
 AreTexts form names i (v ∷ vs) t =
     (own : List ℕ) × (more : List ℕ) × IsText form v own × AreTexts form names (suc i) vs more
-    × (t ≡ mark_before i ++ (label form names i ++ (own ++ more)))
+    × (t ≡ mark_before i ++ (label form.notation names i ++ (own ++ more)))
 
 -- what a line begins with; for an INSERT all that stands before its values
-abbrev pub line_start : Form → (insert : List ℕ) → List ℕ
+abbrev pub line_start : Notation → (insert : List ℕ) → List ℕ
 line_start Json insert = codes "{"
 line_start Csv insert = []
 line_start Sql insert = insert
 
-abbrev pub line_end : Form → List ℕ
+abbrev pub line_end : Notation → List ℕ
 line_end Json = codes "}\n"
 line_end Csv = codes "\n"
 line_end Sql = codes ");\n"
 
 -- the name of the rowid before the values
-abbrev pub lead_label : Form → List ℕ
+abbrev pub lead_label : Notation → List ℕ
 lead_label Json = codes "\"rowid\":"
 lead_label Csv = []
 lead_label Sql = []
 
 -- the rowid before so many values, where it is written
-abbrev pub lead_text : Form → (rowid : Option ℤ) → (count : ℕ) → List ℕ
-lead_text form None count = []
-lead_text form (Some id) count = lead_label form ++ (integer_text form id ++ mark_before count)
+abbrev pub lead_text : Notation → (rowid : Option ℤ) → (count : ℕ) → List ℕ
+lead_text notation None count = []
+lead_text notation (Some id) count = lead_label notation ++ (integer_text notation id ++ mark_before count)
 
 -- The line of a row, whose rowid stands before its values or is left out.
 abbrev pub IsLine : Form → (insert : List ℕ) → List (List ℕ) → (rowid : Option ℤ) → List Datum → List ℕ → Type 0
 IsLine form insert names rowid values t =
-    (all : List ℕ) × AreTexts form names 0 values all × (t ≡ line_start form insert ++ (lead_text form rowid (length values) ++ (all ++ line_end form)))
+    (all : List ℕ) × AreTexts form names 0 values all × (t ≡ line_start form.notation insert ++ (lead_text form.notation rowid (length values) ++ (all ++ line_end form.notation)))

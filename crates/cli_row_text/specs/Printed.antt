@@ -9,7 +9,7 @@ use Rattle.sqrows.specs.Stops.{ComeFirst, HoldsAt, IsNoRecord, TreeRefused, RowR
 use Rattle.sqtables.specs.declared.columns.Columns.{Columns}
 use Rattle.sqtables.specs.Columns.{shown}
 use Rattle.cli_row_text.specs.declared.form.Form.{Form}
-use Rattle.cli_row_text.specs.declared.form.Form.TheVariants.{Sql}
+use Rattle.cli_row_text.specs.declared.form.Notation.TheVariants.{Sql}
 use Rattle.cli_row_text.specs.declared.print.PrintError.{PrintError}
 use Rattle.cli_row_text.specs.declared.print.PrintError.TheVariants.{Tree, Row as RowError, Record, NoMemory, Default, Behind, Write}
 use Rattle.cli_row_text.specs.Lines.{IsLine}
@@ -49,7 +49,7 @@ PrintRefused d root form columns k (RowError e) = RowRefused d root most_bytes k
 PrintRefused d root form columns k (Record e) = HoldsAt d root k (IsNoRecord d e)
 PrintRefused d root form columns k NoMemory = Unit {0}
 PrintRefused d root form columns k Default = HoldsAt d root k (Lacks d columns)
-PrintRefused d root form columns k Behind = (form ≡ Sql) × HoldsAt d root k (HasMore d columns)
+PrintRefused d root form columns k Behind = (form.notation ≡ Sql) × HoldsAt d root k (HasMore d columns)
 PrintRefused d root form columns k (Write e) = Unit {0}
 
 -- This text was written and no more, unless it was the writer that failed.

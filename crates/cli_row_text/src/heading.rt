@@ -4,50 +4,50 @@ ghost use Rattle.std.specs.Io.KnownBytes.{Appends};
 ghost use Rattle.std.specs.List.{flat_map};
 ghost use Rattle.cli_row_text.specs.Headings.{heading_text, name_in_quotes, names_listed, next_name};
 
-use crate::form::Form;
+use crate::form::Notation;
 use crate::value::{write_between, write_string};
 use std::io::{self, Write};
 
 /// A name in quotes.
-fn write_quoted<W: Write>(out: &mut W, form: Form, name: &[u8]) -> io::Result<()>
-    ensures { OnOk result (Appends (W.contents out.old) (W.contents out.new) (name_in_quotes form name.now)) }
+fn write_quoted<W: Write>(out: &mut W, notation: Notation, name: &[u8]) -> io::Result<()>
+    ensures { OnOk result (Appends (W.contents out.old) (W.contents out.new) (name_in_quotes notation name.now)) }
 {
-    match form {
-        Form::Json => write_string(out, name),
-        Form::Csv | Form::Sql => write_between(out, b'"', name),
+    match notation {
+        Notation::Json => write_string(out, name),
+        Notation::Csv | Notation::Sql => write_between(out, b'"', name),
     }
 }
 
 /// The same behind a comma.
-fn write_next<W: Write>(out: &mut W, form: Form, name: &[u8]) -> io::Result<()>
-    ensures { OnOk result (Appends (W.contents out.old) (W.contents out.new) (next_name form name.now)) }
+fn write_next<W: Write>(out: &mut W, notation: Notation, name: &[u8]) -> io::Result<()>
+    ensures { OnOk result (Appends (W.contents out.old) (W.contents out.new) (next_name notation name.now)) }
 {
     out.write_all(b",")?;
-    write_quoted(out, form, name)
+    write_quoted(out, notation, name)
 }
 
 /// Names behind another, each behind a comma.
 #[tactic(auto, using(crate::proofs::NamesWritten::texts_more))]
-fn write_others<W: Write>(out: &mut W, form: Form, names: &[Vec<u8>]) -> io::Result<()>
+fn write_others<W: Write>(out: &mut W, notation: Notation, names: &[Vec<u8>]) -> io::Result<()>
     ensures { OnOk result (Appends (W.contents out.old) (W.contents out.new)
-        (flat_map (next_name form) (map (λ n. n.items) names.now))) }
+        (flat_map (next_name notation) (map (λ n. n.items) names.now))) }
 {
     for name in names {
-        write_next(out, form, name)?;
+        write_next(out, notation, name)?;
     }
     Ok(())
 }
 
 /// Names with commas between them.
 #[tactic(auto, using(crate::proofs::NamesWritten::listed_first, crate::proofs::NamesWritten::listed_none))]
-fn write_listed<W: Write>(out: &mut W, form: Form, names: &[Vec<u8>]) -> io::Result<()>
+fn write_listed<W: Write>(out: &mut W, notation: Notation, names: &[Vec<u8>]) -> io::Result<()>
     ensures { OnOk result (Appends (W.contents out.old) (W.contents out.new)
-        (names_listed form (map (λ n. n.items) names.now))) }
+        (names_listed notation (map (λ n. n.items) names.now))) }
 {
     match names.split_first() {
         Some((first, others)) => {
-            write_quoted(out, form, first)?;
-            write_others(out, form, others)
+            write_quoted(out, notation, first)?;
+            write_others(out, notation, others)
         }
         None => Ok(()),
     }
@@ -57,25 +57,25 @@ fn write_listed<W: Write>(out: &mut W, form: Form, names: &[Vec<u8>]) -> io::Res
 /// and `columns`, which is an array and so no row's; a line of names; nothing before INSERTs. An error of the writer.
 pub fn write_heading<W: Write>(
     out: &mut W,
-    form: Form,
+    notation: Notation,
     table: &[u8],
     names: &[Vec<u8>],
 ) -> io::Result<()>
     ensures { OnOk result (Appends (W.contents out.old) (W.contents out.new)
-        (heading_text form table.now (map (λ n. n.items) names.now))) }
+        (heading_text notation table.now (map (λ n. n.items) names.now))) }
 {
-    match form {
-        Form::Json => {
+    match notation {
+        Notation::Json => {
             out.write_all(b"{\"table\":")?;
             write_string(out, table)?;
             out.write_all(b",\"columns\":[")?;
-            write_listed(out, form, names)?;
+            write_listed(out, notation, names)?;
             out.write_all(b"]}\n")
         }
-        Form::Csv => {
-            write_listed(out, form, names)?;
+        Notation::Csv => {
+            write_listed(out, notation, names)?;
             out.write_all(b"\n")
         }
-        Form::Sql => Ok(()),
+        Notation::Sql => Ok(()),
     }
 }

@@ -8,7 +8,7 @@ mod line;
 mod print;
 mod value;
 
-pub use form::Form;
+pub use form::{Form, Notation};
 pub use heading::write_heading;
 pub use insert::write_insert;
 pub use line::{write_line, write_values};

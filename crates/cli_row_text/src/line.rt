@@ -5,7 +5,7 @@ ghost use Rattle.sqval.specs.Datum.{datum_of, row_of};
 ghost use Rattle.cli_row_text.specs.Lines.{mark_before, name_text, label, AreTexts, line_start, line_end};
 ghost use Rattle.cli_row_text.specs.Lines.{IsLine, IsText, lead_label, lead_text};
 
-use crate::form::Form;
+use crate::form::{Form, Notation};
 use crate::value::{write_integer, write_string, write_value};
 use sqval::Value;
 use std::io::{self, Write};
@@ -33,39 +33,44 @@ fn write_name<W: Write>(out: &mut W, name: Option<&Vec<u8>>, i: usize) -> io::Re
 }
 
 /// The name of value `i`.
-fn write_label<W: Write>(out: &mut W, form: Form, names: &[Vec<u8>], i: usize) -> io::Result<()>
+fn write_label<W: Write>(
+    out: &mut W,
+    notation: Notation,
+    names: &[Vec<u8>],
+    i: usize,
+) -> io::Result<()>
     requires { i < 2 ^ 63 }
     ensures { OnOk result (Appends (W.contents out.old) (W.contents out.new)
-        (label form (map (λ n. n.items) names.now) i)) }
+        (label notation (map (λ n. n.items) names.now) i)) }
 {
-    match form {
-        Form::Json => {
+    match notation {
+        Notation::Json => {
             write_name(out, names.get(i), i)?;
             out.write_all(b":")
         }
-        Form::Csv | Form::Sql => Ok(()),
+        Notation::Csv | Notation::Sql => Ok(()),
     }
 }
 
 /// What a line begins with.
-fn write_start<W: Write>(out: &mut W, form: Form, insert: &[u8]) -> io::Result<()>
-    ensures { OnOk result (Appends (W.contents out.old) (W.contents out.new) (line_start form insert.now)) }
+fn write_start<W: Write>(out: &mut W, notation: Notation, insert: &[u8]) -> io::Result<()>
+    ensures { OnOk result (Appends (W.contents out.old) (W.contents out.new) (line_start notation insert.now)) }
 {
-    match form {
-        Form::Json => out.write_all(b"{"),
-        Form::Csv => Ok(()),
-        Form::Sql => out.write_all(insert),
+    match notation {
+        Notation::Json => out.write_all(b"{"),
+        Notation::Csv => Ok(()),
+        Notation::Sql => out.write_all(insert),
     }
 }
 
 /// What a line ends with.
-fn write_end<W: Write>(out: &mut W, form: Form) -> io::Result<()>
-    ensures { OnOk result (Appends (W.contents out.old) (W.contents out.new) (line_end form)) }
+fn write_end<W: Write>(out: &mut W, notation: Notation) -> io::Result<()>
+    ensures { OnOk result (Appends (W.contents out.old) (W.contents out.new) (line_end notation)) }
 {
-    match form {
-        Form::Json => out.write_all(b"}\n"),
-        Form::Csv => out.write_all(b"\n"),
-        Form::Sql => out.write_all(b");\n"),
+    match notation {
+        Notation::Json => out.write_all(b"}\n"),
+        Notation::Csv => out.write_all(b"\n"),
+        Notation::Sql => out.write_all(b");\n"),
     }
 }
 
@@ -80,10 +85,10 @@ fn write_part<W: Write>(
     requires { i < 2 ^ 63 }
     ensures { OnOk result ((t : List ℕ) × IsText form (datum_of value.entry) t
         × Appends (W.contents out.old) (W.contents out.new)
-        (mark_before i ++ (label form (map (λ n. n.items) names.now) i ++ t))) }
+        (mark_before i ++ (label form.notation (map (λ n. n.items) names.now) i ++ t))) }
 {
     write_mark(out, i)?;
-    write_label(out, form, names, i)?;
+    write_label(out, form.notation, names, i)?;
     write_value(out, form, value)
 }
 
@@ -104,23 +109,28 @@ pub fn write_values<W: Write>(
 }
 
 /// The name of a rowid before the values.
-fn write_lead_label<W: Write>(out: &mut W, form: Form) -> io::Result<()>
-    ensures { OnOk result (Appends (W.contents out.old) (W.contents out.new) (lead_label form)) }
+fn write_lead_label<W: Write>(out: &mut W, notation: Notation) -> io::Result<()>
+    ensures { OnOk result (Appends (W.contents out.old) (W.contents out.new) (lead_label notation)) }
 {
-    match form {
-        Form::Json => out.write_all(b"\"rowid\":"),
-        Form::Csv | Form::Sql => Ok(()),
+    match notation {
+        Notation::Json => out.write_all(b"\"rowid\":"),
+        Notation::Csv | Notation::Sql => Ok(()),
     }
 }
 
 /// The rowid before so many values, where it is written.
-fn write_lead<W: Write>(out: &mut W, form: Form, rowid: Option<i64>, count: usize) -> io::Result<()>
-    ensures { OnOk result (Appends (W.contents out.old) (W.contents out.new) (lead_text form rowid count)) }
+fn write_lead<W: Write>(
+    out: &mut W,
+    notation: Notation,
+    rowid: Option<i64>,
+    count: usize,
+) -> io::Result<()>
+    ensures { OnOk result (Appends (W.contents out.old) (W.contents out.new) (lead_text notation rowid count)) }
 {
     match rowid {
         Some(id) => {
-            write_lead_label(out, form)?;
-            write_integer(out, form, id)?;
+            write_lead_label(out, notation)?;
+            write_integer(out, notation, id)?;
             write_mark(out, count)
         }
         None => Ok(()),
@@ -141,8 +151,8 @@ pub fn write_line<W: Write>(
         × IsLine form insert.now (map (λ n. n.items) names.now) rowid (row_of values.now) t
         × Appends (W.contents out.old) (W.contents out.new) t) }
 {
-    write_start(out, form, insert)?;
-    write_lead(out, form, rowid, values.len())?;
+    write_start(out, form.notation, insert)?;
+    write_lead(out, form.notation, rowid, values.len())?;
     write_values(out, form, names, values)?;
-    write_end(out, form)
+    write_end(out, form.notation)
 }

@@ -3,11 +3,11 @@ ghost use Rattle.std.specs.Prelude.{◌≡◌, ◌≤◌, ℕ, List, OnOk, IfOk,
 ghost use Rattle.std.specs.Io.KnownBytes.{Appends};
 ghost use Rattle.sqpage.specs.Source.{KeepsPages};
 ghost use Rattle.cli_row_text.specs.Printed.{IsRowLine, IsPrinted, IsPrintedUntil, led_by};
-ghost use Rattle.cli_row_text.specs.declared.form.Form.{Form};
+ghost use Rattle.cli_row_text.specs.declared.form.Notation.{Notation};
 ghost use Rattle.cli_row_text.specs.internal.Printing.{PrintsNext, LineRefused, NextRefused, IsKept};
 ghost use Rattle.sqrows.specs.Cursor.{IsOver};
 
-use crate::form::Form;
+use crate::form::{Form, Notation};
 use crate::line::write_line;
 use sqpage::{CheckError, PageSource};
 use sqrows::{Row, Rows, RowsError};
@@ -65,7 +65,7 @@ fn led_by(leads: bool, rowid: Option<i64>) -> Option<i64>
 /// Refused where not each value of a row is known, or an INSERT can't have them all.
 fn written_whole(row: &Row<'_>, style: &Style<'_>) -> Result<(), PrintError>
     ensures known { OnOk result (style.now.columns.now.needed ≤ length row.now.values) }
-    ensures named { OnOk result (style.now.form ≡ Form.Sql
+    ensures named { OnOk result (style.now.form.notation ≡ Notation.Sql
         → length row.now.values ≤ length style.now.columns.now.names.items) }
     ensures err { IfErr result
         (LineRefused style.now (record { rowid = row.now.rowid; values = row.now.values })) }
@@ -73,7 +73,7 @@ fn written_whole(row: &Row<'_>, style: &Style<'_>) -> Result<(), PrintError>
     if row.values.len() < style.columns.needed {
         return Err(PrintError::Default);
     }
-    if style.form == Form::Sql && row.values.len() > style.columns.names.len() {
+    if style.form.notation == Notation::Sql && row.values.len() > style.columns.names.len() {
         return Err(PrintError::Behind);
     }
     Ok(())

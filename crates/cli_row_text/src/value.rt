@@ -10,17 +10,22 @@ ghost use Rattle.cli_row_text.specs.Lines.{doubled, between_marks, escaped, json
 ghost use Rattle.cli_row_text.specs.Lines.{hex_literal};
 ghost use Rattle.cli_row_text.specs.Lines.{is_safe};
 ghost use Rattle.cli_row_text.specs.Lines.{integer_text, json_integer, tagged_integer, null_text, float_of, IsReal};
+ghost use Rattle.std.specs.Char.{encode_utf8};
+ghost use Rattle.sqtext.specs.Texts.{IsTextOf, has_zero};
+ghost use Rattle.sqtext.specs.internal.Utf16.{IsUtf16Of};
 ghost use Rattle.cli_row_text.specs.Lines.{blob_text, plain_text, other_text, wide_text, IsText};
-ghost use Rattle.cli_row_text.specs.Lines.{has_zero as has_zero_byte, IsPlain};
+ghost use Rattle.cli_row_text.specs.Lines.{IsPlain, Stands};
+ghost use Rattle.cli_row_text.specs.internal.Quoting.{byte_text, mark_of};
 
-use crate::form::Form;
+use crate::form::{Form, Notation};
 use byteorder::{BigEndian, ByteOrder};
 use cli_text::write_hex;
 use memchr::memchr;
 use ryu::Buffer;
+use sqdeep::Encoding;
+use sqtext::{has_nul, split_char};
 use sqval::Value;
 use std::io::{self, Write};
-use std::str;
 
 /// The integers that JSON's readers take as they are.
 const SAFE: i64 = 9_007_199_254_740_992;
@@ -152,37 +157,108 @@ fn write_literal<W: Write>(out: &mut W, bytes: &[u8]) -> io::Result<()>
 }
 
 /// A BLOB.
-fn write_blob<W: Write>(out: &mut W, form: Form, bytes: &[u8]) -> io::Result<()>
-    ensures { OnOk result (Appends (W.contents out.old) (W.contents out.new) (blob_text form bytes.now)) }
+fn write_blob<W: Write>(out: &mut W, notation: Notation, bytes: &[u8]) -> io::Result<()>
+    ensures { OnOk result (Appends (W.contents out.old) (W.contents out.new) (blob_text notation bytes.now)) }
 {
-    match form {
-        Form::Json => write_tagged(out, "blob", bytes),
-        Form::Csv | Form::Sql => write_literal(out, bytes),
+    match notation {
+        Notation::Json => write_tagged(out, "blob", bytes),
+        Notation::Csv | Notation::Sql => write_literal(out, bytes),
     }
 }
 
-/// A text that stands as it is.
-fn write_plain<W: Write>(out: &mut W, form: Form, bytes: &[u8]) -> io::Result<()>
-    ensures { OnOk result (Appends (W.contents out.old) (W.contents out.new) (plain_text form bytes.now)) }
+/// A text of UTF-8 that stands as it is.
+fn write_utf8<W: Write>(out: &mut W, notation: Notation, text: &[u8]) -> io::Result<()>
+    ensures { OnOk result (Appends (W.contents out.old) (W.contents out.new) (plain_text notation text.now)) }
 {
-    match form {
-        Form::Json => write_string(out, bytes),
-        Form::Csv => write_between(out, b'"', bytes),
-        Form::Sql => write_between(out, b'\'', bytes),
+    match notation {
+        Notation::Json => write_string(out, text),
+        Notation::Csv => write_between(out, b'"', text),
+        Notation::Sql => write_between(out, b'\'', text),
+    }
+}
+
+/// Bytes of a text of UTF-8 between its marks.
+fn write_inner<W: Write>(out: &mut W, notation: Notation, text: &[u8]) -> io::Result<()>
+    ensures { OnOk result (Appends (W.contents out.old) (W.contents out.new)
+        (flat_map (byte_text notation) text.now)) }
+{
+    match notation {
+        Notation::Json => write_all_escaped(out, text),
+        Notation::Csv => write_all_doubled(out, b'"', text),
+        Notation::Sql => write_all_doubled(out, b'\'', text),
+    }
+}
+
+/// A character between them.
+fn write_char<W: Write>(out: &mut W, notation: Notation, c: char) -> io::Result<()>
+    ensures { OnOk result (Appends (W.contents out.old) (W.contents out.new)
+        (flat_map (byte_text notation) (encode_utf8 c))) }
+{
+    let mut buffer = [0u8; 4];
+    write_inner(out, notation, c.encode_utf8(&mut buffer).as_bytes())
+}
+
+/// The characters of UTF-16 between them.
+fn write_chars<W: Write>(out: &mut W, notation: Notation, big: bool, bytes: &[u8]) -> io::Result<()>
+    ensures { (text : List ℕ) → IsUtf16Of big bytes.now text → OnOk result
+        (Appends (W.contents out.old) (W.contents out.new) (flat_map (byte_text notation) text)) }
+{
+    let mut rest = bytes;
+    'chars: while !rest.is_empty() {
+        let (c, others) = match split_char(big, rest) {
+            Some(found) => found,
+            None => return Ok(()),
+        };
+        write_char(out, notation, c)?;
+        rest = others;
+    }
+    Ok(())
+}
+
+/// The mark before and behind a text.
+fn mark_of(notation: Notation) -> u8
+    ensures { result ≡ mark_of notation }
+{
+    match notation {
+        Notation::Json | Notation::Csv => b'"',
+        Notation::Sql => b'\'',
+    }
+}
+
+/// A text of UTF-16 that stands as its characters.
+fn write_utf16<W: Write>(out: &mut W, notation: Notation, big: bool, bytes: &[u8]) -> io::Result<()>
+    ensures { (text : List ℕ) → IsUtf16Of big bytes.now text → OnOk result
+        (Appends (W.contents out.old) (W.contents out.new) (plain_text notation text)) }
+{
+    let mark = mark_of(notation);
+    out.write_all(&[mark])?;
+    write_chars(out, notation, big, bytes)?;
+    out.write_all(&[mark])
+}
+
+/// A text that stands as its characters.
+fn write_plain<W: Write>(out: &mut W, form: Form, bytes: &[u8]) -> io::Result<()>
+    ensures { (text : List ℕ) → IsTextOf form.encoding bytes.now text → OnOk result
+        (Appends (W.contents out.old) (W.contents out.new) (plain_text form.notation text)) }
+{
+    match form.encoding {
+        Encoding::Utf8 => write_utf8(out, form.notation, bytes),
+        Encoding::Utf16Le => write_utf16(out, form.notation, false, bytes),
+        Encoding::Utf16Be => write_utf16(out, form.notation, true, bytes),
     }
 }
 
 /// Any other text.
-fn write_other<W: Write>(out: &mut W, form: Form, bytes: &[u8]) -> io::Result<()>
-    ensures { OnOk result (Appends (W.contents out.old) (W.contents out.new) (other_text form bytes.now)) }
+fn write_other<W: Write>(out: &mut W, notation: Notation, bytes: &[u8]) -> io::Result<()>
+    ensures { OnOk result (Appends (W.contents out.old) (W.contents out.new) (other_text notation bytes.now)) }
 {
-    match form {
-        Form::Json => write_tagged(out, "text", bytes),
-        Form::Csv => {
+    match notation {
+        Notation::Json => write_tagged(out, "text", bytes),
+        Notation::Csv => {
             out.write_all(b"T")?;
             write_literal(out, bytes)
         }
-        Form::Sql => {
+        Notation::Sql => {
             out.write_all(b"CAST(")?;
             write_literal(out, bytes)?;
             out.write_all(b" AS TEXT)")
@@ -191,13 +267,13 @@ fn write_other<W: Write>(out: &mut W, form: Form, bytes: &[u8]) -> io::Result<()
 }
 
 /// NULL.
-fn write_null<W: Write>(out: &mut W, form: Form) -> io::Result<()>
-    ensures { OnOk result (Appends (W.contents out.old) (W.contents out.new) (null_text form)) }
+fn write_null<W: Write>(out: &mut W, notation: Notation) -> io::Result<()>
+    ensures { OnOk result (Appends (W.contents out.old) (W.contents out.new) (null_text notation)) }
 {
-    match form {
-        Form::Json => out.write_all(b"null"),
-        Form::Csv => Ok(()),
-        Form::Sql => out.write_all(b"NULL"),
+    match notation {
+        Notation::Json => out.write_all(b"null"),
+        Notation::Csv => Ok(()),
+        Notation::Sql => out.write_all(b"NULL"),
     }
 }
 
@@ -236,21 +312,21 @@ fn write_json_integer<W: Write>(out: &mut W, number: i64) -> io::Result<()>
 }
 
 /// An integer. An error of the writer.
-pub fn write_integer<W: Write>(out: &mut W, form: Form, number: i64) -> io::Result<()>
-    ensures { OnOk result (Appends (W.contents out.old) (W.contents out.new) (integer_text form number)) }
+pub fn write_integer<W: Write>(out: &mut W, notation: Notation, number: i64) -> io::Result<()>
+    ensures { OnOk result (Appends (W.contents out.old) (W.contents out.new) (integer_text notation number)) }
 {
-    match form {
-        Form::Json => write_json_integer(out, number),
-        Form::Csv | Form::Sql => write_number(out, number),
+    match notation {
+        Notation::Json => write_json_integer(out, number),
+        Notation::Csv | Notation::Sql => write_number(out, number),
     }
 }
 
 /// A number that isn't finite.
-fn write_wide<W: Write>(out: &mut W, form: Form, number: f64) -> io::Result<()>
-    ensures { OnOk result (Appends (W.contents out.old) (W.contents out.new) (wide_text form number)) }
+fn write_wide<W: Write>(out: &mut W, notation: Notation, number: f64) -> io::Result<()>
+    ensures { OnOk result (Appends (W.contents out.old) (W.contents out.new) (wide_text notation number)) }
 {
     if number.is_nan() {
-        return write_null(out, form);
+        return write_null(out, notation);
     }
     if number.is_sign_negative() {
         out.write_all(b"-9e999")
@@ -260,41 +336,41 @@ fn write_wide<W: Write>(out: &mut W, form: Form, number: f64) -> io::Result<()>
 }
 
 /// A floating-point number of eight bytes.
-fn write_real<W: Write>(out: &mut W, form: Form, bytes: [u8; 8]) -> io::Result<()>
-    ensures { OnOk result ((t : List ℕ) × IsReal form (float_of bytes) t
+fn write_real<W: Write>(out: &mut W, notation: Notation, bytes: [u8; 8]) -> io::Result<()>
+    ensures { OnOk result ((t : List ℕ) × IsReal notation (float_of bytes) t
         × Appends (W.contents out.old) (W.contents out.new) t) }
 {
     let number = BigEndian::read_f64(&bytes);
     if !number.is_finite() {
-        return write_wide(out, form, number);
+        return write_wide(out, notation, number);
     }
     let mut buffer = Buffer::new();
     out.write_all(buffer.format_finite(number).as_bytes())
 }
 
-/// Whether a text has a zero byte.
-fn has_zero(bytes: &[u8]) -> bool
-    ensures { result ≡ has_zero_byte bytes.now }
+/// Whether a text stands as its characters, which has the character NUL or not.
+fn can_stand(notation: Notation, nul: bool) -> bool
+    ensures yes { IsTrue result → (text : List ℕ) → nul ≡ has_zero text → Stands notation text }
+    ensures not { result ≡ false → (text : List ℕ) → nul ≡ has_zero text → ¬ Stands notation text }
 {
-    bytes.contains(&0)
+    match notation {
+        Notation::Json | Notation::Csv => true,
+        Notation::Sql => !nul,
+    }
 }
 
-/// Whether a text stands as it is.
+/// Whether a text of these bytes stands as its characters.
 fn is_plain(form: Form, bytes: &[u8]) -> bool
-    ensures yes { IsTrue result → IsPlain form bytes.now }
-    ensures not { result ≡ false → ¬ IsPlain form bytes.now }
+    ensures yes { IsTrue result → (text : List ℕ) × IsPlain form bytes.now text }
+    ensures not { result ≡ false → (text : List ℕ) → ¬ IsPlain form bytes.now text }
 {
-    match str::from_utf8(bytes) {
-        Ok(_) => {}
-        Err(_) => return false,
-    }
-    match form {
-        Form::Json | Form::Csv => true,
-        Form::Sql => !has_zero(bytes),
+    match has_nul(form.encoding, bytes) {
+        Some(nul) => can_stand(form.notation, nul),
+        None => false,
     }
 }
 
-/// A text.
+/// A text of these bytes.
 fn write_text<W: Write>(out: &mut W, form: Form, bytes: &[u8]) -> io::Result<()>
     ensures { OnOk result ((t : List ℕ) × IsText form (text_datum bytes.now) t
         × Appends (W.contents out.old) (W.contents out.new) t) }
@@ -302,7 +378,7 @@ fn write_text<W: Write>(out: &mut W, form: Form, bytes: &[u8]) -> io::Result<()>
     if is_plain(form, bytes) {
         write_plain(out, form, bytes)
     } else {
-        write_other(out, form, bytes)
+        write_other(out, form.notation, bytes)
     }
 }
 
@@ -312,10 +388,10 @@ pub fn write_value<W: Write>(out: &mut W, form: Form, value: Value<'_>) -> io::R
         × Appends (W.contents out.old) (W.contents out.new) t) }
 {
     match value {
-        Value::Null => write_null(out, form),
-        Value::Int(number) => write_integer(out, form, number),
-        Value::Real(bytes) => write_real(out, form, bytes),
+        Value::Null => write_null(out, form.notation),
+        Value::Int(number) => write_integer(out, form.notation, number),
+        Value::Real(bytes) => write_real(out, form.notation, bytes),
         Value::Text(bytes) => write_text(out, form, bytes),
-        Value::Blob(bytes) => write_blob(out, form, bytes),
+        Value::Blob(bytes) => write_blob(out, form.notation, bytes),
     }
 }

@@ -18,7 +18,7 @@ use Rattle.cli_show_diff.specs.Stops.{AreBothToldUntil}
 use Rattle.cli_show_diff.specs.internal.Walks.{AreWritten, NextRefused, TellsNext, before_next}
 
 pub texts_snoc : (style : Style) (cs : List Change) (c : Change) (t own : List ℕ) → AreChangeTexts style cs t
-    → IsChangeText style.writing style.head.now style.columns.now style.leads style.key c own → AreChangeTexts style (cs ++ c ∷ []) (t ++ own)
+    → IsChangeText style.encoding style.writing style.head.now style.columns.now style.leads style.key c own → AreChangeTexts style (cs ++ c ∷ []) (t ++ own)
 texts_snoc style [] c t own are is = (own, [], is, refl, ap (λ z. z ++ own) are ∙ sym (append-nil own))
 texts_snoc style (x ∷ cs) c t own are is =
     (are.0, are.1 ++ own, are.2, texts_snoc style cs c are.1 own are.3 is, ap (λ z. z ++ own) are.4 ∙ append_assoc are.0 are.1 own)

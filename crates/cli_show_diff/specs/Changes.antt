@@ -1,14 +1,18 @@
 -- The changes between two databases as they are printed, and why they aren't (own).
-use Rattle.std.specs.Prelude.{◌≡◌, ◌⊎◌, ◌≤◌, ℕ, Bool, true, false, List, [], ◌∷◌, length, map, take, slice_get, Option, Some, All}
+use Rattle.std.specs.Prelude.{◌≡◌, ◌≢◌, ◌⊎◌, ◌≤◌, ℕ, Bool, true, false, List, [], ◌∷◌, length, map, take, slice_get, Option, Some, None, All}
 use Rattle.std.specs.Borrow.{Bor}
 use Rattle.std.specs.Io.KnownBytes.{Appends}
 use Rattle.std.specs.List.{Contains}
 use Rattle.sqval.specs.Bytes.{word}
 use Rattle.sqval.specs.Database.{Database, page}
 use Rattle.sqtables.specs.declared.list.Object.{Object}
-use Rattle.sqtables.specs.Objects.{HasObjects, IsTableNamed}
+use Rattle.sqtables.specs.Objects.{IsTableNamed}
+use Rattle.sqdeep.specs.declared.text.Encoding.{Encoding}
+use Rattle.sqdeep.specs.declared.text.Encoding.TheVariants.{Utf8}
+use Rattle.sqdeep.specs.Records.{encoding_of}
 use Rattle.cli_show_rows.specs.declared.stop.Stop.{Stop}
-use Rattle.cli_show_rows.specs.declared.stop.Stop.TheVariants.{NotUnderstood, NoSuchTable}
+use Rattle.cli_show_rows.specs.declared.stop.Stop.TheVariants.{Encoding as Encodings, NotUnderstood, NoSuchTable}
+use Rattle.cli_show_rows.specs.Schemas.{HasObjectsRead}
 use Rattle.cli_show_rows.specs.Stops.{IsWriteError, SchemaRefused}
 use Rattle.cli_show_diff.specs.declared.changes.Schemas.{Schemas}
 use Rattle.cli_show_diff.specs.declared.form.ChangeForm.{ChangeForm}
@@ -19,9 +23,21 @@ use Rattle.cli_show_diff.specs.Frames.{IsWritten, closing_text, opening_text}
 use Rattle.cli_show_diff.specs.Pairs.{IsPairPrinted, IsPairStopped}
 use Rattle.cli_show_diff.specs.Turns.{AreTurnsPrinted, AreTurnsStopped, IsFound}
 
--- the objects of a database, whose texts are UTF-8; one without pages has none
-abbrev pub HasObjectsOf : Database → List Object → Type 0
-HasObjectsOf d objects = ((length d ≡ 0) × (objects ≡ [])) ⊎ (HasObjects d objects × (word (page d 1) 56 ≤ 1))
+-- a database has pages, and its texts are in this encoding
+abbrev pub IsEncoded : Database → Encoding → Type 0
+IsEncoded d encoding = (length d ≢ 0) × (encoding ≡ encoding_of d)
+
+-- the objects of a database and the encoding of its texts; one without pages has neither
+abbrev pub HasObjectsOf : Database → Option Encoding → List Object → Type 0
+HasObjectsOf d None objects = (length d ≡ 0) × (objects ≡ [])
+HasObjectsOf d (Some encoding) objects = IsEncoded d encoding × HasObjectsRead d objects × (word (page d 1) 56 ≤ 3)
+
+-- The encoding that two databases have in common; where neither has one that of a new database.
+abbrev pub IsCommon : (old new : Option Encoding) → Encoding → Type 0
+IsCommon None None encoding = encoding ≡ Utf8
+IsCommon None (Some is) encoding = encoding ≡ is
+IsCommon (Some was) None encoding = encoding ≡ was
+IsCommon (Some was) (Some is) encoding = (encoding ≡ was) × (encoding ≡ is)
 
 -- the tables of the old database in their turn, and those of the new one that it lacks
 abbrev pub turn_old : Schemas → (internal : Bool) → Turn
@@ -91,25 +107,28 @@ AreAskedStopped d e schemas [] form stop before after = AreAllStopped d e schema
 AreAskedStopped d e schemas (name ∷ names) form stop before after = AreNamedStopped d e schemas (name ∷ names) form stop before after
 
 -- They were printed between what stands before and behind them.
-abbrev pub AreFramedPrinted : Database → Database → Schemas → (names : List (List ℕ)) → ChangeForm → (before after : Option (List ℕ)) → Type 0
-AreFramedPrinted d e schemas names form before after =
-    (begun ended : Option (List ℕ)) × Appends before begun (opening_text form schemas.old.now) × AreAskedPrinted d e schemas names form begun ended
+abbrev pub AreFramedPrinted : Database → Database → Schemas → (names : List (List ℕ)) → ChangeForm → Encoding → (before after : Option (List ℕ)) → Type 0
+AreFramedPrinted d e schemas names form encoding before after =
+    (begun ended : Option (List ℕ)) × Appends before begun (opening_text form encoding schemas.old.now) × AreAskedPrinted d e schemas names form begun ended
     × Appends ended after (closing_text form schemas.new.now)
 
 -- They weren't: the writer failed, an object can't be written, or the printing stopped behind what stands before.
-abbrev pub AreFramedStopped : Database → Database → Schemas → (names : List (List ℕ)) → ChangeForm → Stop → (before after : Option (List ℕ)) → Type 0
-AreFramedStopped d e schemas names form stop before after =
+abbrev pub AreFramedStopped : Database → Database → Schemas → (names : List (List ℕ)) → ChangeForm → Encoding → Stop → (before after : Option (List ℕ)) → Type 0
+AreFramedStopped d e schemas names form encoding stop before after =
     IsWriteError stop
     ⊎ ((o : Object) × (Contains schemas.old.now o ⊎ Contains schemas.new.now o) × (¬ IsWritten form o) × (stop ≡ NotUnderstood) × (before ≡ after))
-    ⊎ ((begun : Option (List ℕ)) × Appends before begun (opening_text form schemas.old.now) × AreAskedStopped d e schemas names form stop begun after)
+    ⊎ ((begun : Option (List ℕ)) × Appends before begun (opening_text form encoding schemas.old.now) × AreAskedStopped d e schemas names form stop begun after)
 
--- The changes between two databases were printed.
+-- The changes between two databases were printed, whose texts are in one encoding.
 abbrev pub AreChangesPrinted : Database → Database → (names : List (List ℕ)) → ChangeForm → (before after : Option (List ℕ)) → Type 0
 AreChangesPrinted d e names form before after =
-    (schemas : Schemas) × HasObjectsOf d schemas.old.now × HasObjectsOf e schemas.new.now × AreFramedPrinted d e schemas names form before after
+    (schemas : Schemas) × (was is : Option Encoding) × (encoding : Encoding) × HasObjectsOf d was schemas.old.now × HasObjectsOf e is schemas.new.now
+    × IsCommon was is encoding × AreFramedPrinted d e schemas names form encoding before after
 
--- They weren't to their end: the objects of one of both aren't listed, or the printing stopped.
+-- They weren't to their end: the objects of one of both aren't listed, their texts are in two encodings, or the printing stopped.
 abbrev pub AreChangesStopped : Database → Database → (names : List (List ℕ)) → ChangeForm → Stop → (before after : Option (List ℕ)) → Type 0
 AreChangesStopped d e names form stop before after =
     ((SchemaRefused d stop ⊎ SchemaRefused e stop) × (before ≡ after))
-    ⊎ ((schemas : Schemas) × HasObjectsOf d schemas.old.now × HasObjectsOf e schemas.new.now × AreFramedStopped d e schemas names form stop before after)
+    ⊎ ((was is : Encoding) × IsEncoded d was × IsEncoded e is × (was ≢ is) × (stop ≡ Encodings) × (before ≡ after))
+    ⊎ ((schemas : Schemas) × (was is : Option Encoding) × (encoding : Encoding) × HasObjectsOf d was schemas.old.now × HasObjectsOf e is schemas.new.now
+    × IsCommon was is encoding × AreFramedStopped d e schemas names form encoding stop before after)

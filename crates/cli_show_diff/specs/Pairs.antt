@@ -6,9 +6,9 @@ use Rattle.std.specs.Str.{str_eq_ignore_ascii_case}
 use Rattle.sqval.specs.Database.{Database}
 use Rattle.sqtables.specs.declared.list.Object.{Object}
 use Rattle.cli_row_text.specs.Lines.{between_marks}
-use Rattle.cli_row_text.specs.declared.form.Form.TheVariants.{Sql as InSql}
+use Rattle.cli_row_text.specs.declared.form.Notation.TheVariants.{Sql as InSql}
 use Rattle.cli_show_rows.specs.declared.stop.Stop.{Stop}
-use Rattle.cli_show_rows.specs.Dumps.{making_text}
+use Rattle.cli_show_rows.specs.Dumps.{form_in, making_text}
 use Rattle.cli_show_rows.specs.Stops.{IsTableStopped, IsWriteError}
 use Rattle.cli_show_rows.specs.Tables.{IsTablePrinted}
 use Rattle.cli_change_text.specs.declared.style.Writing.TheVariants.{Line, Object as AsObject, Removal, Arrival}
@@ -57,13 +57,13 @@ IsGoneStopped d Sql table stop before after = IsWriteError stop
 abbrev pub IsMadePrinted : Database → ChangeForm → Object → (before after : Option (List ℕ)) → Type 0
 IsMadePrinted d Lines table before after = IsSidePrinted d table true Line before after
 IsMadePrinted d (Json commit) table before after = IsSidePrinted d table true (AsObject commit) before after
-IsMadePrinted d Sql table before after = (mid : Option (List ℕ)) × Appends before mid (making_text table) × IsTablePrinted d table InSql mid after
+IsMadePrinted d Sql table before after = (mid : Option (List ℕ)) × Appends before mid (making_text table) × IsTablePrinted d table (form_in d InSql) mid after
 
 abbrev pub IsMadeStopped : Database → ChangeForm → Object → Stop → (before after : Option (List ℕ)) → Type 0
 IsMadeStopped d Lines table stop before after = IsSideStopped d table true Line stop before after
 IsMadeStopped d (Json commit) table stop before after = IsSideStopped d table true (AsObject commit) stop before after
 IsMadeStopped d Sql table stop before after =
-    IsWriteError stop ⊎ ((mid : Option (List ℕ)) × Appends before mid (making_text table) × IsTableStopped d table InSql stop mid after)
+    IsWriteError stop ⊎ ((mid : Option (List ℕ)) × Appends before mid (making_text table) × IsTableStopped d table (form_in d InSql) stop mid after)
 
 -- the same, if there is a table
 abbrev pub IsGoneIfPrinted : Database → ChangeForm → Option (Bor Object) → (before after : Option (List ℕ)) → Type 0

@@ -12,7 +12,7 @@ use Rattle.cli_show_diff.specs.Sorted.{HasChangesBy}
 abbrev pub AreChangeTexts : Style → List Change → List ℕ → Type 0
 AreChangeTexts style [] t = t ≡ []
 AreChangeTexts style (c ∷ cs) t =
-    (own more : List ℕ) × IsChangeText style.writing style.head.now style.columns.now style.leads style.key c own × AreChangeTexts style cs more × (t ≡ own ++ more)
+    (own more : List ℕ) × IsChangeText style.encoding style.writing style.head.now style.columns.now style.leads style.key c own × AreChangeTexts style cs more × (t ≡ own ++ more)
 
 -- what stands before them, where there is one
 abbrev pub start_of : (before : List ℕ) → List Change → List ℕ

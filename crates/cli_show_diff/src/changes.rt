@@ -1,17 +1,18 @@
 //! The changes of all tables of a database, or of one of a name.
-ghost use Rattle.std.specs.Prelude.{◌≡◌, OnOk, IfOk, IfErr};
+ghost use Rattle.std.specs.Prelude.{◌≡◌, ◌≢◌, OnOk, IfOk, IfErr, MatchOption, Some};
 ghost use Rattle.sqpage.specs.Source.{KeepsPages};
 ghost use Rattle.cli_show_rows.specs.Stops.{SchemaRefused};
 ghost use Rattle.cli_show_diff.specs.Changes.{AreAllPrinted, AreAllStopped, AreAskedPrinted, AreAskedStopped};
 ghost use Rattle.cli_show_diff.specs.Changes.{AreChangesPrinted, AreChangesStopped, AreFramedPrinted, AreFramedStopped};
 ghost use Rattle.cli_show_diff.specs.Changes.{AreTablesPrinted, AreTablesStopped, HasObjectsOf, IsNamedPrinted};
-ghost use Rattle.cli_show_diff.specs.Changes.{AreNamedPrinted, AreNamedStopped, IsNamedStopped, texts_of};
+ghost use Rattle.cli_show_diff.specs.Changes.{AreNamedPrinted, AreNamedStopped, IsCommon, IsNamedStopped, texts_of};
 
 use crate::form::ChangeForm;
 use crate::frame::{are_written, write_closing, write_opening};
 use crate::pair::{Pair, print_pair};
 use crate::turn::{Side, Turn, print_turn};
-use cli_show_rows::{Stop, listed};
+use cli_show_rows::{Schema, Stop, listed};
+use sqdeep::Encoding;
 use sqpage::PageSource;
 use sqtables::{Object, table_named};
 use std::alloc::Global;
@@ -24,16 +25,36 @@ pub(crate) struct Schemas<'a> {
     pub(crate) new: &'a [Object],
 }
 
-/// The objects of a database. One without pages has none.
-fn objects_of<S: PageSource>(alloc: Global, source: &mut S) -> Result<Vec<Object>, Stop>
-    ensures ok { S.gives_pages source.old → IfOk result (λ objects. HasObjectsOf (S.pages source.old) objects.items) }
+/// The objects of a database, and the encoding of its texts. One without pages has neither.
+fn objects_of<S: PageSource>(
+    alloc: Global,
+    source: &mut S,
+) -> Result<(Option<Encoding>, Vec<Object>), Stop>
+    ensures ok { S.gives_pages source.old → IfOk result (λ found.
+        HasObjectsOf (S.pages source.old) found.0 found.1.items) }
     ensures err { S.gives_pages source.old → IfErr result (SchemaRefused (S.pages source.old)) }
     ensures keeps { KeepsPages S.pages S.size S.reads_right S.gives_pages source.old source.new }
 {
     if source.count() == 0 {
-        return Ok(Vec::new(alloc));
+        return Ok((None, Vec::new(alloc)));
     }
-    listed(alloc, source)
+    match listed(alloc, source) {
+        Ok(Schema { encoding, objects }) => Ok((Some(encoding), objects)),
+        Err(stop) => Err(stop),
+    }
+}
+
+/// The encoding that both have in common, that of a new database where neither has one. None where they have two.
+fn common_of(old: Option<Encoding>, new: Option<Encoding>) -> Option<Encoding>
+    ensures { MatchOption result ((was is : Encoding) × (old ≡ Some was) × (new ≡ Some is) × (was ≢ is))
+        (IsCommon old new) }
+{
+    match (old, new) {
+        (Some(was), Some(is)) => if was == is { Some(was) } else { None },
+        (Some(was), None) => Some(was),
+        (None, Some(is)) => Some(is),
+        (None, None) => Some(Encoding::Utf8),
+    }
 }
 
 /// Prints the changes of the user's tables, or of SQLite's own: first of those that the old database has.
@@ -165,6 +186,8 @@ pub(crate) struct Asked<'a> {
     pub(crate) schemas: Schemas<'a>,
     pub(crate) selected: Selected<'a>,
     pub(crate) form: ChangeForm,
+    /// That of the texts of both.
+    pub(crate) encoding: Encoding,
 }
 
 /// Prints the changes of the tables that are asked for.
@@ -202,10 +225,10 @@ fn print_framed<S: PageSource, T: PageSource, W: Write>(
 ) -> Result<(), Stop>
     ensures ok { S.gives_pages old.old → T.gives_pages new.old → OnOk result (AreFramedPrinted (S.pages old.old)
         (T.pages new.old) asked.entry.schemas (texts_of asked.entry.selected.names.now) asked.entry.form
-        (W.contents out.old) (W.contents out.new)) }
+        asked.entry.encoding (W.contents out.old) (W.contents out.new)) }
     ensures err { S.gives_pages old.old → T.gives_pages new.old → IfErr result (λ stop. AreFramedStopped
         (S.pages old.old) (T.pages new.old) asked.entry.schemas (texts_of asked.entry.selected.names.now)
-        asked.entry.form stop
+        asked.entry.form asked.entry.encoding stop
         (W.contents out.old) (W.contents out.new)) }
     ensures keeps { KeepsPages S.pages S.size S.reads_right S.gives_pages old.old old.new
         × KeepsPages T.pages T.size T.reads_right T.gives_pages new.old new.new }
@@ -217,7 +240,7 @@ fn print_framed<S: PageSource, T: PageSource, W: Write>(
     if !are_written(asked.form, olds) || !are_written(asked.form, news) {
         return Err(Stop::NotUnderstood);
     }
-    match write_opening(out, asked.form, olds) {
+    match write_opening(out, asked.form, asked.encoding, olds) {
         Ok(()) => {}
         Err(error) => return Err(Stop::Write(error)),
     }
@@ -235,9 +258,9 @@ fn print_framed<S: PageSource, T: PageSource, W: Write>(
 /// each: the user's before SQLite's own, those that the old database has before those that it lacks, and each by rowid,
 /// or by key in one WITHOUT ROWID. Tables are matched by name; where only one has a table, or their texts differ, all
 /// rows went and all came. In SQL all of it is a script in one transaction. Refused by the faults of both schemas, by
-/// `Encoding` where texts aren't UTF-8, by `NoSuchTable`, by `NotUnderstood` where it isn't known how the rows of a
-/// table WITHOUT ROWID are sorted and it has some, and in SQL where there is a virtual table or the text of a table
-/// with changes isn't understood, and by faults of trees and rows behind what stands before them.
+/// `Encoding` where an encoding isn't known or each has its own, by `NoSuchTable`, by `NotUnderstood` where it isn't
+/// known how the rows of a table WITHOUT ROWID are sorted and it has some, and in SQL where there is a virtual table or
+/// the text of a table with changes isn't understood, and by faults of trees and rows behind what stands before them.
 pub fn print_changes<S: PageSource, T: PageSource, W: Write>(
     alloc: Global,
     old: &mut S,
@@ -256,13 +279,17 @@ pub fn print_changes<S: PageSource, T: PageSource, W: Write>(
     ensures keeps { KeepsPages S.pages S.size S.reads_right S.gives_pages old.old old.new
         × KeepsPages T.pages T.size T.reads_right T.gives_pages new.old new.new }
 {
-    let olds = match objects_of(alloc, old) {
-        Ok(objects) => objects,
+    let (was, olds) = match objects_of(alloc, old) {
+        Ok(found) => found,
         Err(stop) => return Err(stop),
     };
-    let news = match objects_of(alloc, new) {
-        Ok(objects) => objects,
+    let (is, news) = match objects_of(alloc, new) {
+        Ok(found) => found,
         Err(stop) => return Err(stop),
+    };
+    let encoding = match common_of(was, is) {
+        Some(encoding) => encoding,
+        None => return Err(Stop::Encoding),
     };
     let schemas = Schemas {
         old: &olds,
@@ -272,6 +299,7 @@ pub fn print_changes<S: PageSource, T: PageSource, W: Write>(
         schemas,
         selected,
         form,
+        encoding,
     };
     print_framed(alloc, old, new, asked, out)
 }

@@ -9,7 +9,8 @@ ghost use Rattle.cli_show_diff.specs.Frames.{opening_text};
 
 use crate::form::ChangeForm;
 use cli_row_text::write_between;
-use cli_show_rows::write_statement;
+use cli_show_rows::{write_start, write_statement};
+use sqdeep::Encoding;
 use sqtables::Object;
 use std::io::{self, Write};
 
@@ -67,14 +68,16 @@ fn write_makes<W: Write>(out: &mut W, objects: &[Object]) -> io::Result<()>
 pub(crate) fn write_opening<W: Write>(
     out: &mut W,
     form: ChangeForm,
+    encoding: Encoding,
     objects: &[Object],
 ) -> io::Result<()>
-    ensures { OnOk result (Appends (W.contents out.old) (W.contents out.new) (opening_text form objects.now)) }
+    ensures { OnOk result (Appends (W.contents out.old) (W.contents out.new)
+        (opening_text form encoding objects.now)) }
 {
     match form {
         ChangeForm::Lines | ChangeForm::Json(_) => Ok(()),
         ChangeForm::Sql => {
-            out.write_all(b"PRAGMA foreign_keys=OFF;\nBEGIN TRANSACTION;\n")?;
+            write_start(out, encoding)?;
             write_drops(out, objects)
         }
     }

@@ -2,6 +2,10 @@
 ghost use Rattle.std.specs.Prelude.{◌≡◌, OnOk, IfErr, IsTrue, false};
 ghost use Rattle.std.specs.Io.KnownBytes.{Appends};
 ghost use Rattle.sqpage.specs.Source.{KeepsPages};
+ghost use Rattle.cli_row_text.specs.declared.form.Notation.{Notation};
+ghost use Rattle.cli_show_rows.specs.Dumps.{form_in};
+ghost use Rattle.cli_show_rows.specs.Stops.{IsTableStopped};
+ghost use Rattle.cli_show_rows.specs.Tables.{IsTablePrinted};
 ghost use Rattle.cli_show_diff.specs.Pairs.{AreKept, IsBothPrinted, IsBothStopped, IsGonePrinted, IsGoneStopped};
 ghost use Rattle.cli_show_diff.specs.declared.form.ChangeForm.{ChangeForm};
 ghost use Rattle.cli_show_diff.specs.Pairs.{IsGoneIfPrinted, IsGoneIfStopped, IsMadeIfPrinted, IsMadeIfStopped};
@@ -9,9 +13,10 @@ ghost use Rattle.cli_show_diff.specs.Pairs.{IsAnewPrinted, IsAnewStopped, IsMade
 ghost use Rattle.cli_show_diff.specs.Pairs.{IsPairStopped, drop_text};
 
 use crate::form::ChangeForm;
+use crate::sorted::encoding_of;
 use crate::table::{print_kept, print_side};
 use cli_change_text::Writing;
-use cli_row_text::{Form, write_between};
+use cli_row_text::{Form, Notation, write_between};
 use cli_show_rows::{Stop, is_sequence, print_table, write_making};
 use sqpage::PageSource;
 use sqtables::Object;
@@ -115,6 +120,30 @@ fn print_gone<S: PageSource, W: Write>(
     }
 }
 
+/// Writes the rows of a table in SQL.
+fn print_rows<S: PageSource, W: Write>(
+    alloc: Global,
+    source: &mut S,
+    table: &Object,
+    out: &mut W,
+) -> Result<(), Stop>
+    ensures ok { S.gives_pages source.old → OnOk result (IsTablePrinted (S.pages source.old) table.now
+        (form_in (S.pages source.old) Notation.Sql) (W.contents out.old) (W.contents out.new)) }
+    ensures err { S.gives_pages source.old → IfErr result (λ stop. IsTableStopped (S.pages source.old) table.now
+        (form_in (S.pages source.old) Notation.Sql) stop (W.contents out.old) (W.contents out.new)) }
+    ensures keeps { KeepsPages S.pages S.size S.reads_right S.gives_pages source.old source.new }
+{
+    let encoding = match encoding_of(alloc, source) {
+        Ok(encoding) => encoding,
+        Err(stop) => return Err(stop),
+    };
+    let form = Form {
+        notation: Notation::Sql,
+        encoding,
+    };
+    print_table(alloc, source, table, form, out)
+}
+
 /// Makes a table in SQL, and its rows.
 fn print_making<S: PageSource, W: Write>(
     alloc: Global,
@@ -129,7 +158,7 @@ fn print_making<S: PageSource, W: Write>(
     ensures keeps { KeepsPages S.pages S.size S.reads_right S.gives_pages source.old source.new }
 {
     match write_making(out, table) {
-        Ok(()) => print_table(alloc, source, table, Form::Sql, out),
+        Ok(()) => print_rows(alloc, source, table, out),
         Err(error) => Err(Stop::Write(error)),
     }
 }

@@ -4,12 +4,13 @@ ghost use Rattle.sqpage.specs.Source.{KeepsPages};
 ghost use Rattle.cli_row_text.specs.Inserts.{rowid_name as rowid_named};
 ghost use Rattle.cli_show_diff.specs.Tables.{IsKeptPrinted, IsSidePrinted, IsUnnamed, before_text, head_text};
 ghost use Rattle.cli_show_diff.specs.Tables.{IsKeptStopped, IsSideStopped, IsStyleOf, condition_start};
-ghost use Rattle.cli_show_diff.specs.Sorted.{AreSortedBy, IsSortedBy, format_of};
+ghost use Rattle.sqdeep.specs.Records.{encoding_of};
+ghost use Rattle.cli_show_diff.specs.Sorted.{AreSortedBy, IsSortedIn};
 ghost use Rattle.cli_show_rows.specs.declared.stop.Stop.{Stop};
 
 use crate::both::print_both;
 use crate::one::print_one;
-use crate::sorted::{sorted_between, sorted_in};
+use crate::sorted::{Sorted, sorted_between, sorted_in};
 use cli_change_text::{
     Style, Writing, write_object_head, write_removal_head, write_removal_start, write_title,
 };
@@ -122,12 +123,14 @@ fn print_kept_in<S: PageSource, T: PageSource, W: Write>(
     style: Style<'_>,
     out: &mut W,
 ) -> Result<(), Stop>
-    requires of { IsStyleOf tables.0.now style.writing style }
-    ensures ok { S.gives_pages old.old → T.gives_pages new.old → AreSortedBy (S.pages old.old) (T.pages new.old)
-        tables.entry.0.now.sql.items style.entry.key → OnOk result (IsKeptPrinted (S.pages old.old) (T.pages new.old)
+    requires of { IsStyleOf style.encoding tables.0.now style.writing style }
+    ensures ok { S.gives_pages old.old → T.gives_pages new.old → style.entry.encoding ≡ encoding_of (S.pages old.old)
+        → AreSortedBy (S.pages old.old) (T.pages new.old) tables.entry.0.now.sql.items style.entry.key
+        → OnOk result (IsKeptPrinted (S.pages old.old) (T.pages new.old)
         tables.entry.0.now tables.entry.1.now style.entry.writing (W.contents out.old) (W.contents out.new)) }
-    ensures err { S.gives_pages old.old → T.gives_pages new.old → AreSortedBy (S.pages old.old) (T.pages new.old)
-        tables.entry.0.now.sql.items style.entry.key → IfErr result (λ stop. IsKeptStopped (S.pages old.old)
+    ensures err { S.gives_pages old.old → T.gives_pages new.old → style.entry.encoding ≡ encoding_of (S.pages old.old)
+        → AreSortedBy (S.pages old.old) (T.pages new.old) tables.entry.0.now.sql.items style.entry.key
+        → IfErr result (λ stop. IsKeptStopped (S.pages old.old)
         (T.pages new.old) tables.entry.0.now tables.entry.1.now style.entry.writing stop
         (W.contents out.old) (W.contents out.new)) }
     ensures keeps { KeepsPages S.pages S.size S.reads_right S.gives_pages old.old old.new
@@ -142,22 +145,24 @@ fn print_kept_by<S: PageSource, T: PageSource, W: Write>(
     old: &mut S,
     new: &mut T,
     tables: (&Object, &Object),
-    by: (Writing, Option<KeyOrder>),
+    by: (Writing, Sorted),
     out: &mut W,
 ) -> Result<(), Stop>
-    ensures ok { S.gives_pages old.old → T.gives_pages new.old → AreSortedBy (S.pages old.old) (T.pages new.old)
-        tables.entry.0.now.sql.items by.1 → OnOk result (IsKeptPrinted (S.pages old.old) (T.pages new.old)
+    ensures ok { S.gives_pages old.old → T.gives_pages new.old → by.1.encoding ≡ encoding_of (S.pages old.old)
+        → AreSortedBy (S.pages old.old) (T.pages new.old) tables.entry.0.now.sql.items by.1.key
+        → OnOk result (IsKeptPrinted (S.pages old.old) (T.pages new.old)
         tables.entry.0.now tables.entry.1.now by.0 (W.contents out.old) (W.contents out.new)) }
-    ensures err { S.gives_pages old.old → T.gives_pages new.old → AreSortedBy (S.pages old.old) (T.pages new.old)
-        tables.entry.0.now.sql.items by.1 → IfErr result (λ stop. IsKeptStopped (S.pages old.old)
+    ensures err { S.gives_pages old.old → T.gives_pages new.old → by.1.encoding ≡ encoding_of (S.pages old.old)
+        → AreSortedBy (S.pages old.old) (T.pages new.old) tables.entry.0.now.sql.items by.1.key
+        → IfErr result (λ stop. IsKeptStopped (S.pages old.old)
         (T.pages new.old) tables.entry.0.now tables.entry.1.now by.0 stop (W.contents out.old)
         (W.contents out.new)) }
     ensures keeps { KeepsPages S.pages S.size S.reads_right S.gives_pages old.old old.new
         × KeepsPages T.pages T.size T.reads_right T.gives_pages new.old new.new }
 {
     let table = tables.0;
-    let (writing, key) = by;
-    let columns = match known_columns(alloc, table) {
+    let (writing, Sorted { key, encoding }) = by;
+    let columns = match known_columns(alloc, table, encoding) {
         Ok(columns) => columns,
         Err(stop) => return Err(stop),
     };
@@ -172,6 +177,7 @@ fn print_kept_by<S: PageSource, T: PageSource, W: Write>(
     };
     let style = Style {
         writing,
+        encoding,
         columns: &columns,
         before: &before,
         head: &head,
@@ -199,7 +205,7 @@ pub(crate) fn print_kept<S: PageSource, T: PageSource, W: Write>(
         × KeepsPages T.pages T.size T.reads_right T.gives_pages new.old new.new }
 {
     match sorted_between(alloc, old, new, &tables.0.sql) {
-        Ok(key) => print_kept_by(alloc, old, new, tables, (writing, key), out),
+        Ok(sorted) => print_kept_by(alloc, old, new, tables, (writing, sorted), out),
         Err(stop) => Err(stop),
     }
 }
@@ -213,12 +219,14 @@ fn print_side_in<S: PageSource, W: Write>(
     style: Style<'_>,
     out: &mut W,
 ) -> Result<(), Stop>
-    requires of { IsStyleOf table.now style.writing style }
-    ensures ok { S.gives_pages source.old → IsSortedBy table.now.sql.items (format_of (S.pages source.old))
-        style.entry.key → OnOk result (IsSidePrinted (S.pages source.old) table.now comes
+    requires of { IsStyleOf style.encoding table.now style.writing style }
+    ensures ok { S.gives_pages source.old → style.entry.encoding ≡ encoding_of (S.pages source.old)
+        → IsSortedIn (S.pages source.old) table.now.sql.items style.entry.key
+        → OnOk result (IsSidePrinted (S.pages source.old) table.now comes
         style.entry.writing (W.contents out.old) (W.contents out.new)) }
-    ensures err { S.gives_pages source.old → IsSortedBy table.now.sql.items (format_of (S.pages source.old))
-        style.entry.key → IfErr result (λ stop. IsSideStopped (S.pages source.old) table.now comes
+    ensures err { S.gives_pages source.old → style.entry.encoding ≡ encoding_of (S.pages source.old)
+        → IsSortedIn (S.pages source.old) table.now.sql.items style.entry.key
+        → IfErr result (λ stop. IsSideStopped (S.pages source.old) table.now comes
         style.entry.writing stop (W.contents out.old) (W.contents out.new)) }
     ensures keeps { KeepsPages S.pages S.size S.reads_right S.gives_pages source.old source.new }
 {
@@ -231,19 +239,21 @@ fn print_side_by<S: PageSource, W: Write>(
     source: &mut S,
     table: &Object,
     comes: bool,
-    by: (Writing, Option<KeyOrder>),
+    by: (Writing, Sorted),
     out: &mut W,
 ) -> Result<(), Stop>
-    ensures ok { S.gives_pages source.old → IsSortedBy table.now.sql.items (format_of (S.pages source.old)) by.1
+    ensures ok { S.gives_pages source.old → by.1.encoding ≡ encoding_of (S.pages source.old)
+        → IsSortedIn (S.pages source.old) table.now.sql.items by.1.key
         → OnOk result (IsSidePrinted (S.pages source.old) table.now comes by.0
         (W.contents out.old) (W.contents out.new)) }
-    ensures err { S.gives_pages source.old → IsSortedBy table.now.sql.items (format_of (S.pages source.old)) by.1
+    ensures err { S.gives_pages source.old → by.1.encoding ≡ encoding_of (S.pages source.old)
+        → IsSortedIn (S.pages source.old) table.now.sql.items by.1.key
         → IfErr result (λ stop. IsSideStopped (S.pages source.old) table.now comes
         by.0 stop (W.contents out.old) (W.contents out.new)) }
     ensures keeps { KeepsPages S.pages S.size S.reads_right S.gives_pages source.old source.new }
 {
-    let (writing, key) = by;
-    let columns = match known_columns(alloc, table) {
+    let (writing, Sorted { key, encoding }) = by;
+    let columns = match known_columns(alloc, table, encoding) {
         Ok(columns) => columns,
         Err(stop) => return Err(stop),
     };
@@ -255,6 +265,7 @@ fn print_side_by<S: PageSource, W: Write>(
     };
     let style = Style {
         writing,
+        encoding,
         columns: &columns,
         before: &before,
         head: &head,
@@ -280,7 +291,7 @@ pub(crate) fn print_side<S: PageSource, W: Write>(
     ensures keeps { KeepsPages S.pages S.size S.reads_right S.gives_pages source.old source.new }
 {
     match sorted_in(alloc, source, &table.sql) {
-        Ok(key) => print_side_by(alloc, source, table, comes, (writing, key), out),
+        Ok(sorted) => print_side_by(alloc, source, table, comes, (writing, sorted), out),
         Err(stop) => Err(stop),
     }
 }

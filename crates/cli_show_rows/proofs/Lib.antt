@@ -1,2 +1,4 @@
 pub mod TurnsTaken
 pub mod TablesStopped
+pub mod ObjectsRead
+pub mod DefaultsStored

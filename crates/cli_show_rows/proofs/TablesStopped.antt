@@ -12,13 +12,13 @@ use Rattle.sqtables.specs.declared.columns.Columns.{Columns}
 use Rattle.sqtables.specs.declared.list.ListError.{ListError}
 use Rattle.sqtables.specs.declared.list.ListError.TheVariants as list_errors
 use Rattle.sqtables.specs.declared.list.Object.{Object}
-use Rattle.sqtables.specs.Named.{AreColumns}
 use Rattle.sqtables.specs.Objects.{ListRefused}
 use Rattle.cli_row_text.specs.declared.form.Form.{Form}
 use Rattle.cli_row_text.specs.declared.print.PrintError.{PrintError}
 use Rattle.cli_row_text.specs.declared.print.PrintError.TheVariants as print_errors
 use Rattle.cli_row_text.specs.Printed.{IsPrintedUntil, PrintRefused, WrittenUntil}
 use Rattle.cli_show_rows.specs.declared.stop.Stop.{Stop}
+use Rattle.cli_show_rows.specs.Schemas.{AreColumnsIn}
 use Rattle.cli_show_rows.specs.Tables.{IsInsert, IsNameFor, leads_in}
 use Rattle.cli_show_rows.specs.Stops.{IsBegun, StopsAt, SchemaRefused, WrittenUntil as StoppedUntil}
 use Rattle.cli_show_rows.specs.internal.Stopping.{stop_of_row, stop_of_print, stop_of_list}
@@ -62,10 +62,10 @@ print_written (print_errors.Write e) before after t h = tt
 
 -- the rows of a table, printed until the stop
 pub begun : (d : Database) (table : Object) (form : Form) (columns : Columns) (rowid : Option (List ℕ)) (insert : List ℕ) (leads : Bool) (e : PrintError) (stop : Stop) (before after : Option (List ℕ))
-    → AreColumns table.sql.items columns → IsNameFor columns rowid → IsInsert form table columns rowid insert → leads ≡ leads_in form columns rowid → stop ≡ stop_of_print e
+    → AreColumnsIn form.encoding table.sql.items columns → IsNameFor columns rowid → IsInsert form.notation table columns rowid insert → leads ≡ leads_in form.notation columns rowid → stop ≡ stop_of_print e
     → IsPrintedUntil d table.root form insert columns leads e before after → IsBegun d table form stop before after
 begun d table form columns rowid insert leads e stop before after known named begins is told w =
-    let own : IsPrintedUntil d table.root form insert columns (leads_in form columns rowid) e before after = subst (λ (l : Bool). IsPrintedUntil d table.root form insert columns l e before after) is w in
+    let own : IsPrintedUntil d table.root form insert columns (leads_in form.notation columns rowid) e before after = subst (λ (l : Bool). IsPrintedUntil d table.root form insert columns l e before after) is w in
     subst (λ (s : Stop). IsBegun d table form s before after) (sym told) (record {
       columns = columns;
       known = known;

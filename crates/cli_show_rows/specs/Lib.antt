@@ -1,3 +1,4 @@
+pub mod Schemas
 pub mod Tables
 pub mod Dumps
 pub mod Stops

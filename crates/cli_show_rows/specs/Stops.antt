@@ -11,18 +11,19 @@ use Rattle.sqrows.specs.RowCursor.{IsAbove}
 use Rattle.sqrows.specs.Stops.{ComeFirst, HoldsAt, IsNoRecord, FaultAt}
 use Rattle.sqtables.specs.declared.columns.Columns.{Columns}
 use Rattle.sqtables.specs.declared.list.Object.{Object}
-use Rattle.sqtables.specs.Named.{AreColumns}
-use Rattle.sqtables.specs.Objects.{HasObjects, IsTableNamed}
+use Rattle.sqtables.specs.Objects.{IsTableNamed}
 use Rattle.cli_row_text.specs.declared.form.Form.{Form}
-use Rattle.cli_row_text.specs.declared.form.Form.TheVariants.{Sql}
+use Rattle.cli_row_text.specs.declared.form.Notation.{Notation}
+use Rattle.cli_row_text.specs.declared.form.Notation.TheVariants.{Sql}
 use Rattle.cli_row_text.specs.Headings.{heading_text}
 use Rattle.cli_row_text.specs.Printed.{AreLines, Lacks, HasMore}
 use Rattle.cli_show_rows.specs.declared.stop.Stop.{Stop}
 use Rattle.cli_show_rows.specs.declared.stop.Stop.TheVariants.{Fault, Record, TooLong, NotUnderstood, Default, Behind, Encoding, NoSuchTable, NoMemory, Write}
 use Rattle.cli_show_rows.specs.declared.dump.Turn.{Turn}
 use Rattle.cli_show_rows.specs.declared.dump.Turn.TheVariants.{Tables, Internal, Others}
+use Rattle.cli_show_rows.specs.Schemas.{AreColumnsIn, HasObjectsRead}
 use Rattle.cli_show_rows.specs.Tables.{IsInsert, IsNameFor, are_unnamed, leads_in}
-use Rattle.cli_show_rows.specs.Dumps.{AreTurnsTaken, IsInTurn, IsVirtual, first_text, made_text}
+use Rattle.cli_show_rows.specs.Dumps.{AreTurnsTaken, IsInTurn, IsVirtual, first_text, form_in, made_text}
 
 -- This text was written and no more, unless it was the writer that failed.
 abbrev pub WrittenUntil : Stop → (before after : Option (List ℕ)) → List ℕ → Type 0
@@ -37,7 +38,7 @@ StopsAt d root form columns k (Fault e) = FaultAt d root k e
 StopsAt d root form columns k (Record e) = HoldsAt d root k (IsNoRecord d e)
 StopsAt d root form columns k TooLong = HoldsAt d root k (IsAbove most_bytes)
 StopsAt d root form columns k Default = HoldsAt d root k (Lacks d columns)
-StopsAt d root form columns k Behind = (form ≡ Sql) × HoldsAt d root k (HasMore d columns)
+StopsAt d root form columns k Behind = (form.notation ≡ Sql) × HoldsAt d root k (HasMore d columns)
 StopsAt d root form columns k NoMemory = Unit {0}
 StopsAt d root form columns k (Write e) = Unit {0}
 StopsAt d root form columns k _ = ⊥
@@ -45,21 +46,21 @@ StopsAt d root form columns k _ = ⊥
 -- The lines of the first rows of a table were written, under the names of its columns, and why not those of the others.
 pub record IsBegun (d : Database) (table : Object) (form : Form) (stop : Stop) (before after : Option (List ℕ)) : Type 0 where
   pub columns : Columns
-  pub known : AreColumns table.sql.items columns
+  pub known : AreColumnsIn form.encoding table.sql.items columns
   pub rowid : Option (List ℕ)
   pub named : IsNameFor columns rowid
   pub insert : List ℕ
-  pub begins : IsInsert form table columns rowid insert
+  pub begins : IsInsert form.notation table columns rowid insert
   pub rows : List Row
   pub first : ComeFirst d table.root rows
   pub stops : StopsAt d table.root form columns (length rows) stop
   pub text : List ℕ
-  pub lines : AreLines form insert columns (leads_in form columns rowid) rows text
+  pub lines : AreLines form insert columns (leads_in form.notation columns rowid) rows text
   pub written : WrittenUntil stop before after text
 
 -- Nothing was written: no column is known of a table that is to be written as SQL, or memory ran out.
 abbrev pub IsUnbegun : Object → Form → Stop → (before after : Option (List ℕ)) → Type 0
-IsUnbegun table form NotUnderstood before after = (columns : Columns) × AreColumns table.sql.items columns × (are_unnamed columns ≡ true) × (form ≡ Sql) × (before ≡ after)
+IsUnbegun table form NotUnderstood before after = (columns : Columns) × AreColumnsIn form.encoding table.sql.items columns × (are_unnamed columns ≡ true) × (form.notation ≡ Sql) × (before ≡ after)
 IsUnbegun table form NoMemory before after = before ≡ after
 IsUnbegun table form _ before after = ⊥
 
@@ -81,32 +82,32 @@ IsUnheaded _ before after = ⊥
 abbrev pub IsHeadedStopped : Database → Object → Form → Stop → (before after : Option (List ℕ)) → Type 0
 IsHeadedStopped d table form stop before after =
     IsUnheaded stop before after
-    ⊎ ((columns : Columns) × (mid : Option (List ℕ)) × AreColumns table.sql.items columns
-    × Appends before mid (heading_text form table.name.items (map (λ n. n.items) columns.names.items)) × IsTableStopped d table form stop mid after)
+    ⊎ ((columns : Columns) × (mid : Option (List ℕ)) × AreColumnsIn form.encoding table.sql.items columns
+    × Appends before mid (heading_text form.notation table.name.items (map (λ n. n.items) columns.names.items)) × IsTableStopped d table form stop mid after)
 
 -- Why the objects of a database aren't listed: the schema's tree isn't sound, a row of it has no payload, a longer one than
--- 1 GiB or no record, or its texts aren't UTF-8; or memory ran out.
+-- 1 GiB or no record, or the encoding of its texts isn't known; or memory ran out.
 abbrev pub SchemaRefused : Database → Stop → Type 0
 SchemaRefused d (Fault e) = (k : ℕ) × FaultAt d 1 k e
 SchemaRefused d (Record e) = (k : ℕ) × HoldsAt d 1 k (IsNoRecord d e)
 SchemaRefused d TooLong = (k : ℕ) × HoldsAt d 1 k (IsAbove most_bytes)
-SchemaRefused d Encoding = 1 < word (page d 1) 56
+SchemaRefused d Encoding = 3 < word (page d 1) 56
 SchemaRefused d NoMemory = Unit {0}
 SchemaRefused d _ = ⊥
 
 -- The printing of a table of this name stopped: the objects aren't listed, none is a table of this name, or that one isn't
 -- printed to its end.
-abbrev pub IsNamedStopped : Database → (name : List ℕ) → Form → Stop → (before after : Option (List ℕ)) → Type 0
-IsNamedStopped d name form stop before after =
+abbrev pub IsNamedStopped : Database → (name : List ℕ) → Notation → Stop → (before after : Option (List ℕ)) → Type 0
+IsNamedStopped d name notation stop before after =
     (SchemaRefused d stop × (before ≡ after))
-    ⊎ ((objects : List Object) × HasObjects d objects × All (λ o. ¬ IsTableNamed name o) objects × (stop ≡ NoSuchTable) × (before ≡ after))
-    ⊎ ((objects : List Object) × (table : Object) × HasObjects d objects × Contains objects table × IsTableNamed name table
-    × IsHeadedStopped d table form stop before after)
+    ⊎ ((objects : List Object) × HasObjectsRead d objects × All (λ o. ¬ IsTableNamed name o) objects × (stop ≡ NoSuchTable) × (before ≡ after))
+    ⊎ ((objects : List Object) × (table : Object) × HasObjectsRead d objects × Contains objects table × IsTableNamed name table
+    × IsHeadedStopped d table (form_in d notation) stop before after)
 
 -- The printing of a table stopped behind what makes it, or before.
 abbrev pub IsMadeStopped : Database → Form → Object → Stop → (before after : Option (List ℕ)) → Type 0
 IsMadeStopped d form o stop before after =
-    IsWriteError stop ⊎ ((mid : Option (List ℕ)) × Appends before mid (made_text form o) × IsHeadedStopped d o form stop mid after)
+    IsWriteError stop ⊎ ((mid : Option (List ℕ)) × Appends before mid (made_text form.notation o) × IsHeadedStopped d o form stop mid after)
 
 -- The printing of an object stopped.
 abbrev pub IsObjectStopped : Database → Form → Turn → Object → Stop → (before after : Option (List ℕ)) → Type 0
@@ -130,9 +131,9 @@ AreObjectsStopped d form objects stop before after =
     × IsTurnStopped d form Others objects stop late after)
 
 -- The printing of a database stopped: its objects aren't listed, or one isn't printed to its end, or the writer failed.
-abbrev pub AreTablesStopped : Database → Form → Stop → (before after : Option (List ℕ)) → Type 0
-AreTablesStopped d form stop before after =
+abbrev pub AreTablesStopped : Database → Notation → Stop → (before after : Option (List ℕ)) → Type 0
+AreTablesStopped d notation stop before after =
     (SchemaRefused d stop × (before ≡ after))
     ⊎ IsWriteError stop
-    ⊎ ((objects : List Object) × (begun : Option (List ℕ)) × HasObjects d objects × (word (page d 1) 56 ≤ 1) × Appends before begun (first_text form)
-    × AreObjectsStopped d form objects stop begun after)
+    ⊎ ((objects : List Object) × (begun : Option (List ℕ)) × HasObjectsRead d objects × (word (page d 1) 56 ≤ 3) × Appends before begun (first_text (form_in d notation))
+    × AreObjectsStopped d (form_in d notation) objects stop begun after)

@@ -6,12 +6,13 @@ use Rattle.std.specs.Str.{str_eq_ignore_ascii_case}
 use Rattle.sqval.specs.Database.{Database}
 use Rattle.sqtables.specs.declared.columns.Columns.{Columns}
 use Rattle.sqtables.specs.declared.list.Object.{Object}
-use Rattle.sqtables.specs.Named.{AreColumns}
 use Rattle.cli_row_text.specs.declared.form.Form.{Form}
-use Rattle.cli_row_text.specs.declared.form.Form.TheVariants.{Json, Csv, Sql}
+use Rattle.cli_row_text.specs.declared.form.Notation.{Notation}
+use Rattle.cli_row_text.specs.declared.form.Notation.TheVariants.{Json, Csv, Sql}
 use Rattle.cli_row_text.specs.Headings.{heading_text}
 use Rattle.cli_row_text.specs.Inserts.{insert_text}
 use Rattle.cli_row_text.specs.Printed.{IsPrinted}
+use Rattle.cli_show_rows.specs.Schemas.{AreColumnsIn}
 
 -- some column has this name, where ASCII's small letters are its capitals
 abbrev pub has_column : Columns → (name : List ℕ) → Bool
@@ -30,7 +31,7 @@ pub record IsRowidName (columns : Columns) (name : List ℕ) : Type 0 where
   pub free : has_column columns name ≡ false
 
 -- what stands before the values of a row
-abbrev pub IsInsert : Form → Object → Columns → (rowid : Option (List ℕ)) → List ℕ → Type 0
+abbrev pub IsInsert : Notation → Object → Columns → (rowid : Option (List ℕ)) → List ℕ → Type 0
 IsInsert Json table columns rowid insert = insert ≡ []
 IsInsert Csv table columns rowid insert = insert ≡ []
 IsInsert Sql table columns rowid insert = insert ≡ insert_text table.name.items rowid (map (λ n. n.items) columns.names.items)
@@ -50,7 +51,7 @@ abbrev pub are_unnamed : Columns → Bool
 are_unnamed columns = nat_eq (length columns.names.items) 0
 
 -- The rowid stands before the values: in SQL where it has a name, else where no column is known.
-abbrev pub leads_in : Form → Columns → (rowid : Option (List ℕ)) → Bool
+abbrev pub leads_in : Notation → Columns → (rowid : Option (List ℕ)) → Bool
 leads_in Json columns rowid = are_unnamed columns
 leads_in Csv columns rowid = are_unnamed columns
 leads_in Sql columns rowid = is_some rowid
@@ -59,19 +60,19 @@ leads_in Sql columns rowid = is_some rowid
 -- with its rowids, the values and the defaults of the columns.
 pub record IsTablePrinted (d : Database) (table : Object) (form : Form) (before after : Option (List ℕ)) : Type 0 where
   pub columns : Columns
-  pub known : AreColumns table.sql.items columns
+  pub known : AreColumnsIn form.encoding table.sql.items columns
   pub rowid : Option (List ℕ)
   pub named : IsNameFor columns rowid
   pub insert : List ℕ
-  pub begins : IsInsert form table columns rowid insert
+  pub begins : IsInsert form.notation table columns rowid insert
   pub text : List ℕ
-  pub lines : IsPrinted d table.root form insert columns (leads_in form columns rowid) text
+  pub lines : IsPrinted d table.root form insert columns (leads_in form.notation columns rowid) text
   pub appended : Appends before after text
 
 -- The heading of a table was written, and behind it the lines of its rows.
 pub record IsHeadedPrinted (d : Database) (table : Object) (form : Form) (before after : Option (List ℕ)) : Type 0 where
   pub columns : Columns
-  pub known : AreColumns table.sql.items columns
+  pub known : AreColumnsIn form.encoding table.sql.items columns
   pub between : Option (List ℕ)
-  pub heading : Appends before between (heading_text form table.name.items (map (λ n. n.items) columns.names.items))
+  pub heading : Appends before between (heading_text form.notation table.name.items (map (λ n. n.items) columns.names.items))
   pub printed : IsTablePrinted d table form between after

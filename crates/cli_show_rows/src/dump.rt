@@ -3,28 +3,26 @@ ghost use Rattle.std.specs.Prelude.{◌≡◌, ◌≤◌, ◌&&◌, IfOk, IfErr,
 ghost use Rattle.std.specs.Prelude.{ℕ, List, [], None};
 ghost use Rattle.std.specs.Io.KnownBytes.{Appends};
 ghost use Rattle.std.specs.Str.{str_eq_ignore_ascii_case};
-ghost use Rattle.sqval.specs.Bytes.{word};
-ghost use Rattle.sqval.specs.Database.{page};
 ghost use Rattle.sqpage.specs.Source.{KeepsPages};
-ghost use Rattle.sqtables.specs.Objects.{HasObjects, IsTable};
+ghost use Rattle.sqtables.specs.Objects.{IsTable};
 ghost use Rattle.cli_show_rows.specs.Dumps.{AreObjectsPrinted, AreTablesPrinted, AreTurnsTaken, IsInTurn};
 ghost use Rattle.cli_show_rows.specs.Dumps.{IsMadePrinted, IsNamedPrinted, IsObjectPrinted};
 ghost use Rattle.cli_show_rows.specs.Dumps.{IsTurnTaken, IsVirtual, IsVirtualPrinted};
 ghost use Rattle.cli_show_rows.specs.Dumps.{first_text, internal_text, is_internal as is_kept, last_text, made_text};
-ghost use Rattle.cli_show_rows.specs.Dumps.{making_text};
+ghost use Rattle.cli_show_rows.specs.Dumps.{encoding_text, making_text, script_form, start_text};
 ghost use Rattle.cli_show_rows.specs.Dumps.{other_text, statement_text, title_text, virtual_row};
 ghost use Rattle.cli_show_rows.specs.declared.dump.Turn.{Turn};
-ghost use Rattle.cli_row_text.specs.declared.form.Form.{Form};
 ghost use Rattle.cli_row_text.specs.Lines.{IsLine};
 ghost use Rattle.cli_show_rows.specs.Stops.{AreObjectsStopped, AreTablesStopped, IsMadeStopped, IsNamedStopped};
-ghost use Rattle.cli_show_rows.specs.Stops.{IsObjectStopped, IsTurnStopped, IsWriteError, SchemaRefused};
+ghost use Rattle.cli_show_rows.specs.Stops.{IsObjectStopped, IsTurnStopped, IsWriteError};
 
+use crate::schema::listed;
 use crate::stop::Stop;
 use crate::tables::print_headed;
-use byteorder::{BigEndian, ByteOrder};
-use cli_row_text::{Form, write_heading, write_line};
-use sqpage::{CheckError, Fault, PageSource};
-use sqtables::{Object, objects, table_named};
+use cli_row_text::{Form, Notation, write_heading, write_line};
+use sqdeep::Encoding;
+use sqpage::PageSource;
+use sqtables::{Object, table_named};
 use sqval::Value;
 use std::alloc::Global;
 use std::io::{self, Write};
@@ -118,23 +116,23 @@ fn write_title<W: Write>(out: &mut W, name: &Vec<u8>) -> io::Result<()>
     ensures { OnOk result (Appends (W.contents out.old) (W.contents out.new) (title_text name.now.items)) }
 {
     out.write_all(b"table,")?;
-    write_heading(out, Form::Csv, b"", slice::from_ref(name))
+    write_heading(out, Notation::Csv, b"", slice::from_ref(name))
 }
 
 /// What stands before the heading of a table.
-fn write_made<W: Write>(out: &mut W, form: Form, table: &Object) -> io::Result<()>
-    ensures { OnOk result (Appends (W.contents out.old) (W.contents out.new) (made_text form table.now)) }
+fn write_made<W: Write>(out: &mut W, notation: Notation, table: &Object) -> io::Result<()>
+    ensures { OnOk result (Appends (W.contents out.old) (W.contents out.new) (made_text notation table.now)) }
 {
-    match form {
-        Form::Json => Ok(()),
-        Form::Csv => write_title(out, &table.name),
-        Form::Sql => write_making(out, table),
+    match notation {
+        Notation::Json => Ok(()),
+        Notation::Csv => write_title(out, &table.name),
+        Notation::Sql => write_making(out, table),
     }
 }
 
 /// The INSERT of a virtual table's row into the schema.
 fn write_virtual_line<W: Write>(out: &mut W, object: &Object) -> io::Result<()>
-    ensures { OnOk result ((t : List ℕ) × IsLine Form.Sql
+    ensures { OnOk result ((t : List ℕ) × IsLine script_form
         (codes "INSERT INTO sqlite_schema(type,name,tbl_name,rootpage,sql) VALUES(") [] None (virtual_row object.now) t
         × Appends (W.contents out.old) (W.contents out.new) t) }
 {
@@ -146,17 +144,21 @@ fn write_virtual_line<W: Write>(out: &mut W, object: &Object) -> io::Result<()>
         Value::Int(0),
         Value::Text(&object.sql),
     ];
+    let form = Form {
+        notation: Notation::Sql,
+        encoding: Encoding::Utf8,
+    };
     let insert = b"INSERT INTO sqlite_schema(type,name,tbl_name,rootpage,sql) VALUES(";
-    write_line(out, Form::Sql, insert, &[], None, &values)
+    write_line(out, form, insert, &[], None, &values)
 }
 
 /// A virtual table.
-fn write_virtual<W: Write>(out: &mut W, form: Form, object: &Object) -> io::Result<()>
-    ensures { OnOk result (IsVirtualPrinted form object.now (W.contents out.old) (W.contents out.new)) }
+fn write_virtual<W: Write>(out: &mut W, notation: Notation, object: &Object) -> io::Result<()>
+    ensures { OnOk result (IsVirtualPrinted notation object.now (W.contents out.old) (W.contents out.new)) }
 {
-    match form {
-        Form::Json | Form::Csv => Ok(()),
-        Form::Sql => {
+    match notation {
+        Notation::Json | Notation::Csv => Ok(()),
+        Notation::Sql => {
             out.write_all(b"PRAGMA writable_schema=ON;\n")?;
             write_virtual_line(out, object)?;
             out.write_all(b"PRAGMA writable_schema=OFF;\n")
@@ -165,32 +167,51 @@ fn write_virtual<W: Write>(out: &mut W, form: Form, object: &Object) -> io::Resu
 }
 
 /// An object that isn't a table.
-fn write_other<W: Write>(out: &mut W, form: Form, object: &Object) -> io::Result<()>
-    ensures { OnOk result (Appends (W.contents out.old) (W.contents out.new) (other_text form object.now)) }
+fn write_other<W: Write>(out: &mut W, notation: Notation, object: &Object) -> io::Result<()>
+    ensures { OnOk result (Appends (W.contents out.old) (W.contents out.new) (other_text notation object.now)) }
 {
-    match form {
-        Form::Json | Form::Csv => Ok(()),
-        Form::Sql => write_statement(out, object.sql.as_slice()),
+    match notation {
+        Notation::Json | Notation::Csv => Ok(()),
+        Notation::Sql => write_statement(out, object.sql.as_slice()),
     }
+}
+
+/// What gives a new database this encoding, where that isn't the one that it has by itself.
+fn write_encoding<W: Write>(out: &mut W, encoding: Encoding) -> io::Result<()>
+    ensures { OnOk result (Appends (W.contents out.old) (W.contents out.new) (encoding_text encoding)) }
+{
+    match encoding {
+        Encoding::Utf8 => Ok(()),
+        Encoding::Utf16Le => out.write_all(b"PRAGMA encoding='UTF-16le';\n"),
+        Encoding::Utf16Be => out.write_all(b"PRAGMA encoding='UTF-16be';\n"),
+    }
+}
+
+/// What a script begins with, which makes a database of this encoding, or changes one. An error of the writer.
+pub fn write_start<W: Write>(out: &mut W, encoding: Encoding) -> io::Result<()>
+    ensures { OnOk result (Appends (W.contents out.old) (W.contents out.new) (start_text encoding)) }
+{
+    write_encoding(out, encoding)?;
+    out.write_all(b"PRAGMA foreign_keys=OFF;\nBEGIN TRANSACTION;\n")
 }
 
 /// What a dump begins with.
 fn write_first<W: Write>(out: &mut W, form: Form) -> io::Result<()>
     ensures { OnOk result (Appends (W.contents out.old) (W.contents out.new) (first_text form)) }
 {
-    match form {
-        Form::Json | Form::Csv => Ok(()),
-        Form::Sql => out.write_all(b"PRAGMA foreign_keys=OFF;\nBEGIN TRANSACTION;\n"),
+    match form.notation {
+        Notation::Json | Notation::Csv => Ok(()),
+        Notation::Sql => write_start(out, form.encoding),
     }
 }
 
 /// What a dump ends with.
-fn write_last<W: Write>(out: &mut W, form: Form) -> io::Result<()>
-    ensures { OnOk result (Appends (W.contents out.old) (W.contents out.new) (last_text form)) }
+fn write_last<W: Write>(out: &mut W, notation: Notation) -> io::Result<()>
+    ensures { OnOk result (Appends (W.contents out.old) (W.contents out.new) (last_text notation)) }
 {
-    match form {
-        Form::Json | Form::Csv => Ok(()),
-        Form::Sql => out.write_all(b"COMMIT;\n"),
+    match notation {
+        Notation::Json | Notation::Csv => Ok(()),
+        Notation::Sql => out.write_all(b"COMMIT;\n"),
     }
 }
 
@@ -208,7 +229,7 @@ fn print_made<S: PageSource, W: Write>(
         stop (W.contents out.old) (W.contents out.new)) }
     ensures keeps { KeepsPages S.pages S.size S.reads_right S.gives_pages source.old source.new }
 {
-    match write_made(out, form, table) {
+    match write_made(out, form.notation, table) {
         Ok(()) => print_headed(alloc, source, table, form, out),
         Err(error) => Err(Stop::Write(error)),
     }
@@ -231,18 +252,18 @@ fn print_in_place<S: PageSource, W: Write>(
     if !is_virtual(object) {
         return print_made(alloc, source, object, form, out);
     }
-    match write_virtual(out, form, object) {
+    match write_virtual(out, form.notation, object) {
         Ok(()) => Ok(()),
         Err(error) => Err(Stop::Write(error)),
     }
 }
 
 /// Prints an object that isn't a table.
-fn print_other<W: Write>(form: Form, object: &Object, out: &mut W) -> Result<(), Stop>
-    ensures ok { OnOk result (Appends (W.contents out.old) (W.contents out.new) (other_text form object.now)) }
+fn print_other<W: Write>(notation: Notation, object: &Object, out: &mut W) -> Result<(), Stop>
+    ensures ok { OnOk result (Appends (W.contents out.old) (W.contents out.new) (other_text notation object.now)) }
     ensures err { IfErr result IsWriteError }
 {
-    match write_other(out, form, object) {
+    match write_other(out, notation, object) {
         Ok(()) => Ok(()),
         Err(error) => Err(Stop::Write(error)),
     }
@@ -266,7 +287,7 @@ fn print_taken<S: PageSource, W: Write>(
     match turn {
         Turn::Tables => print_in_place(alloc, source, object, form, out),
         Turn::Internal => print_made(alloc, source, object, form, out),
-        Turn::Others => print_other(form, object, out),
+        Turn::Others => print_other(form.notation, object, out),
     }
 }
 
@@ -341,90 +362,41 @@ fn print_objects<S: PageSource, W: Write>(
     print_turn(alloc, source, objects, Turn::Others, form, out)
 }
 
-/// The number of the encoding that a page 1 names (fileformat2, 1.3.13).
-fn encoding_in(bytes: &[u8]) -> u32
-    requires { 60 ≤ length bytes.now }
-    ensures { result ≡ word bytes.now 56 }
-{
-    BigEndian::read_u32(&bytes[56..60])
-}
-
-/// The encoding of a database.
-fn encoding_of<S: PageSource>(alloc: Global, source: &mut S) -> Result<u32, Stop>
-    ensures ok { S.gives_pages source.old → IfOk result (λ n. n ≡ word (page (S.pages source.old) 1) 56) }
-    ensures err { S.gives_pages source.old → IfErr result (SchemaRefused (S.pages source.old)) }
-    ensures keeps { KeepsPages S.pages S.size S.reads_right S.gives_pages source.old source.new }
-{
-    if source.count() == 0 {
-        return Err(Stop::Fault(CheckError {
-            page: 1,
-            fault: Fault::PageOutside,
-        }));
-    }
-    let size = source.page_size().get() as usize;
-    let Ok(mut bytes) = vec![in alloc; 0u8; size] else {
-        return Err(Stop::NoMemory);
-    };
-    match source.page(1, &mut bytes) {
-        Ok(()) => Ok(encoding_in(&bytes)),
-        Err(_) => Err(Stop::Fault(CheckError {
-            page: 1,
-            fault: Fault::Source,
-        })),
-    }
-}
-
-/// The objects of a database, whose texts are UTF-8. Refused by the faults of the schema, and by `Encoding`.
-pub fn listed<S: PageSource>(alloc: Global, source: &mut S) -> Result<Vec<Object>, Stop>
-    ensures ok { S.gives_pages source.old → IfOk result (λ objects. HasObjects (S.pages source.old) objects.items
-        × (word (page (S.pages source.old) 1) 56 ≤ 1)) }
-    ensures err { S.gives_pages source.old → IfErr result (SchemaRefused (S.pages source.old)) }
-    ensures keeps { KeepsPages S.pages S.size S.reads_right S.gives_pages source.old source.new }
-{
-    let encoding = match encoding_of(alloc, source) {
-        Ok(encoding) => encoding,
-        Err(stop) => return Err(stop),
-    };
-    if encoding > 1 {
-        return Err(Stop::Encoding);
-    }
-    match objects(alloc, source) {
-        Ok(objects) => Ok(objects),
-        Err(error) => Err(Stop::from(error)),
-    }
-}
-
 /// Prints the rows of each table of a database. In SQL all of it is printed, as one transaction: of each table the text
 /// that made it and its rows, at their place virtual tables as rows of the schema, and behind all rows indexes,
-/// triggers and views by their texts. In CSV a line `table,"NAME"` stands before the heading of each table. Refused as
-/// `print_table` is, by the faults of the schema, and by `Encoding` where texts aren't UTF-8; what was printed before
-/// stands.
+/// triggers and views by their texts; before it, where texts are UTF-16, what gives a new database that encoding. In
+/// CSV a line `table,"NAME"` stands before the heading of each table. Refused as `print_table` is, by the faults of the
+/// schema, and by `Encoding` where the encoding of texts isn't known; what was printed before stands.
 pub fn print_tables<S: PageSource, W: Write>(
     alloc: Global,
     source: &mut S,
-    form: Form,
+    notation: Notation,
     out: &mut W,
 ) -> Result<(), Stop>
-    ensures ok { S.gives_pages source.old → OnOk result (AreTablesPrinted (S.pages source.old) form
+    ensures ok { S.gives_pages source.old → OnOk result (AreTablesPrinted (S.pages source.old) notation
         (W.contents out.old) (W.contents out.new)) }
     // What was printed is what comes first, and this is why what comes next isn't.
-    ensures err { S.gives_pages source.old → IfErr result (λ stop. AreTablesStopped (S.pages source.old) form stop
+    ensures err { S.gives_pages source.old → IfErr result (λ stop. AreTablesStopped (S.pages source.old) notation stop
         (W.contents out.old) (W.contents out.new)) }
     ensures keeps { KeepsPages S.pages S.size S.reads_right S.gives_pages source.old source.new }
 {
-    let objects = match listed(alloc, source) {
-        Ok(objects) => objects,
+    let schema = match listed(alloc, source) {
+        Ok(schema) => schema,
         Err(stop) => return Err(stop),
+    };
+    let form = Form {
+        notation,
+        encoding: schema.encoding,
     };
     match write_first(out, form) {
         Ok(()) => {}
         Err(error) => return Err(Stop::Write(error)),
     }
-    match print_objects(alloc, source, &objects, form, out) {
+    match print_objects(alloc, source, &schema.objects, form, out) {
         Ok(()) => {}
         Err(stop) => return Err(stop),
     }
-    match write_last(out, form) {
+    match write_last(out, notation) {
         Ok(()) => Ok(()),
         Err(error) => Err(Stop::Write(error)),
     }
@@ -436,20 +408,24 @@ pub fn print_named<S: PageSource, W: Write>(
     alloc: Global,
     source: &mut S,
     name: &[u8],
-    form: Form,
+    notation: Notation,
     out: &mut W,
 ) -> Result<(), Stop>
-    ensures ok { S.gives_pages source.old → OnOk result (IsNamedPrinted (S.pages source.old) name.now form
+    ensures ok { S.gives_pages source.old → OnOk result (IsNamedPrinted (S.pages source.old) name.now notation
         (W.contents out.old) (W.contents out.new)) }
-    ensures err { S.gives_pages source.old → IfErr result (λ stop. IsNamedStopped (S.pages source.old) name.now form
+    ensures err { S.gives_pages source.old → IfErr result (λ stop. IsNamedStopped (S.pages source.old) name.now notation
         stop (W.contents out.old) (W.contents out.new)) }
     ensures keeps { KeepsPages S.pages S.size S.reads_right S.gives_pages source.old source.new }
 {
-    let objects = match listed(alloc, source) {
-        Ok(objects) => objects,
+    let schema = match listed(alloc, source) {
+        Ok(schema) => schema,
         Err(stop) => return Err(stop),
     };
-    match table_named(&objects, name) {
+    let form = Form {
+        notation,
+        encoding: schema.encoding,
+    };
+    match table_named(&schema.objects, name) {
         Some(table) => print_headed(alloc, source, table, form, out),
         None => Err(Stop::NoSuchTable),
     }

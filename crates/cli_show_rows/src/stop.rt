@@ -24,7 +24,7 @@ pub enum Stop {
     /// A row has more than 1 GiB.
     #[error("a row is above 1,073,741,824 bytes")]
     TooLong,
-    /// The text of a table that is to be written as SQL isn't understood, or the table is one WITHOUT ROWID.
+    /// The text of a table that is to be written as SQL isn't understood.
     #[error("columns not understood")]
     NotUnderstood,
     /// A row doesn't store a column whose default isn't a literal that is understood.
@@ -33,8 +33,8 @@ pub enum Stop {
     /// A row that is to be written as SQL stores more columns than its table has.
     #[error("more columns than the table has")]
     Behind,
-    /// The texts of the database aren't UTF-8.
-    #[error("texts aren't UTF-8")]
+    /// The encoding of the database's texts isn't known.
+    #[error("text encoding not understood")]
     Encoding,
     /// No table has the name.
     #[error("no such table")]

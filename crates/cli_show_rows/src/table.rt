@@ -3,18 +3,18 @@ ghost use Rattle.std.specs.Prelude.{◌≡◌, OnOk, IfOk, IfErr, IsTrue, true};
 ghost use Rattle.std.specs.List.{list_any};
 ghost use Rattle.std.specs.Str.{str_eq_ignore_ascii_case};
 ghost use Rattle.sqpage.specs.Source.{KeepsPages};
-ghost use Rattle.sqtables.specs.Named.{AreColumns};
 ghost use Rattle.cli_row_text.specs.Inserts.{rowid_name as rowid_named};
 ghost use Rattle.cli_show_rows.specs.Tables.{IsInsert, IsNameFor, IsTablePrinted, has_column as has_named};
 ghost use Rattle.cli_show_rows.specs.Tables.{are_unnamed, has_rowids, leads_in};
-ghost use Rattle.cli_row_text.specs.declared.form.Form.{Form};
+ghost use Rattle.cli_row_text.specs.declared.form.Notation.{Notation};
 ghost use Rattle.cli_show_rows.specs.Stops.{IsTableStopped};
 ghost use Rattle.cli_show_rows.specs.declared.stop.Stop.{Stop};
 
+use crate::columns::known_columns;
 use crate::stop::Stop;
-use cli_row_text::{Form, Style, print_rows, write_insert};
+use cli_row_text::{Form, Notation, Style, print_rows, write_insert};
 use sqpage::PageSource;
-use sqtables::{Columns, Object, columns_of};
+use sqtables::{Columns, Object};
 use std::alloc::Global;
 use std::io::Write;
 
@@ -72,23 +72,12 @@ pub fn rowid_name(columns: &Columns) -> Option<&'static str>
 }
 
 /// Whether the rowid stands before the values.
-fn leads(form: Form, columns: &Columns, rowid: Option<&str>) -> bool
-    ensures { result ≡ leads_in form columns.now (rowid_named rowid.entry) }
+fn leads(notation: Notation, columns: &Columns, rowid: Option<&str>) -> bool
+    ensures { result ≡ leads_in notation columns.now (rowid_named rowid.entry) }
 {
-    match form {
-        Form::Sql => rowid.is_some(),
-        Form::Json | Form::Csv => columns.names.is_empty(),
-    }
-}
-
-/// What is known of the columns of a table. Refused by `NoMemory` alone.
-pub fn known_columns(alloc: Global, table: &Object) -> Result<Columns, Stop>
-    ensures ok { IfOk result (AreColumns table.now.sql.items) }
-    ensures err { IfErr result (λ stop. stop ≡ Stop.NoMemory) }
-{
-    match columns_of(alloc, &table.sql) {
-        Ok(columns) => Ok(columns),
-        Err(_) => Err(Stop::NoMemory),
+    match notation {
+        Notation::Sql => rowid.is_some(),
+        Notation::Json | Notation::Csv => columns.names.is_empty(),
     }
 }
 
@@ -98,16 +87,16 @@ fn insert_of(
     table: &Object,
     columns: &Columns,
     rowid: Option<&str>,
-    form: Form,
+    notation: Notation,
 ) -> Result<Vec<u8>, Stop>
     ensures ok { IfOk result (λ insert.
-        IsInsert form table.now columns.now (rowid_named rowid.entry) insert.items) }
+        IsInsert notation table.now columns.now (rowid_named rowid.entry) insert.items) }
     ensures err { IfErr result (λ stop. stop ≡ Stop.NoMemory) }
 {
     let mut insert = Vec::new(alloc);
-    match form {
-        Form::Json | Form::Csv => Ok(insert),
-        Form::Sql => match write_insert(&mut insert, &table.name, rowid, &columns.names) {
+    match notation {
+        Notation::Json | Notation::Csv => Ok(insert),
+        Notation::Sql => match write_insert(&mut insert, &table.name, rowid, &columns.names) {
             Ok(()) => Ok(insert),
             Err(_) => Err(Stop::NoMemory),
         },
@@ -115,12 +104,12 @@ fn insert_of(
 }
 
 /// Whether the columns of a table are to be named in SQL, and none is known.
-fn is_unknown(form: Form, columns: &Columns) -> bool
-    ensures { IsTrue result → (form ≡ Form.Sql) × (are_unnamed columns.now ≡ true) }
+fn is_unknown(notation: Notation, columns: &Columns) -> bool
+    ensures { IsTrue result → (notation ≡ Notation.Sql) × (are_unnamed columns.now ≡ true) }
 {
-    match form {
-        Form::Json | Form::Csv => false,
-        Form::Sql => columns.names.is_empty(),
+    match notation {
+        Notation::Json | Notation::Csv => false,
+        Notation::Sql => columns.names.is_empty(),
     }
 }
 
@@ -142,15 +131,15 @@ pub fn print_table<S: PageSource, W: Write>(
         stop (W.contents out.old) (W.contents out.new)) }
     ensures keeps { KeepsPages S.pages S.size S.reads_right S.gives_pages source.old source.new }
 {
-    let columns = match known_columns(alloc, table) {
+    let columns = match known_columns(alloc, table, form.encoding) {
         Ok(columns) => columns,
         Err(stop) => return Err(stop),
     };
-    if is_unknown(form, &columns) {
+    if is_unknown(form.notation, &columns) {
         return Err(Stop::NotUnderstood);
     }
     let rowid = rowid_name(&columns);
-    let insert = match insert_of(alloc, table, &columns, rowid, form) {
+    let insert = match insert_of(alloc, table, &columns, rowid, form.notation) {
         Ok(insert) => insert,
         Err(stop) => return Err(stop),
     };
@@ -158,7 +147,7 @@ pub fn print_table<S: PageSource, W: Write>(
         form,
         columns: &columns,
         insert: &insert,
-        leads: leads(form, &columns, rowid),
+        leads: leads(form.notation, &columns, rowid),
     };
     match print_rows(alloc, source, table.root, style, out) {
         Ok(()) => Ok(()),

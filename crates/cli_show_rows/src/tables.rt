@@ -4,8 +4,9 @@ ghost use Rattle.sqpage.specs.Source.{KeepsPages};
 ghost use Rattle.cli_show_rows.specs.Tables.{IsHeadedPrinted};
 ghost use Rattle.cli_show_rows.specs.Stops.{IsHeadedStopped};
 
+use crate::columns::known_columns;
 use crate::stop::Stop;
-use crate::table::{known_columns, print_table};
+use crate::table::print_table;
 use cli_row_text::{Form, write_heading};
 use sqpage::PageSource;
 use sqtables::Object;
@@ -27,11 +28,11 @@ pub fn print_headed<S: PageSource, W: Write>(
         stop (W.contents out.old) (W.contents out.new)) }
     ensures keeps { KeepsPages S.pages S.size S.reads_right S.gives_pages source.old source.new }
 {
-    let columns = match known_columns(alloc, table) {
+    let columns = match known_columns(alloc, table, form.encoding) {
         Ok(columns) => columns,
         Err(stop) => return Err(stop),
     };
-    match write_heading(out, form, &table.name, &columns.names) {
+    match write_heading(out, form.notation, &table.name, &columns.names) {
         Ok(()) => print_table(alloc, source, table, form, out),
         Err(error) => Err(Stop::Write(error)),
     }

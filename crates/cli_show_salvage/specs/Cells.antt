@@ -2,6 +2,7 @@
 use Rattle.std.specs.Prelude.{◌≡◌, ◌⊎◌, ℕ, ◌<◌, ◌≤◌, Bool, false, List, [], ◌∷◌, ◌++◌, codes, length, IfSome, Option}
 use Rattle.std.specs.Io.KnownBytes.{Appends}
 use Rattle.sqval.specs.Database.{Database}
+use Rattle.sqval.specs.Datum.{Datum}
 use Rattle.sqval.specs.Record.{most_bytes, Refused}
 use Rattle.sqval.specs.declared.error.RecordError.{RecordError}
 use Rattle.sqpage.specs.declared.cell.Cell.{Cell}
@@ -12,7 +13,8 @@ use Rattle.sqrows.specs.Trees.{entry_of}
 use Rattle.sqrows.specs.Rows.{Row, IsRowIn}
 use Rattle.sqtables.specs.declared.list.Object.{Object}
 use Rattle.sqtables.specs.Objects.{IsObjectOf, IsNoObject}
-use Rattle.cli_row_text.specs.declared.form.Form.TheVariants.{Sql}
+use Rattle.sqdeep.specs.declared.text.Encoding.{Encoding}
+use Rattle.cli_show_rows.specs.Schemas.{IsObjectRead}
 use Rattle.cli_row_text.specs.declared.print.Style.{Style}
 use Rattle.cli_row_text.specs.Printed.{IsRowLine}
 use Rattle.cli_show_rows.specs.declared.stop.Stop.{Stop}
@@ -59,25 +61,29 @@ abbrev pub IsLostTold : Target → (i : ℕ) → Cell → List ℕ → Row → (
 IsLostTold target i cell bytes row old new before after =
     ((length row.values ≤ most_values) × (old.rowids ≡ new.rowids) × (old.objects ≡ new.objects)
     × (placed : Option (List ℕ)) × Appends before placed (placed_text target.places cell.page i)
-    × IsLostRow target.lost.now target.root cell row.values old.width new.width placed after)
+    × IsLostRow target.encoding target.lost.now target.root cell row.values old.width new.width placed after)
     ⊎ ((most_values < length row.values) × IsMarked i cell (codes "too many values") bytes old new before after)
 
 -- It was written as one of a table.
 abbrev pub IsTableTold : (places : Bool) → Style → (i : ℕ) → Cell → Row → (old new : Book) → (before after : Option (List ℕ)) → Type 0
 IsTableTold places style i cell row old new before after =
     Adds (id_of cell) old new × (placed : Option (List ℕ)) × (line : List ℕ) × Appends before placed (placed_text places cell.page i)
-    × IsRowLine Sql style.insert.now style.columns.now style.leads row line × Appends placed after line
+    × IsRowLine style.form style.insert.now style.columns.now style.leads row line × Appends placed after line
+
+-- An object is that of a row, whose texts are stored in this encoding.
+abbrev pub IsObjectIn : Encoding → List Datum → Object → Type 0
+IsObjectIn encoding values o = (stored : Object) × IsObjectOf values stored × IsObjectRead encoding stored o
 
 -- The object of a row of the schema was kept, and nothing was written; or it has none.
-abbrev pub IsKept : (i : ℕ) → Cell → List ℕ → Row → (old new : Book) → (before after : Option (List ℕ)) → Type 0
-IsKept i cell bytes row old new before after =
-    ((o : Object) × IsObjectOf row.values o × (new.objects.items ≡ old.objects.items ++ o ∷ []) × (old.rowids ≡ new.rowids)
+abbrev pub IsKept : Encoding → (i : ℕ) → Cell → List ℕ → Row → (old new : Book) → (before after : Option (List ℕ)) → Type 0
+IsKept encoding i cell bytes row old new before after =
+    ((o : Object) × IsObjectIn encoding row.values o × (new.objects.items ≡ old.objects.items ++ o ∷ []) × (old.rowids ≡ new.rowids)
     × (old.width ≡ new.width) × (before ≡ after))
     ⊎ (IsNoObject row.values × IsMarked i cell (codes "no statement") bytes old new before after)
 
 -- What was written of a row that stands in a cell, and where it goes.
 abbrev pub IsRowTold : Target → Going → (i : ℕ) → Cell → List ℕ → Row → (old new : Book) → (before after : Option (List ℕ)) → Type 0
-IsRowTold target Schema i cell bytes row old new before after = IsKept i cell bytes row old new before after
+IsRowTold target Schema i cell bytes row old new before after = IsKept target.encoding i cell bytes row old new before after
 IsRowTold target (Table style) i cell bytes row old new before after =
     (Takes style cell row old × IsTableTold target.places style i cell row old new before after)
     ⊎ ((¬ Takes style cell row old) × IsLostTold target i cell bytes row old new before after)

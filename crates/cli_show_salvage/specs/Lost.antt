@@ -5,8 +5,9 @@ use Rattle.std.specs.Io.KnownBytes.{Appends}
 use Rattle.std.specs.Fmt.{decimal}
 use Rattle.sqval.specs.Datum.{Datum}
 use Rattle.sqpage.specs.declared.cell.Cell.{Cell}
-use Rattle.cli_row_text.specs.declared.form.Form.TheVariants.{Sql}
-use Rattle.cli_row_text.specs.Lines.{between_marks, IsLine}
+use Rattle.sqdeep.specs.declared.text.Encoding.{Encoding}
+use Rattle.cli_row_text.specs.declared.form.Notation.TheVariants.{Sql}
+use Rattle.cli_row_text.specs.Lines.{between_marks, form_of, IsLine}
 
 -- what makes the table of this name, which has no column for values yet
 abbrev pub made_text : (name : List ℕ) → List ℕ
@@ -47,7 +48,7 @@ id_text (Some id) n = []
 
 -- An INSERT of a row of these values, which stands in this cell: behind as many columns as it takes, the root, the page, how
 -- many values there are, the rowid, or NULL where there is none, and the values as they are stored.
-pub record IsLostRow (name : List ℕ) (root : Option ℕ) (cell : Cell) (values : List Datum) (old new : ℕ) (before after : Option (List ℕ)) : Type 0 where
+pub record IsLostRow (encoding : Encoding) (name : List ℕ) (root : Option ℕ) (cell : Cell) (values : List Datum) (old new : ℕ) (before after : Option (List ℕ)) : Type 0 where
   pub wide : new ≡ max old (length values)
   pub widened : Option (List ℕ)
   pub headed : Option (List ℕ)
@@ -58,5 +59,5 @@ pub record IsLostRow (name : List ℕ) (root : Option ℕ) (cell : Cell) (values
   pub head : Appends widened headed (head_text name)
   pub names : Appends headed named (named_texts (length values))
   pub stands : Appends named placed (where_text root cell.page (length values))
-  pub is : IsLine Sql (id_text cell.rowid (length values)) [] cell.rowid values line
+  pub is : IsLine (form_of Sql encoding) (id_text cell.rowid (length values)) [] cell.rowid values line
   pub written : Appends placed after line

@@ -1,5 +1,6 @@
 //! What was written so far, as far as what comes behind depends on it.
 use cli_row_text::Style;
+use sqdeep::Encoding;
 use sqtables::Object;
 use std::alloc::{AllocError, Global};
 use std::collections::HashSet;
@@ -39,6 +40,8 @@ pub(crate) struct Target<'a> {
     pub(crate) going: Going<'a>,
     /// Whether the place of each row is written.
     pub(crate) places: bool,
+    /// That of the database's texts.
+    pub(crate) encoding: Encoding,
 }
 
 /// Which tables are written: SQLite's own, or the user's.
@@ -49,6 +52,8 @@ pub(crate) struct Turn<'a> {
     pub(crate) lost: &'a [u8],
     /// Whether the place of each row is written.
     pub(crate) places: bool,
+    /// That of the database's texts.
+    pub(crate) encoding: Encoding,
     pub(crate) own: bool,
 }
 

@@ -9,7 +9,7 @@ ghost use Rattle.cli_show_salvage.specs.Cells.{IsRunOut};
 ghost use Rattle.cli_show_salvage.specs.Lost.{where_text};
 
 use crate::book::{Book, Target};
-use cli_row_text::{Form, write_between, write_line};
+use cli_row_text::{Form, Notation, write_between, write_line};
 use cli_show_rows::Stop;
 use sqpage::Cell;
 use sqrows::Row;
@@ -122,7 +122,8 @@ fn write_row<W: Write>(
     width: usize,
     out: &mut W,
 ) -> io::Result<()>
-    ensures { OnOk result (IsLostRow target.now.lost.now target.now.root cell.now (row_of values.now) width
+    ensures { OnOk result (IsLostRow target.now.encoding target.now.lost.now target.now.root cell.now (row_of
+        values.now) width
         (max width (length values.now)) (W.contents out.old) (W.contents out.new)) }
 {
     write_columns(out, target.lost, width, values.len())?;
@@ -130,7 +131,11 @@ fn write_row<W: Write>(
     write_names(out, values.len())?;
     write_where(out, target.root, cell.page, values.len())?;
     let lead = id_lead(cell.rowid, values.len());
-    write_line(out, Form::Sql, lead, &[], cell.rowid, values)
+    let form = Form {
+        notation: Notation::Sql,
+        encoding: target.encoding,
+    };
+    write_line(out, form, lead, &[], cell.rowid, values)
 }
 
 /// Writes a row that stands in this cell into the table of lost rows.
@@ -141,7 +146,8 @@ pub(crate) fn print_lost<W: Write>(
     book: &mut Book,
     out: &mut W,
 ) -> Result<(), Stop>
-    ensures ok { OnOk result (IsLostRow target.now.lost.now target.now.root cell.now row.now.values book.old.width
+    ensures ok { OnOk result (IsLostRow target.now.encoding target.now.lost.now target.now.root cell.now
+        row.now.values book.old.width
         book.new.width (W.contents out.old) (W.contents out.new)) }
     ensures same { (book.new.rowids ≡ book.old.rowids) × (book.new.objects ≡ book.old.objects) }
     ensures err { IfErr result IsRunOut }

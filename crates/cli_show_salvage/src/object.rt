@@ -2,7 +2,10 @@
 ghost use Rattle.std.specs.Prelude.{◌≡◌, ◌≢◌, ℕ, ◌<◌, ◌^◌, List, Some, IfOk, MatchOption, slice_get, pos};
 ghost use Rattle.sqval.specs.Datum.{Datum, integer, text};
 ghost use Rattle.sqtables.specs.Objects.{IsNoObject, IsObjectOf};
+ghost use Rattle.cli_show_salvage.specs.Cells.{IsObjectIn};
 
+use cli_show_rows::read_object;
+use sqdeep::Encoding;
 use sqtables::Object;
 use sqval::{Record, Value};
 use std::alloc::{AllocError, Global};
@@ -49,7 +52,7 @@ fn copied(
 }
 
 /// The object of a row of the schema. None where it is that of none with a text, as of an index that a constraint made.
-pub(crate) fn object_of(alloc: Global, values: &Record<'_>) -> Result<Option<Object>, AllocError>
+fn object_of(alloc: Global, values: &Record<'_>) -> Result<Option<Object>, AllocError>
     ensures { IfOk result (λ found. MatchOption found (IsNoObject values.now) (IsObjectOf values.now)) }
 {
     let Some(kind) = text_at(values, 0) else {
@@ -66,6 +69,21 @@ pub(crate) fn object_of(alloc: Global, values: &Record<'_>) -> Result<Option<Obj
     };
     match copied(alloc, kind, name, root, sql) {
         Ok(object) => Ok(Some(object)),
+        Err(error) => Err(error),
+    }
+}
+
+/// The same, its texts in UTF-8, which are stored in this encoding.
+pub(crate) fn object_in(
+    alloc: Global,
+    encoding: Encoding,
+    values: &Record<'_>,
+) -> Result<Option<Object>, AllocError>
+    ensures { IfOk result (λ found. MatchOption found (IsNoObject values.now) (IsObjectIn encoding values.now)) }
+{
+    match object_of(alloc, values) {
+        Ok(Some(stored)) => Ok(Some(read_object(alloc, encoding, &stored)?)),
+        Ok(None) => Ok(None),
         Err(error) => Err(error),
     }
 }

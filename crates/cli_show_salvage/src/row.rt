@@ -1,7 +1,6 @@
 //! A row that stands in a cell, as it is written.
 ghost use Rattle.std.specs.Prelude.{◌≡◌, false, List, ℕ, IfErr, IsTrue, OnOk, length};
 ghost use Rattle.std.specs.Io.KnownBytes.{Appends};
-ghost use Rattle.cli_row_text.specs.declared.form.Form.TheVariants.{Sql};
 ghost use Rattle.cli_row_text.specs.Printed.{IsRowLine};
 ghost use Rattle.cli_show_salvage.specs.Marks.{placed_text};
 ghost use Rattle.cli_show_salvage.specs.Cells.{IsKept, IsLostTold, IsMarked, IsRowTold, IsRunOut, IsTableTold, Takes};
@@ -9,9 +8,10 @@ ghost use Rattle.cli_show_salvage.specs.Cells.{IsKept, IsLostTold, IsMarked, IsR
 use crate::book::{Book, Going, Target};
 use crate::lost::print_lost;
 use crate::marks::{id_of, write_mark, write_placed};
-use crate::object::object_of;
-use cli_row_text::{Form, Style, write_line};
+use crate::object::object_in;
+use cli_row_text::{Style, write_line};
 use cli_show_rows::Stop;
+use sqdeep::Encoding;
 use sqpage::Cell;
 use sqrows::Row;
 use std::alloc::Global;
@@ -53,7 +53,7 @@ fn write_taken<W: Write>(
     row: &Row<'_>,
     out: &mut W,
 ) -> Result<(), Stop>
-    ensures ok { OnOk result ((line : List ℕ) × IsRowLine Sql style.now.insert.now style.now.columns.now
+    ensures ok { OnOk result ((line : List ℕ) × IsRowLine style.now.form style.now.insert.now style.now.columns.now
         style.now.leads (record { rowid = row.now.rowid; values = row.now.values }) line
         × Appends (W.contents out.old) (W.contents out.new) line) }
     ensures err { IfErr result IsRunOut }
@@ -64,7 +64,7 @@ fn write_taken<W: Write>(
     };
     let rowid = if style.leads { row.rowid } else { None };
     let names = &style.columns.names;
-    match write_line(out, Form::Sql, style.insert, names, rowid, &values) {
+    match write_line(out, style.form, style.insert, names, rowid, &values) {
         Ok(()) => Ok(()),
         Err(error) => Err(Stop::Write(error)),
     }
@@ -151,13 +151,19 @@ fn print_untaken<W: Write>(
 }
 
 /// Keeps the object of a row of the schema.
-fn keep<W: Write>(held: Held<'_>, row: &Row<'_>, book: &mut Book, out: &mut W) -> Result<(), Stop>
-    ensures ok { OnOk result (IsKept held.entry.i held.entry.cell.now held.entry.bytes.now
+fn keep<W: Write>(
+    encoding: Encoding,
+    held: Held<'_>,
+    row: &Row<'_>,
+    book: &mut Book,
+    out: &mut W,
+) -> Result<(), Stop>
+    ensures ok { OnOk result (IsKept encoding held.entry.i held.entry.cell.now held.entry.bytes.now
         (record { rowid = row.now.rowid; values = row.now.values }) book.old book.new
         (W.contents out.old) (W.contents out.new)) }
     ensures err { IfErr result IsRunOut }
 {
-    let object = match object_of(book.alloc, &row.values) {
+    let object = match object_in(book.alloc, encoding, &row.values) {
         Ok(Some(object)) => object,
         Ok(None) => return print_mark(held.i, held.cell, "no statement", held.bytes, book, out),
         Err(_) => return Err(Stop::NoMemory),
@@ -182,7 +188,7 @@ pub(crate) fn print_row<W: Write>(
     ensures err { IfErr result IsRunOut }
 {
     match &target.going {
-        Going::Schema => keep(held, row, book, out),
+        Going::Schema => keep(target.encoding, held, row, book, out),
         Going::Lost => print_untaken(target, held, row, book, out),
         Going::Table(style) => if takes(style, held.cell, row, book) {
             print_taken(target, style, held, row, book, out)

@@ -1,17 +1,19 @@
 //! A database as a script, well formed or not.
 ghost use Rattle.std.specs.Prelude.{◌≡◌, ◌⊎◌, ◌≤◌, [], IfErr, IfOk, OnOk, length, true};
 ghost use Rattle.std.specs.Io.KnownBytes.{Appends};
-ghost use Rattle.sqval.specs.Database.{page};
+ghost use Rattle.sqval.specs.Bytes.{word};
+ghost use Rattle.sqdeep.specs.Records.{encoding_of};
+ghost use Rattle.sqdeep.specs.Texts.{encoding_named};
 ghost use Rattle.sqpage.specs.Source.{KeepsPages};
 ghost use Rattle.cli_show_rows.specs.Dumps.{AreTablesPrinted};
 ghost use Rattle.cli_show_rows.specs.Stops.{AreTablesStopped};
-ghost use Rattle.cli_row_text.specs.declared.form.Form.TheVariants.{Sql};
+ghost use Rattle.cli_row_text.specs.declared.form.Notation.TheVariants.{Sql};
 ghost use Rattle.sqsalvage.specs.SalvageCursor.{IsOver};
 ghost use Rattle.cli_show_salvage.specs.declared.book.Going.TheVariants.{Schema};
 ghost use Rattle.cli_show_salvage.specs.Cells.{IsRunOut};
 ghost use Rattle.cli_show_salvage.specs.Scripts.{AreRowsSalvaged, AreTreesEnded, IsSalvaged, IsScript};
 ghost use Rattle.cli_show_salvage.specs.Scripts.{IsScriptStopped, IsUnfit, IsUnreachedEnded};
-ghost use Rattle.cli_show_salvage.specs.internal.Opening.{IsJudged, IsTextUnfit};
+ghost use Rattle.cli_show_salvage.specs.internal.Opening.{IsJudged};
 
 use crate::book::{Book, Going, Target, Turn};
 use crate::found::stop_of;
@@ -19,12 +21,14 @@ use crate::leaves::{print_lost_leaves, print_tree};
 use crate::lost::write_made;
 use crate::tables::{lost_name, print_others, print_turn};
 use byteorder::{BigEndian, ByteOrder};
-use cli_row_text::Form;
-use cli_show_rows::{Stop, print_tables};
+use cli_row_text::Notation;
+use cli_show_rows::{Stop, print_tables, write_start};
 use sqcheck::{Options, check_with};
+use sqdeep::Encoding;
 use sqpage::{CheckError, Fault, PageSource};
 use sqsalvage::Salvage;
 use sqtables::Object;
+use sqtext::encoding_named;
 use std::alloc::Global;
 use std::io::Write;
 
@@ -54,30 +58,29 @@ fn is_well_formed<S: PageSource>(alloc: Global, source: &mut S) -> Result<bool, 
     }
 }
 
-/// Whether a page 1 says that texts are UTF-16 (fileformat2, 1.3.13).
-fn says_utf16(bytes: &[u8]) -> bool
+/// The encoding that a page 1 names (fileformat2, 1.3.13).
+fn encoding_in(bytes: &[u8]) -> Encoding
     requires { 60 ≤ length bytes.now }
-    ensures { IsTextUnfit bytes.now result }
+    ensures { result ≡ encoding_named (word bytes.now 56) }
 {
-    let encoding = BigEndian::read_u32(&bytes[56..60]);
-    encoding == 2 || encoding == 3
+    encoding_named(BigEndian::read_u32(&bytes[56..60]))
 }
 
-/// Whether the texts of the database are UTF-16, as its page 1 says.
-fn is_utf16<S: PageSource>(alloc: Global, source: &mut S) -> Result<bool, Stop>
-    ensures ok { S.gives_pages source.old → IfOk result (IsTextUnfit (page (S.pages source.old) 1)) }
+/// The encoding of a database.
+fn encoding_of<S: PageSource>(alloc: Global, source: &mut S) -> Result<Encoding, Stop>
+    ensures ok { S.gives_pages source.old → IfOk result (λ encoding. encoding ≡ encoding_of (S.pages source.old)) }
     ensures err { S.gives_pages source.old → IfErr result IsRunOut }
     ensures keeps { KeepsPages S.pages S.size S.reads_right S.gives_pages source.old source.new }
 {
     if source.count() == 0 {
-        return Ok(false);
+        return Ok(Encoding::Utf8);
     }
     let size = source.page_size().get() as usize;
     let Ok(mut bytes) = vec![in alloc; 0u8; size] else {
         return Err(Stop::NoMemory);
     };
     match source.page(1, &mut bytes) {
-        Ok(()) => Ok(says_utf16(&bytes)),
+        Ok(()) => Ok(encoding_in(&bytes)),
         Err(_) => Err(Stop::Fault(CheckError {
             page: 1,
             fault: Fault::Source,
@@ -96,7 +99,8 @@ fn print_unreached<S: PageSource, W: Write>(
     requires sized { S.size source.old ≡ salvage.old.size }
     requires first { salvage.old.at ≡ 0 }
     ensures ok { S.gives_pages source.old → IsOver (S.pages source.old) salvage.old → OnOk result
-        (IsUnreachedEnded (S.pages source.old) turn.entry.lost.now turn.entry.places salvage.old.marks.items book.old
+        (IsUnreachedEnded (S.pages source.old) turn.entry.encoding turn.entry.lost.now turn.entry.places
+        salvage.old.marks.items book.old
         (W.contents out.old) (W.contents out.new)) }
     ensures err { S.gives_pages source.old → IsOver (S.pages source.old) salvage.old → IfErr result IsRunOut }
     ensures keeps { KeepsPages S.pages S.size S.reads_right S.gives_pages source.old source.new }
@@ -107,6 +111,7 @@ fn print_unreached<S: PageSource, W: Write>(
         table: true,
         going: Going::Lost,
         places: turn.places,
+        encoding: turn.encoding,
     };
     match print_lost_leaves(source, salvage, &target, book, out) {
         Ok(()) => print_text(out, b"COMMIT;\n"),
@@ -126,7 +131,8 @@ fn print_trees<S: PageSource, W: Write>(
     requires ended { salvage.old.pending.items ≡ [] }
     requires first { salvage.old.at ≡ 0 }
     ensures ok { S.gives_pages source.old → IsOver (S.pages source.old) salvage.old → OnOk result
-        (AreTreesEnded (S.pages source.old) turn.entry.lost.now turn.entry.places turn.entry.objects.now
+        (AreTreesEnded (S.pages source.old) turn.entry.encoding turn.entry.lost.now turn.entry.places
+        turn.entry.objects.now
         salvage.old.marks.items book.old (W.contents out.old) (W.contents out.new)) }
     ensures err { S.gives_pages source.old → IsOver (S.pages source.old) salvage.old → IfErr result IsRunOut }
     ensures keeps { KeepsPages S.pages S.size S.reads_right S.gives_pages source.old source.new }
@@ -141,20 +147,29 @@ fn print_trees<S: PageSource, W: Write>(
     }
 }
 
+/// How rows are written.
+#[derive(Clone, Copy)]
+struct How {
+    /// Whether the place of each row is written.
+    places: bool,
+    /// That of the database's texts.
+    encoding: Encoding,
+}
+
 /// Writes the rows of the objects, and behind them what has no rows of its own.
 fn print_rows<S: PageSource, W: Write>(
     alloc: Global,
     source: &mut S,
     salvage: &mut Salvage,
     objects: &[Object],
-    places: bool,
+    how: How,
     out: &mut W,
 ) -> Result<(), Stop>
     requires sized { S.size source.old ≡ salvage.old.size }
     requires ended { salvage.old.pending.items ≡ [] }
     requires first { salvage.old.at ≡ 0 }
     ensures ok { S.gives_pages source.old → IsOver (S.pages source.old) salvage.old → OnOk result
-        (AreRowsSalvaged (S.pages source.old) places objects.now salvage.old.marks.items
+        (AreRowsSalvaged (S.pages source.old) how.encoding how.places objects.now salvage.old.marks.items
         (W.contents out.old) (W.contents out.new)) }
     ensures err { S.gives_pages source.old → IsOver (S.pages source.old) salvage.old → IfErr result IsRunOut }
     ensures keeps { KeepsPages S.pages S.size S.reads_right S.gives_pages source.old source.new }
@@ -171,7 +186,8 @@ fn print_rows<S: PageSource, W: Write>(
     let turn = Turn {
         objects,
         lost: &lost,
-        places,
+        places: how.places,
+        encoding: how.encoding,
         own: false,
     };
     match print_trees(source, salvage, turn, &mut book, out) {
@@ -181,8 +197,9 @@ fn print_rows<S: PageSource, W: Write>(
 }
 
 /// Where the rows of the schema go.
-fn schema_target<'a>(places: bool) -> Target<'a>
+fn schema_target<'a>(how: How) -> Target<'a>
     ensures goes { result.going ≡ Schema }
+    ensures encoded { result.encoding ≡ how.encoding }
     ensures table { result.table ≡ true }
 {
     Target {
@@ -190,7 +207,8 @@ fn schema_target<'a>(places: bool) -> Target<'a>
         root: Some(1),
         table: true,
         going: Going::Schema,
-        places,
+        places: how.places,
+        encoding: how.encoding,
     }
 }
 
@@ -211,14 +229,19 @@ fn print_damaged<S: PageSource, W: Write>(
         Ok(salvage) => salvage,
         Err(refusal) => return Err(stop_of(refusal)),
     };
-    match print_text(out, b"PRAGMA foreign_keys=OFF;\nBEGIN TRANSACTION;\n") {
-        Ok(()) => {}
+    let encoding = match encoding_of(alloc, source) {
+        Ok(encoding) => encoding,
         Err(stop) => return Err(stop),
+    };
+    match write_start(out, encoding) {
+        Ok(()) => {}
+        Err(error) => return Err(Stop::Write(error)),
     }
     let mut book = Book::new(alloc);
-    let target = schema_target(places);
+    let how = How { places, encoding };
+    let target = schema_target(how);
     match print_tree(source, &mut salvage, &target, 1, &mut book, out) {
-        Ok(()) => print_rows(alloc, source, &mut salvage, &book.objects, places, out),
+        Ok(()) => print_rows(alloc, source, &mut salvage, &book.objects, how, out),
         Err(stop) => Err(stop),
     }
 }
@@ -235,7 +258,7 @@ fn print_whole<S: PageSource, W: Write>(
         (W.contents out.old) (W.contents out.new)) }
     ensures keeps { KeepsPages S.pages S.size S.reads_right S.gives_pages source.old source.new }
 {
-    match print_tables(alloc, source, Form::Sql, out) {
+    match print_tables(alloc, source, Notation::Sql, out) {
         Ok(()) => Ok(true),
         Err(stop) => Err(stop),
     }
@@ -248,8 +271,9 @@ fn print_whole<S: PageSource, W: Write>(
 /// comment for each cell that can't, with its page and its index there; with `places` such a comment before each row
 /// too. Leaves that no tree reaches are read where they are those of a table with rowids: those of a table WITHOUT
 /// ROWID can't be told from an index's. Indexes, triggers and views come behind it. True where it is well formed.
-/// Refused by `Encoding` where texts are UTF-16, by PageOutside and Reserved at page 1 where there is no page or fewer
-/// than 480 bytes of one are usable, by `NoMemory`, and by an error of the writer.
+/// Refused by `Encoding` where it is well formed and the encoding of its texts isn't known, by PageOutside and Reserved
+/// at page 1 where there is no page or fewer than 480 bytes of one are usable, by `NoMemory`, and by an error of the
+/// writer.
 pub fn print_salvage<S: PageSource, W: Write>(
     alloc: Global,
     source: &mut S,
@@ -264,11 +288,6 @@ pub fn print_salvage<S: PageSource, W: Write>(
 {
     match is_well_formed(alloc, source) {
         Ok(true) => return print_whole(alloc, source, out),
-        Ok(false) => {}
-        Err(stop) => return Err(stop),
-    }
-    match is_utf16(alloc, source) {
-        Ok(true) => return Err(Stop::Encoding),
         Ok(false) => {}
         Err(stop) => return Err(stop),
     }

@@ -11,7 +11,7 @@ ghost use Rattle.cli_show_salvage.specs.Scripts.{IsGoing, IsTableSalvaged, head_
 use crate::book::{Book, Going, Target, Turn};
 use crate::leaves::print_tree;
 use crate::marks::write_literal;
-use cli_row_text::{Form, Style, write_insert};
+use cli_row_text::{Form, Notation, Style, write_insert};
 use cli_show_rows::{Stop, known_columns, rowid_name, write_making};
 use sqpage::PageSource;
 use sqsalvage::Salvage;
@@ -79,10 +79,11 @@ fn target_of<'a>(
     insert: &'a [u8],
     leads: bool,
 ) -> Target<'a>
-    ensures lost { (result.lost.now ≡ turn.entry.lost.now) × (result.places ≡ turn.entry.places) }
+    ensures lost { (result.lost.now ≡ turn.entry.lost.now) × (result.places ≡ turn.entry.places)
+        × (result.encoding ≡ turn.entry.encoding) }
     ensures root { result.root ≡ Some root }
     ensures table { result.table ≡ has_rowids columns.entry.now }
-    ensures goes { IsGoing columns.entry.now insert.entry.now leads result.going }
+    ensures goes { IsGoing turn.entry.encoding columns.entry.now insert.entry.now leads result.going }
 {
     let table = has_rowids(columns);
     if are_unnamed(columns) {
@@ -92,10 +93,14 @@ fn target_of<'a>(
             table,
             going: Going::Lost,
             places: turn.places,
+            encoding: turn.encoding,
         };
     }
     let style = Style {
-        form: Form::Sql,
+        form: Form {
+            notation: Notation::Sql,
+            encoding: turn.encoding,
+        },
         columns,
         insert,
         leads,
@@ -106,6 +111,7 @@ fn target_of<'a>(
         table,
         going: Going::Table(style),
         places: turn.places,
+        encoding: turn.encoding,
     }
 }
 
@@ -121,7 +127,7 @@ pub(crate) fn print_table<S: PageSource, W: Write>(
     requires sized { S.size source.old ≡ salvage.old.size }
     requires ended { salvage.old.pending.items ≡ [] }
     ensures ok { S.gives_pages source.old → IsOver (S.pages source.old) salvage.old → OnOk result
-        (IsTableSalvaged (S.pages source.old) turn.entry.lost.now turn.entry.places table.now
+        (IsTableSalvaged (S.pages source.old) turn.entry.encoding turn.entry.lost.now turn.entry.places table.now
         salvage.old.marks.items salvage.new.marks.items book.old book.new (W.contents out.old) (W.contents out.new)) }
     ensures over { S.gives_pages source.old → IsOver (S.pages source.old) salvage.old → OnOk result
         (IsOver (S.pages source.old) salvage.new) }
@@ -130,7 +136,7 @@ pub(crate) fn print_table<S: PageSource, W: Write>(
     ensures err { S.gives_pages source.old → IsOver (S.pages source.old) salvage.old → IfErr result IsRunOut }
     ensures keeps { KeepsPages S.pages S.size S.reads_right S.gives_pages source.old source.new }
 {
-    let columns = match known_columns(book.alloc, table) {
+    let columns = match known_columns(book.alloc, table, turn.encoding) {
         Ok(columns) => columns,
         Err(stop) => return Err(stop),
     };

@@ -38,7 +38,8 @@ fn print_object<S: PageSource, W: Write>(
     requires sized { S.size source.old ≡ salvage.old.size }
     requires ended { salvage.old.pending.items ≡ [] }
     ensures ok { S.gives_pages source.old → IsOver (S.pages source.old) salvage.old → OnOk result
-        (IsTurnSalvaged (S.pages source.old) turn.entry.lost.now turn.entry.places turn.entry.own object.now
+        (IsTurnSalvaged (S.pages source.old) turn.entry.encoding turn.entry.lost.now turn.entry.places turn.entry.own
+        object.now
         salvage.old.marks.items salvage.new.marks.items book.old book.new (W.contents out.old) (W.contents out.new)) }
     ensures over { S.gives_pages source.old → IsOver (S.pages source.old) salvage.old → OnOk result
         (IsOver (S.pages source.old) salvage.new) }
@@ -65,7 +66,7 @@ pub(crate) fn print_turn<S: PageSource, W: Write>(
     requires sized { S.size source.old ≡ salvage.old.size }
     requires ended { salvage.old.pending.items ≡ [] }
     ensures ok { S.gives_pages source.old → IsOver (S.pages source.old) salvage.old → OnOk result
-        (AreTurnsSalvaged (S.pages source.old) turn.entry.lost.now turn.entry.places turn.entry.own
+        (AreTurnsSalvaged (S.pages source.old) turn.entry.encoding turn.entry.lost.now turn.entry.places turn.entry.own
         salvage.old.marks.items book.old (W.contents out.old)
         turn.entry.objects.now salvage.new.marks.items book.new (W.contents out.new)) }
     ensures over { S.gives_pages source.old → IsOver (S.pages source.old) salvage.old → OnOk result

@@ -9,3 +9,5 @@ mod rows_tests;
 mod shown_tests;
 #[cfg(test)]
 mod tables_tests;
+#[cfg(test)]
+mod texts_tests;

@@ -1,6 +1,7 @@
 //! Worked tables as they are printed: the expected lines were written by hand.
-use cli_row_text::{Form, write_heading, write_insert};
+use cli_row_text::{Form, Notation, write_heading, write_insert};
 use cli_show_rows::{print_headed, print_table};
+use sqdeep::Encoding;
 use sqpage::SliceSource;
 use sqtables::{objects, table_named};
 use sqval::PageSize;
@@ -50,12 +51,20 @@ fn objects_of_a_schema(rt: HostRuntime) -> Result<(), Fail> {
     Ok(())
 }
 
+/// How rows are written in a notation, whose texts are in UTF-8.
+fn form_of(notation: Notation) -> Form {
+    Form {
+        notation,
+        encoding: Encoding::Utf8,
+    }
+}
+
 /// What the table t is printed as.
-fn printed(alloc: Global, form: Form, source: &mut SliceSource<'_>) -> Option<Vec<u8>> {
+fn printed(alloc: Global, notation: Notation, source: &mut SliceSource<'_>) -> Option<Vec<u8>> {
     let found = objects(alloc, source).ok()?;
     let table = table_named(&found, b"t")?;
     let mut out = Vec::new(alloc);
-    match print_table(alloc, source, table, form, &mut out) {
+    match print_table(alloc, source, table, form_of(notation), &mut out) {
         Ok(()) => Some(out),
         Err(_) => None,
     }
@@ -66,7 +75,7 @@ fn headed(alloc: Global, source: &mut SliceSource<'_>) -> Option<Vec<u8>> {
     let found = objects(alloc, source).ok()?;
     let table = table_named(&found, b"t")?;
     let mut out = Vec::new(alloc);
-    match print_headed(alloc, source, table, Form::Json, &mut out) {
+    match print_headed(alloc, source, table, form_of(Notation::Json), &mut out) {
         Ok(()) => Some(out),
         Err(_) => None,
     }
@@ -80,9 +89,9 @@ fn rows_of_a_table(rt: HostRuntime) -> Result<(), Fail> {
         assert!(rt; false);
         return Ok(());
     };
-    let json = printed(rt.alloc(), Form::Json, &mut source).ok_or("no rows")?;
+    let json = printed(rt.alloc(), Notation::Json, &mut source).ok_or("no rows")?;
     assert!(rt; json.as_slice() == b"{\"a\":7}\n".as_slice());
-    let sql = printed(rt.alloc(), Form::Sql, &mut source).ok_or("no rows")?;
+    let sql = printed(rt.alloc(), Notation::Sql, &mut source).ok_or("no rows")?;
     assert!(rt; sql.as_slice() == b"INSERT INTO \"t\"(rowid,\"a\") VALUES(5,7);\n".as_slice());
     let all = headed(rt.alloc(), &mut source).ok_or("no rows")?;
     assert!(rt; all.as_slice() == b"{\"table\":\"t\",\"columns\":[\"a\"]}\n{\"a\":7}\n".as_slice());
@@ -94,7 +103,7 @@ fn names_in_quotes(rt: HostRuntime) -> Result<(), Fail> {
     let mut names = Vec::new(rt.alloc());
     names.push(Vec::from_slice(rt.alloc(), b"a\"b")?)?;
     let mut out = Vec::new(rt.alloc());
-    write_heading(&mut out, Form::Csv, b"t", &names)?;
+    write_heading(&mut out, Notation::Csv, b"t", &names)?;
     write_insert(&mut out, b"t", None, &names)?;
     assert!(rt; out.as_slice() == b"\"a\"\"b\"\nINSERT INTO \"t\" VALUES(".as_slice());
     Ok(())

@@ -7,7 +7,7 @@ use Rattle.sqrows.specs.declared.rows.Rows.{Rows}
 use Rattle.sqrows.specs.RowCursor.{RowsLeft, NextHolds, RowsRefused}
 use Rattle.sqrows.specs.Stops.{IsNoRecord}
 use Rattle.sqrows.specs.internal.Passing.{ArePassed, Passes}
-use Rattle.cli_row_text.specs.declared.form.Form.TheVariants.{Sql}
+use Rattle.cli_row_text.specs.declared.form.Notation.TheVariants.{Sql}
 use Rattle.cli_row_text.specs.declared.print.Style.{Style}
 use Rattle.cli_row_text.specs.declared.print.PrintError.{PrintError}
 use Rattle.cli_row_text.specs.declared.print.PrintError.TheVariants.{Tree, Row as RowError, Record, NoMemory, Default, Behind, Write}
@@ -23,7 +23,7 @@ PrintsNext d false style old new before after = RowsLeft d old [] × (before ≡
 -- Why the line of this row isn't written.
 abbrev pub LineRefused : Style → Row → PrintError → Type 0
 LineRefused style row Default = length row.values < style.columns.now.needed
-LineRefused style row Behind = (style.form ≡ Sql) × (length style.columns.now.names.items < length row.values)
+LineRefused style row Behind = (style.form.notation ≡ Sql) × (length style.columns.now.names.items < length row.values)
 LineRefused style row NoMemory = Unit {0}
 LineRefused style row (Write e) = Unit {0}
 LineRefused style row _ = ⊥
@@ -35,7 +35,7 @@ NextRefused d style cursor (RowError e) = RowsRefused d cursor e
 NextRefused d style cursor (Record e) = NextHolds d cursor (IsNoRecord d e)
 NextRefused d style cursor NoMemory = Unit {0}
 NextRefused d style cursor Default = NextHolds d cursor (Lacks d style.columns.now)
-NextRefused d style cursor Behind = (style.form ≡ Sql) × NextHolds d cursor (HasMore d style.columns.now)
+NextRefused d style cursor Behind = (style.form.notation ≡ Sql) × NextHolds d cursor (HasMore d style.columns.now)
 NextRefused d style cursor (Write e) = Unit {0}
 
 -- Nothing was written, unless it was the writer that failed.

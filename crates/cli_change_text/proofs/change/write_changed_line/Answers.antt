@@ -21,7 +21,7 @@ returns g c =
     let n = c.in_ok-write_row_name.ensures in
     let name = n.0 in
     let e = c.in_ok-write_differences.ensures in
-    on_ok c.write_all-3.result (Appends o4 o5 (codes "\n")) ((t : List ℕ) × IsChangedText Line style.head.now style.columns.now style.leads style.key was is t × Appends o0 o5 t)
+    on_ok c.write_all-3.result (Appends o4 o5 (codes "\n")) ((t : List ℕ) × IsChangedText style.encoding Line style.head.now style.columns.now style.leads style.key was is t × Appends o0 o5 t)
     (λ last. (
       codes "~ " ++ (name ++ (codes ": " ++ (e.0 ++ codes "\n"))),
       (name, e.0, n.1, e.1, refl),

@@ -18,7 +18,7 @@ returns g c =
     let first = subst (Appends o0 o1) (c.as_bytes.ensures.value ∙ c.key_labels.ensures.0) c.in_ok-write_all.ensures.bytes in
     let w = c.in_ok-write_key_columns.ensures in
     on_ok c.write_all-2.result (Appends o2 o3 c.as_bytes-2.result.now)
-    ((t : List ℕ) × ((all : List ℕ) × AreKeyColumns naming c.args.columns.now key.order c.args.values.now 0 key.width all × (t ≡ label ++ (all ++ end))) × Appends o0 o3 t)
+    ((t : List ℕ) × ((all : List ℕ) × AreKeyColumns c.args.style.encoding naming c.args.style.columns.now key.order c.args.values.now 0 key.width all × (t ≡ label ++ (all ++ end))) × Appends o0 o3 t)
     (λ last. (
       label ++ (w.0 ++ end),
       (w.0, w.1, refl),

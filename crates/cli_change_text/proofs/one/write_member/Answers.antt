@@ -16,7 +16,7 @@ returns g c =
     let member = c.args.member.now in
     let e = c.in_ok-write_values.ensures in
     let first = subst (Appends old begun) c.as_bytes.ensures.value c.in_ok-write_all.ensures.bytes in
-    on_ok c.write_all-2.result (Appends mid new (codes "}")) ((t : List ℕ) × IsMember member names (row_of c.args.values.now) t × Appends old new t)
+    on_ok c.write_all-2.result (Appends mid new (codes "}")) ((t : List ℕ) × IsMember c.args.encoding member names (row_of c.args.values.now) t × Appends old new t)
     (λ last. (
       member ++ (e.0 ++ codes "}"),
       (e.0, e.1, refl),

@@ -25,7 +25,7 @@ returns g c =
     let name = n.0 in
     let e = rw c.deref.ensures.value at c.in_ok-write_values.ensures in
     let first = subst (Appends old signed) c.as_bytes.ensures.value c.in_ok-write_all.ensures.bytes in
-    on_ok c.write_all-3.result (Appends mid new (codes "\n")) ((t : List ℕ) × ((name : List ℕ) × IsRowName InLine style.columns.now style.key row name × IsLineOf sign names name (row_of c.args.values.now) t) × Appends old new t)
+    on_ok c.write_all-3.result (Appends mid new (codes "\n")) ((t : List ℕ) × ((name : List ℕ) × IsRowName style.encoding InLine style.columns.now style.key row name × IsLineOf style.encoding sign names name (row_of c.args.values.now) t) × Appends old new t)
     (λ last. (
       sign ++ (name ++ (codes ": " ++ (e.0 ++ codes "\n"))),
       (name, n.1, (e.0, e.1, refl)),

@@ -11,6 +11,6 @@ returns-clause-err g c = λ gives.
     let old = g.W.Write.contents c.args.out.now in
     let new = g.W.Write.contents c.print_named.new.out in
     let r = c.print_named.result in
-    let form = c.args.form in
+    let form = c.args.notation in
     let named = subst (λ (name : List ℕ). IfErr r (λ stop. IsNamedStopped d name form stop old new)) c.as_bytes.ensures.value (c.print_named.ensures.err gives) in
     on_err r (λ stop. IsNamedStopped d c.args.name.now form stop old new) (λ stop. AreStopped d (Some c.args.name) form stop old new) (λ stop stopped. inr stopped) named

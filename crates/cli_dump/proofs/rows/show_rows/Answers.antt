@@ -5,7 +5,7 @@ use Rattle.sqview.specs.LogView.{pages_of}
 use Rattle.cli_show.specs.Views.{AskedRefused}
 use Rattle.cli_show.proofs.AskedFronts.{front_asked, shows_asked}
 use Rattle.cli_show.proofs.ShownFiles.{refused_asked}
-use Rattle.cli_dump.specs.Rows.{ArePrinted, AreStopped, form_named}
+use Rattle.cli_dump.specs.Rows.{ArePrinted, AreStopped, notation_named}
 use Rattle.cli_dump.proofs.rows.show_rows.Goals as goal
 
 both : {T E : Type 0} (r : Result T E) (P : Type 0) (R : E → Type 0) → OnOk r P → IfErr r R → MatchResult r (λ _. P) R
@@ -26,7 +26,7 @@ returns-in-Ok-clause-shown g c = λ given.
     let d = pages_of bytes v in
     let before = g.W.Write.contents c.args.out.now in
     let after = g.W.Write.contents c.print_wanted-ended.new.out in
-    let form = form_named c.args.wanted.form in
+    let form = notation_named c.args.wanted.form in
     let gives = c.in-Ok.ensures.still_gives given in (
       v.page_size,
       d,

@@ -1,8 +1,8 @@
 use Rattle.std.proofs.Common.{◌++◌, codes, map, subst, sym}
 use Rattle.std.specs.Io.KnownBytes.{Appends}
 use Rattle.std.proofs.KnownBytes.{Appends-trans}
-use Rattle.cli_row_text.specs.declared.form.Form.{Form}
-use Rattle.cli_row_text.specs.declared.form.Form.TheVariants.{Json}
+use Rattle.cli_row_text.specs.declared.form.Notation.{Notation}
+use Rattle.cli_row_text.specs.declared.form.Notation.TheVariants.{Json}
 use Rattle.cli_row_text.specs.Headings.{heading_text, names_listed}
 use Rattle.cli_row_text.specs.Lines.{json_string}
 use Rattle.cli_row_text.proofs.TextsOfValues.{on_ok}
@@ -21,9 +21,9 @@ returns-in_ok-write_listed-in-Json g c =
     let columns = names_listed Json names in
     let mark = codes ",\"columns\":[" in
     let end = codes "]}\n" in
-    let Listed : Form → Type 0 = λ form. Appends marked listed (names_listed form names) in
-    let Whole : Form → Type 0 = λ form. Appends old new (heading_text form c.args.table.now names) in
-    on_ok c.write_all-in-Json-2.result (Appends listed new end) (Whole c.args.form)
+    let Listed : Notation → Type 0 = λ notation. Appends marked listed (names_listed notation names) in
+    let Whole : Notation → Type 0 = λ notation. Appends old new (heading_text notation c.args.table.now names) in
+    on_ok c.write_all-in-Json-2.result (Appends listed new end) (Whole c.args.notation)
     (λ last. subst Whole (sym c.in-Json.is)
     (Appends-trans old begun new (codes "{\"table\":") (table ++ (mark ++ (columns ++ end))) c.in_ok-write_all-in-Json.ensures.bytes
     (Appends-trans begun named new table (mark ++ (columns ++ end)) c.in_ok-write_string-in-Json.ensures

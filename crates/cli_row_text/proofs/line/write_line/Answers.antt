@@ -14,19 +14,19 @@ returns g c =
     let led = g.W.Write.contents c.write_lead.new.out in
     let mid = g.W.Write.contents c.write_values.new.out in
     let new = g.W.Write.contents c.write_end.new.out in
-    let form = c.args.form in
+    let notation = c.args.form.notation in
     let names = map (λ n. n.items) c.args.names.now in
     let values = c.args.values.now in
     let e = c.in_ok-write_values.ensures in
-    let start = line_start form c.args.insert.now in
-    let lead = lead_text form c.args.rowid (length values) in
-    let behind = e.0 ++ line_end form in
-    let same : start ++ (lead ++ behind) ≡ start ++ (lead_text form c.args.rowid (length (row_of values)) ++ behind) =
-    ap (λ (n : ℕ). start ++ (lead_text form c.args.rowid n ++ behind)) (sym (length-map values datum_of)) in
-    on_ok c.write_end.result (Appends mid new (line_end form)) ((t : List ℕ) × IsLine form c.args.insert.now names c.args.rowid (row_of values) t × Appends old new t)
+    let start = line_start notation c.args.insert.now in
+    let lead = lead_text notation c.args.rowid (length values) in
+    let behind = e.0 ++ line_end notation in
+    let same : start ++ (lead ++ behind) ≡ start ++ (lead_text notation c.args.rowid (length (row_of values)) ++ behind) =
+    ap (λ (n : ℕ). start ++ (lead_text notation c.args.rowid n ++ behind)) (sym (length-map values datum_of)) in
+    on_ok c.write_end.result (Appends mid new (line_end notation)) ((t : List ℕ) × IsLine c.args.form c.args.insert.now names c.args.rowid (row_of values) t × Appends old new t)
     (λ last. (
       start ++ (lead ++ behind),
       (e.0, e.1, same),
       Appends-trans old begun new start (lead ++ behind) c.in_ok-write_start.ensures
-          (Appends-trans begun led new lead behind c.in_ok-write_lead.ensures (Appends-trans led mid new e.0 (line_end form) e.2 last)),
+          (Appends-trans begun led new lead behind c.in_ok-write_lead.ensures (Appends-trans led mid new e.0 (line_end notation) e.2 last)),
     )) c.write_end.ensures

@@ -27,7 +27,7 @@ loop-i-preserved g c =
     let i = c.loop-i.i in
     let names = map (λ n. n.items) c.args.names.now in
     let more = texts_snoc c.args.form names 0 i (row_of (take i values)) (datum_of (get_or values i Null)) h.0 e.0 (row_count values i c.loop-i-test.true) h.1 e.1 in (
-      h.0 ++ (mark_before i ++ (label c.args.form names i ++ e.0)),
-      subst (λ (vs : List Datum). AreTexts c.args.form names 0 vs (h.0 ++ (mark_before i ++ (label c.args.form names i ++ e.0)))) (sym (row_more values i c.loop-i-test.true)) more,
-      Appends-trans (g.W.Write.contents c.args.out.now) (g.W.Write.contents c.loop-i.out) (g.W.Write.contents c.write_part.new.out) h.0 (mark_before i ++ (label c.args.form names i ++ e.0)) h.2 e.2,
+      h.0 ++ (mark_before i ++ (label c.args.form.notation names i ++ e.0)),
+      subst (λ (vs : List Datum). AreTexts c.args.form names 0 vs (h.0 ++ (mark_before i ++ (label c.args.form.notation names i ++ e.0)))) (sym (row_more values i c.loop-i-test.true)) more,
+      Appends-trans (g.W.Write.contents c.args.out.now) (g.W.Write.contents c.loop-i.out) (g.W.Write.contents c.write_part.new.out) h.0 (mark_before i ++ (label c.args.form.notation names i ++ e.0)) h.2 e.2,
     )

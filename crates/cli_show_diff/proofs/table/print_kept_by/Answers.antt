@@ -1,5 +1,8 @@
-use Rattle.std.proofs.Common.{◌∙◌, inl, refl, ap}
+use Rattle.std.proofs.Common.{◌∙◌, inl, refl, ap, subst}
+use Rattle.sqdeep.specs.declared.text.Encoding.{Encoding}
+use Rattle.sqdeep.specs.Records.{encoding_of}
 use Rattle.cli_row_text.specs.Inserts.{rowid_name}
+use Rattle.cli_show_rows.specs.Schemas.{AreColumnsIn}
 use Rattle.cli_show_diff.specs.Sorted.{AreSortedBy}
 use Rattle.cli_show_diff.specs.Tables.{before_text, head_text}
 use Rattle.cli_show_diff.proofs.TablesPrinted.{named_some, unbegun}
@@ -12,18 +15,19 @@ print_kept_in-requires g c = record {
     known = c.in-Ok.ensures.ok;
     named = c.rowid_name-rowid.ensures;
     written = refl;
+    encoded = refl;
     begins = c.deref-2.ensures.value ∙ c.in-Ok-texts_of.ensures.ok.0 ∙ ap (λ name. before_text c.args.by.0 name) c.deref.ensures.value;
-    heads = c.deref-3.ensures.value ∙ c.in-Ok-texts_of.ensures.ok.1 ∙ ap (λ name. head_text c.args.by.0 name c.in-Ok.columns (rowid_name c.rowid_name-rowid.result) c.args.by.1) c.deref.ensures.value;
+    heads = c.deref-3.ensures.value ∙ c.in-Ok-texts_of.ensures.ok.1 ∙ ap (λ name. head_text c.args.by.0 name c.in-Ok.columns (rowid_name c.rowid_name-rowid.result) c.args.by.1.key) c.deref.ensures.value;
     leads = c.is_some.ensures ∙ named_some c.rowid_name-rowid.result;
   };
 }
 
 pub returns-in-Err-clause-err : goal.returns-in-Err-clause-err
-returns-in-Err-clause-err g c = λ gives too by. inl (unbegun (λ k. AreSortedBy (g.S.PageSource.pages c.args.old.now) (g.T.PageSource.pages c.args.new.now) c.args.tables.0.now.sql.items k) c.args.tables.0.now c.args.by.0 c.in-Err.stop (g.W.Write.contents c.args.out.now) c.in-Err.ensures.err)
+returns-in-Err-clause-err g c = λ gives too is by. inl (unbegun (encoding_of (g.S.PageSource.pages c.args.old.now)) (λ k. AreSortedBy (g.S.PageSource.pages c.args.old.now) (g.T.PageSource.pages c.args.new.now) c.args.tables.0.now.sql.items k) c.args.tables.0.now c.args.by.0 c.in-Err.stop (g.W.Write.contents c.args.out.now) c.in-Err.ensures.err)
 
 pub returns-in-Err-texts_of-clause-err : goal.returns-in-Err-texts_of-clause-err
-returns-in-Err-texts_of-clause-err g c = λ gives too by. inl (unbegun (λ k. AreSortedBy (g.S.PageSource.pages c.args.old.now) (g.T.PageSource.pages c.args.new.now) c.args.tables.0.now.sql.items k) c.args.tables.0.now c.args.by.0 c.in-Err-texts_of.stop (g.W.Write.contents c.args.out.now) c.in-Err-texts_of.ensures.err)
+returns-in-Err-texts_of-clause-err g c = λ gives too is by. inl (unbegun (encoding_of (g.S.PageSource.pages c.args.old.now)) (λ k. AreSortedBy (g.S.PageSource.pages c.args.old.now) (g.T.PageSource.pages c.args.new.now) c.args.tables.0.now.sql.items k) c.args.tables.0.now c.args.by.0 c.in-Err-texts_of.stop (g.W.Write.contents c.args.out.now) c.in-Err-texts_of.ensures.err)
 
 pub returns-then-is_unnamed-clause-err : goal.returns-then-is_unnamed-clause-err
-returns-then-is_unnamed-clause-err g c = λ gives too by.
-    inl (c.in-Ok.columns, rowid_name c.rowid_name-rowid.result, c.args.by.1, c.in-Ok.ensures.ok, c.rowid_name-rowid.ensures, by, c.is_unnamed.ensures c.if-is_unnamed.true, refl)
+returns-then-is_unnamed-clause-err g c = λ gives too is by.
+    inl (c.in-Ok.columns, rowid_name c.rowid_name-rowid.result, c.args.by.1.key, subst (λ (x : Encoding). AreColumnsIn x c.args.tables.0.now.sql.items c.in-Ok.columns) is c.in-Ok.ensures.ok, c.rowid_name-rowid.ensures, by, c.is_unnamed.ensures c.if-is_unnamed.true, refl)

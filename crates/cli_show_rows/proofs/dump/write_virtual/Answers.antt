@@ -1,8 +1,8 @@
 use Rattle.std.proofs.Common.{◌++◌, OnOk, codes, refl, subst, sym}
 use Rattle.std.specs.Io.KnownBytes.{Appends}
 use Rattle.std.proofs.KnownBytes.{Appends-trans}
-use Rattle.cli_row_text.specs.declared.form.Form.{Form}
-use Rattle.cli_row_text.specs.declared.form.Form.TheVariants.{Sql}
+use Rattle.cli_row_text.specs.declared.form.Notation.{Notation}
+use Rattle.cli_row_text.specs.declared.form.Notation.TheVariants.{Sql}
 use Rattle.cli_show_rows.specs.Dumps.{IsVirtualPrinted}
 use Rattle.cli_show_rows.proofs.TablesStopped.{on_ok}
 use Rattle.cli_show_rows.proofs.dump.write_virtual.Goals as goal
@@ -22,4 +22,4 @@ returns-in_ok-write_virtual_line-in-Sql g c =
       (e.0, e.1, refl),
       Appends-trans old begun new on (e.0 ++ off) c.in_ok-write_all-in-Sql.ensures.bytes (Appends-trans begun lined new e.0 off e.2 last),
     )) c.write_all-in-Sql.ensures.bytes in
-    subst (λ (f : Form). OnOk c.write_all-in-Sql.result (IsVirtualPrinted f c.args.object.now old new)) (sym c.in-Sql.is) printed
+    subst (λ (f : Notation). OnOk c.write_all-in-Sql.result (IsVirtualPrinted f c.args.object.now old new)) (sym c.in-Sql.is) printed

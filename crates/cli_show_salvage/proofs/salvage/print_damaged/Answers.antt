@@ -1,8 +1,12 @@
-use Rattle.std.proofs.Common.{List, sym, subst}
+use Rattle.std.proofs.Common.{List, ◌≡◌, ◌∙◌, ap, sym, subst}
+use Rattle.std.specs.Io.KnownBytes.{Appends}
 use Rattle.std.proofs.lemmas.Result.{on_ok_weaker}
 use Rattle.sqval.specs.Database.{Database}
+use Rattle.sqdeep.specs.declared.text.Encoding.{Encoding}
+use Rattle.sqdeep.specs.Records.{encoding_of}
 use Rattle.sqtables.specs.declared.list.Object.{Object}
 use Rattle.sqsalvage.specs.SalvageCursor.{IsOver}
+use Rattle.cli_show_rows.specs.Dumps.{start_text}
 use Rattle.cli_show_salvage.specs.Leaves.{IsTreeTold}
 use Rattle.cli_show_salvage.specs.Scripts.{AreRowsSalvaged}
 use Rattle.cli_show_salvage.proofs.Kept.{kept_more}
@@ -14,24 +18,28 @@ returns-in-Ok-print_tree-clause-ok g c = λ gives.
     let d = P.pages c.args.source.now in
     let begun = c.in-Ok.ensures in
     let salvage = c.in-Ok.salvage in
+    let named = c.in-Ok-encoding_of.ensures in
     let tree = c.in-Ok-print_tree.ensures in
     let moved = c.print_tree.new.salvage in
     let read = c.print_tree.new.book in
     let target = c.schema_target-target.result in
-    let first_done = g.W.Write.contents c.print_text.new.out in
+    let before = g.W.Write.contents c.args.out.now in
+    let first_done = g.W.Write.contents c.write_start.new.out in
     let schema_done = g.W.Write.contents c.print_tree.new.out in
     let after = g.W.Write.contents c.print_rows.new.out in
-    let one = begun.keeps in
-    let both = kept_more P.pages P.size P.reads_right P.gives_pages c.args.source.now c.new.new.source c.print_tree.new.source one tree.keeps in
+    let one = kept_more P.pages P.size P.reads_right P.gives_pages c.args.source.now c.new.new.source c.encoding_of.new.source begun.keeps named.keeps in
+    let both = kept_more P.pages P.size P.reads_right P.gives_pages c.args.source.now c.encoding_of.new.source c.print_tree.new.source one tree.keeps in
+    let is : c.in-Ok-encoding_of.encoding ≡ encoding_of d = named.ok (begun.keeps.still_gives gives) ∙ ap encoding_of begun.keeps.same_pages in
     let over = subst (λ (x : Database). IsOver x salvage) (sym one.same_pages) (begun.ok gives).0 in
     let over_moved = subst (λ (x : Database). IsOver x moved) (sym tree.keeps.same_pages) (tree.over (one.still_gives gives) over) in
     on_ok_weaker c.print_rows.result (λ rows. record {
       first_done = first_done;
-      first = c.in-Ok-print_text.ensures.ok;
+      first = subst (λ (e : Encoding). Appends before first_done (start_text e)) is c.in-Ok-write_start.ensures;
       unpassed = salvage.marks.items;
       none = (begun.ok gives).2;
       target = target;
       goes = c.schema_target-target.ensures.goes;
+      encoded = c.schema_target-target.ensures.encoded ∙ is;
       kind_is = c.schema_target-target.ensures.table;
       begun = c.new-book.result;
       empty = c.new-book.ensures.objects;
@@ -39,6 +47,7 @@ returns-in-Ok-print_tree-clause-ok g c = λ gives.
       read = read;
       schema_done = schema_done;
       schema = subst (λ (x : Database). IsTreeTold x target 1 salvage.marks.items moved.marks.items c.new-book.result read first_done schema_done) one.same_pages (tree.ok (one.still_gives gives) over);
-      rows = subst (λ (os : List Object). AreRowsSalvaged d c.args.places os moved.marks.items schema_done after) c.deref.ensures.value
-          (subst (λ (x : Database). AreRowsSalvaged x c.args.places c.deref.result.now moved.marks.items schema_done after) both.same_pages rows);
+      rows = subst (λ (e : Encoding). AreRowsSalvaged d e c.args.places read.objects.items moved.marks.items schema_done after) is
+          (subst (λ (os : List Object). AreRowsSalvaged d c.in-Ok-encoding_of.encoding c.args.places os moved.marks.items schema_done after) c.deref.ensures.value
+          (subst (λ (x : Database). AreRowsSalvaged x c.in-Ok-encoding_of.encoding c.args.places c.deref.result.now moved.marks.items schema_done after) both.same_pages rows));
     }) (c.print_rows.ensures.ok (both.still_gives gives) over_moved)

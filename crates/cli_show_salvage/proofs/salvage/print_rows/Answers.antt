@@ -20,7 +20,7 @@ returns-in-Ok-print_trees-clause-ok g c = λ gives over.
       begun = begun;
       narrow = c.new-book.ensures.width;
       committed = committed;
-      trees = subst (λ (name : List ℕ). AreTreesEnded d name c.args.places c.args.objects.now c.args.salvage.now.marks.items begun made committed) c.deref-2.ensures.value
+      trees = subst (λ (name : List ℕ). AreTreesEnded d c.args.how.encoding name c.args.how.places c.args.objects.now c.args.salvage.now.marks.items begun made committed) c.deref-2.ensures.value
           (c.in-Ok-print_trees.ensures.ok gives over);
       others = others;
     }) c.print_others.ensures.ok

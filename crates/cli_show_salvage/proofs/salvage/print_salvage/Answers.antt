@@ -1,7 +1,7 @@
 use Rattle.std.proofs.Common.{Bool, Result, Ok, Err, inr, subst}
 use Rattle.std.specs.Prelude.{IfErr}
 use Rattle.sqval.specs.Database.{Database}
-use Rattle.cli_row_text.specs.declared.form.Form.TheVariants.{Sql}
+use Rattle.cli_row_text.specs.declared.form.Notation.TheVariants.{Sql}
 use Rattle.cli_show_rows.specs.Stops.{AreTablesStopped}
 use Rattle.cli_show_salvage.specs.Scripts.{IsScriptStopped}
 use Rattle.cli_show_salvage.specs.internal.Opening.{IsJudged}

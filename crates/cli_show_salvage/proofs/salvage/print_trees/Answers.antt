@@ -31,6 +31,6 @@ returns-in-Ok-print_turn-clause-ok g c = λ gives over.
       own_passed = own.marks.items;
       own_book = c.print_turn-2.new.book;
       own_done = own_done;
-      own = subst (λ (x : Database). AreTurnsSalvaged x turn.lost.now turn.places true users.marks.items c.print_turn.new.book users_done turn.objects.now own.marks.items c.print_turn-2.new.book own_done) one.same_pages told;
-      ended = subst (λ (x : Database). IsUnreachedEnded x turn.lost.now turn.places own.marks.items c.print_turn-2.new.book own_done after) both.same_pages ended;
+      own = subst (λ (x : Database). AreTurnsSalvaged x turn.encoding turn.lost.now turn.places true users.marks.items c.print_turn.new.book users_done turn.objects.now own.marks.items c.print_turn-2.new.book own_done) one.same_pages told;
+      ended = subst (λ (x : Database). IsUnreachedEnded x turn.encoding turn.lost.now turn.places own.marks.items c.print_turn-2.new.book own_done after) both.same_pages ended;
     }) (c.print_unreached.ensures.ok (both.still_gives gives) over_both)

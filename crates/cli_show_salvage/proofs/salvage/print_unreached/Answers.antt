@@ -6,9 +6,10 @@ use Rattle.cli_show_salvage.proofs.salvage.print_unreached.Goals as goal
 pub returns-in-Ok-clause-ok : goal.returns-in-Ok-clause-ok
 returns-in-Ok-clause-ok g c = λ gives over.
     on_ok_weaker c.print_text.result (λ ended. record {
-      target = record { lost = c.args.turn.lost; root = None; table = true; going = Lost; places = c.args.turn.places };
+      target = record { lost = c.args.turn.lost; root = None; table = true; going = Lost; places = c.args.turn.places; encoding = c.args.turn.encoding };
       lost_is = refl;
       placed = refl;
+      encoded = refl;
       unrooted = refl;
       goes = refl;
       last_book = c.print_lost_leaves.new.book;

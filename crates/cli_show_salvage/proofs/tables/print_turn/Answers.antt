@@ -42,8 +42,8 @@ loop-object-preserved g c =
           (e.over (i.kept.still_gives gives) (subst (λ (x : Database). IsOver x s) (sym i.kept.same_pages) (i.over gives over)));
       told = λ gives over.
           let one = e.ok (i.kept.still_gives gives) (subst (λ (x : Database). IsOver x s) (sym i.kept.same_pages) (i.over gives over)) in
-          let here = subst (λ (x : Database). IsTurnSalvaged x turn.lost.now turn.places turn.own o s.marks.items moved.marks.items mid new at after) i.kept.same_pages one in
-          let it = subst (λ (x : Object). IsTurnSalvaged d turn.lost.now turn.places turn.own x s.marks.items moved.marks.items mid new at after) c.object-item.is here in
-          turns_more d turn.lost.now turn.places turn.own c.args.salvage.now.marks.items c.args.book.now (g.W.Write.contents c.args.out.now) turn.objects.now c.loop-object.object-index o
+          let here = subst (λ (x : Database). IsTurnSalvaged x turn.encoding turn.lost.now turn.places turn.own o s.marks.items moved.marks.items mid new at after) i.kept.same_pages one in
+          let it = subst (λ (x : Object). IsTurnSalvaged d turn.encoding turn.lost.now turn.places turn.own x s.marks.items moved.marks.items mid new at after) c.object-item.is here in
+          turns_more d turn.encoding turn.lost.now turn.places turn.own c.args.salvage.now.marks.items c.args.book.now (g.W.Write.contents c.args.out.now) turn.objects.now c.loop-object.object-index o
           s.marks.items moved.marks.items mid new at after c.loop-object-test.true (i.told gives over) it;
     }

@@ -1,0 +1,26 @@
+use Rattle.std.proofs.Common.{List, subst, sym}
+use Rattle.sqval.specs.Database.{Database}
+use Rattle.sqdeep.specs.declared.text.Encoding.{Encoding}
+use Rattle.sqtables.specs.declared.list.Object.{Object}
+use Rattle.sqtables.specs.Objects.{HasObjects, ListRefused}
+use Rattle.cli_show_rows.specs.Schemas.{AreObjectsRead}
+use Rattle.cli_show_rows.specs.Stops.{SchemaRefused}
+use Rattle.cli_show_rows.proofs.TablesStopped.{schema_refused}
+use Rattle.cli_show_rows.proofs.schema.listed.Goals as goal
+
+pub returns-in-Err-objects-clause-err : goal.returns-in-Err-objects-clause-err
+returns-in-Err-objects-clause-err g c = λ gives.
+    let d = g.S.PageSource.pages c.args.source.now in
+    let keeps = c.in-Ok.ensures.keeps in
+    let e = c.in-Err-objects.error in
+    subst (SchemaRefused d) (sym c.from.ensures) (schema_refused d e (subst (λ (p : Database). ListRefused p e) keeps.same_pages (c.in-Err-objects.ensures.err (keeps.still_gives gives))))
+
+pub returns-in-Ok-read_objects-clause-ok : goal.returns-in-Ok-read_objects-clause-ok
+returns-in-Ok-read_objects-clause-ok g c = λ gives.
+    let keeps = c.in-Ok.ensures.keeps in
+    let named = c.in-Ok.ensures.ok gives in
+    let stored = c.in-Ok-objects.stored.items in
+    let objects = c.in-Ok-read_objects.objects.items in
+    let has = subst (λ (p : Database). HasObjects p stored) keeps.same_pages (c.in-Ok-objects.ensures.ok (keeps.still_gives gives)) in
+    let read = subst (λ (os : List Object). AreObjectsRead c.in-Ok.encoding os objects) c.deref.ensures.value c.in-Ok-read_objects.ensures in
+    ((stored, has, subst (λ (e : Encoding). AreObjectsRead e stored objects) named.0 read), named.0, named.1)

@@ -1,0 +1,3 @@
+pub mod CharsOfTexts
+pub mod TextsRead
+pub mod TextsStored
