@@ -5,6 +5,7 @@ pub mod CountedPoints
 pub mod PlayedRecords
 pub mod TallyOfJudgedImages
 pub mod SampledImages
+pub mod LikeliestImages
 pub mod JudgedRecords
 pub mod AppendedBytes
 pub mod WrittenTexts
