@@ -379,8 +379,10 @@ def lines_that_cannot_be_written():
     fill(DB, b"")
     with open("/dev/full", "wb") as full:
         for line in [*EACH_LINE, "--version", "--help", "recover --help"]:
-            err = Noted("couldn't be printed: nothing to recover$") if line == "recover a.db" else ""
-            yield line, wrong(run(line, stdout=full), 3, "", err)
+            yield line, wrong(run(line, stdout=full), 3, "", Noted("standard output: no storage space$"))
+            if line == "recover a.db":
+                told = Noted("couldn't be printed: nothing to recover$")
+                yield f"{line}, what it did", wrong(run(line, stdout=full), 3, "", told)
         for line in [f"{line} {option}" for line in EACH_LINE for option in ("-v", "--verbose")]:
             yield line, wrong(run(line, stdout=full), 3, "", ANY)
         fill(DB, None, SUPER)
@@ -488,7 +490,11 @@ def refusals_on_a_terminal():
         yield " ".join(words_of), None if status == 3 and re.fullmatch(text, told) else f"{status} {told!r}"
         yield f"{words_of}, elsewhere", wrong(run(" ".join(words_of)), 3, "", f"sqrescue: {refusal}\n")
     fill(DB, WAL)
-    yield "done", None if on_a_terminal("check", "a.db") == (1, "") else f"{on_a_terminal('check', 'a.db')}"
+    status, told = on_a_terminal("check", "a.db")
+    text = r"sqrescue: note: .*salvage --to.*\n"
+    yield "damage", None if status == 1 and re.fullmatch(text, told) else f"{status} {told!r}"
+    done = on_a_terminal("recover", "a.db")
+    yield "done", None if done == (0, "") else f"{done}"
 
 
 @test

@@ -3,5 +3,4 @@ pub mod TextsOfLockLines
 pub mod ExpansionOfRuns
 pub mod LogFronts
 pub mod FaultsInOrder
-pub mod RecoveredViews
 pub mod ZerosBehind

@@ -3,7 +3,6 @@ pub mod Fronts
 pub mod Locks
 pub mod Quoted
 pub mod Readings
-pub mod Recovered
 pub mod Refusals
 pub mod Runs
 pub mod Statuses

@@ -90,11 +90,14 @@ impl<'a, E: Write> Notes<'a, E> {
         }
     }
 
-    /// The same, of a path of which the system said this.
-    pub fn blame(&self, path: &str, error: &io::Error) {
+    /// The same, of a path of which the system said this. The path as the note names it.
+    pub fn blame<'p>(&self, path: &'p str, error: &io::Error) -> Quoted<'p>
+        ensures { result.0.now ≡ path.entry.now }
+    {
         self.to.cause.set(Some(error.kind()));
         let path = Quoted(path);
         self.explain(&format_args!("{path}: {error}"));
+        path
     }
 
     /// What the system said last that a note told of.

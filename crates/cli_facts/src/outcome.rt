@@ -2,17 +2,14 @@
 ghost use Rattle.std.specs.Prelude.{◌≡◌};
 ghost use Rattle.std.specs.IoError.{error_kind};
 ghost use Rattle.cli_facts.specs.Refusals.{refusal_of};
-ghost use Rattle.cli_facts.specs.internal.Refusals.{refusal_of_judge, refusal_of_kind, refusal_of_roll};
-ghost use Rattle.cli_facts.specs.internal.Refusals.{refusal_of_wal};
+ghost use Rattle.cli_facts.specs.internal.Refusals.{refusal_of_judge, refusal_of_kind};
 ghost use Rattle.cli_facts.specs.declared.outcome.Refusal.TheVariants.{FileFailed, NoMemory};
 
-use rollcore::RollError;
 use sqpage::SourceError;
 use sqview::{JudgeError, ViewError};
 use std::alloc::AllocError;
 use std::{fmt, io};
 use thiserror::Error;
-use walcore::WalError;
 
 /// What a recovery did.
 #[derive(Clone, Copy, Debug, PartialEq, Eq)]
@@ -140,31 +137,6 @@ impl From<JudgeError> for Refusal {
             JudgeError::Unread => Refusal::FileFailed,
             JudgeError::NoMemory => Refusal::NoMemory,
             JudgeError::NoSuchCommit => Refusal::NoSuchCommit,
-        }
-    }
-}
-
-impl From<WalError> for Refusal {
-    ghost from_gives = { λ error refusal. refusal ≡ refusal_of_wal error };
-
-    fn from(error: WalError) -> Refusal {
-        match error {
-            WalError::TooLarge => Refusal::TooLarge,
-            WalError::PageSize => Refusal::PageSizesDiffer,
-            WalError::NoMemory => Refusal::NoMemory,
-            _ => Refusal::FileFailed,
-        }
-    }
-}
-
-impl From<RollError> for Refusal {
-    ghost from_gives = { λ error refusal. refusal ≡ refusal_of_roll error };
-
-    fn from(error: RollError) -> Refusal {
-        match error {
-            RollError::TooLarge => Refusal::TooLarge,
-            RollError::NoMemory => Refusal::NoMemory,
-            _ => Refusal::FileFailed,
         }
     }
 }

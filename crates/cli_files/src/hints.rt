@@ -41,8 +41,7 @@ pub fn told<'a, E: Write>(
     ensures system { IsFromSystem result.refusal }
     ensures path { result.path.0.now ≡ path.entry.now }
 {
-    notes.blame(path, &error);
-    let path = Quoted(path);
+    let path = notes.blame(path, &error);
     ToldRefusal {
         refusal: Refusal::from(error),
         path,

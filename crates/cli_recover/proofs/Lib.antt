@@ -1,1 +1,2 @@
 pub mod FoldedLogs
+pub mod RecoveredViews

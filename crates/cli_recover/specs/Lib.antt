@@ -1,2 +1,3 @@
 pub mod Plans
+pub mod Recovered
 pub mod internal

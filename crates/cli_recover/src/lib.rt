@@ -2,10 +2,14 @@
 #![tactic(auto)]
 
 mod copies;
+mod guarded_disk;
 mod outcomes;
 mod plans;
+mod recovered;
 mod recovering;
+mod refusals;
 
 pub use copies::recover_to;
 pub use plans::{Recovery, plan_recovery};
+pub use recovered::recovery_keeps_view;
 pub use recovering::recover;

@@ -2,9 +2,11 @@
 ghost use Rattle.std.specs.Prelude.{◌≡◌};
 ghost use Rattle.cli_job.specs.Answers.{IsDoneOr};
 
+use crate::guarded_disk::GuardedDisk;
 use crate::outcomes::print_outcome;
 use crate::plans::{Recovery, plan_recovery, scan_of};
-use cli_facts::{FileDisk, Guard, Notes, Outcome, Refusal, SystemFile, metadata_of};
+use crate::refusals::{refusal_of_roll, refusal_of_wal};
+use cli_facts::{Guard, Notes, Outcome, Refusal, SystemFile, metadata_of};
 use cli_files::{
     Beheld, Beside, Count, OpenElsewhere, OpenedFile, Progress, counting_log, open_database,
     open_logs, paths_of, tell_dropped, tell_length, tell_unread, told,
@@ -12,6 +14,7 @@ use cli_files::{
 use cli_job::{Answer, Job, Metered, Source, Watch};
 use cli_show::{Contents, ShowError, limits_of};
 use cli_words::Options;
+use filedisk::FileDisk;
 use rollcore::replay_within;
 use sqval::{Limits, PageSize};
 use sqview::{FileBytes, LogInUse};
@@ -234,7 +237,7 @@ where
         scan,
     } = planned;
     let (alloc, source) = (job.rt.alloc(), job.source);
-    let disk = FileDisk::new(db, log, guard);
+    let disk = GuardedDisk::new(FileDisk::new(db, log), guard);
     match plan {
         Recovery::Nothing => Ok(Outcome::Nothing),
         Recovery::RollBack => replay(alloc, source, disk, notes),
@@ -249,7 +252,7 @@ where
 fn replay<F: SystemFile + Drop, G: Guard, E: Write>(
     alloc: Global,
     source: &Source<'_>,
-    disk: FileDisk<F, G>,
+    disk: GuardedDisk<FileDisk<F>, G>,
     notes: &mut Notes<'_, E>,
 ) -> Result<Outcome, Refusal> {
     let mut disk = disk;
@@ -262,7 +265,7 @@ fn replay<F: SystemFile + Drop, G: Guard, E: Write>(
         Err(error) => {
             let paths = &source.paths;
             disk.tell(paths.db.as_str(), paths.journal.as_str(), notes);
-            Err(disk.refusal().unwrap_or(Refusal::from(error)))
+            Err(disk.refusal().unwrap_or(refusal_of_roll(error)))
         }
     }
 }
@@ -272,7 +275,7 @@ fn replay<F: SystemFile + Drop, G: Guard, E: Write>(
 fn fold<F: SystemFile + Drop, G: Guard, E: Write>(
     alloc: Global,
     source: &Source<'_>,
-    disk: FileDisk<F, G>,
+    disk: GuardedDisk<FileDisk<F>, G>,
     log: (PageSize, u64, Option<Scan>),
     notes: &mut Notes<'_, E>,
 ) -> Result<Outcome, Refusal> {
@@ -288,7 +291,7 @@ fn fold<F: SystemFile + Drop, G: Guard, E: Write>(
         Err(error) => {
             let paths = &source.paths;
             disk.tell(paths.db.as_str(), paths.wal.as_str(), notes);
-            Err(disk.refusal().unwrap_or(Refusal::from(error)))
+            Err(disk.refusal().unwrap_or(refusal_of_wal(error)))
         }
     }
 }

@@ -9,7 +9,7 @@ ghost use Rattle.sqpage.specs.Freelist.{IsPage};
 ghost use Rattle.sqview.specs.LogView.{pages_of};
 ghost use Rattle.cli_facts.specs.declared.outcome.Refusal.TheVariants.{NoMemory};
 ghost use Rattle.cli_show.specs.Contents.{AreGiven};
-ghost use Rattle.cli_show.specs.Errors.{IfRefused};
+ghost use Rattle.cli_show.specs.Errors.{IfRefused, IsFromPage};
 ghost use Rattle.cli_show.specs.Fronts.{IsAskedFront};
 ghost use Rattle.cli_show.specs.Limits.{limits_named};
 ghost use Rattle.cli_show.specs.Shown.{IsHeaderText, IsPageUnread, ShowsHeader, ShowsPage};
@@ -47,6 +47,7 @@ pub(crate) fn page_in<S: PageSource>(
         → MatchResult result (λ page. IsPage (S.pages source.old) number
         × (page.items ≡ page_at (S.pages source.old) number))
         (IsPageUnread (S.pages source.old) number) }
+    ensures refused { IfErr result IsFromPage }
     ensures same { KeepsPages S.pages S.size S.reads_right S.gives_pages source.old source.new }
 {
     if number == 0 || number > source.count() {
@@ -72,6 +73,7 @@ pub fn read_page<F: FileBytes>(
     ensures there { F.gives_bytes view.old.db × F.gives_bytes view.old.log
         → MatchResult result (λ _. IsPage (pages_of F.bytes view.old) number)
         (IsPageUnread (pages_of F.bytes view.old) number) }
+    ensures refused { IfErr result IsFromPage }
 {
     page_in(alloc, view, number)
 }

@@ -1,12 +1,13 @@
 //! The facts that a report shows.
 ghost use Rattle.std.specs.Prelude.{◌≡◌, ℕ, ◌<◌, List, [], ◌∷◌, ◌++◌, length, map, slice_get, Option, Some};
-ghost use Rattle.std.specs.Prelude.{codes, option_to_list, IfOk, IfSome, IsSome, OnOk};
+ghost use Rattle.std.specs.Prelude.{codes, option_to_list, IfErr, IfOk, IfSome, IsSome, OnOk};
 ghost use Rattle.std.specs.List.{flat_map};
 ghost use Rattle.std.specs.Io.KnownBytes.{Appends};
 ghost use Rattle.sqval.specs.Limits.{Bounds};
 ghost use Rattle.cli_text.specs.Facts.{joined, separator};
 ghost use Rattle.cli_text.specs.Reports.{line_comma};
 ghost use Rattle.cli_facts.specs.Runs.{expanded};
+ghost use Rattle.cli_show.specs.Errors.{IsFromPage};
 ghost use Rattle.cli_show.specs.LogsShown.{IsLogFound};
 ghost use Rattle.cli_show.specs.Names.{names_of};
 ghost use Rattle.cli_show.specs.PageLines.{IsLoggedAt};
@@ -98,7 +99,8 @@ fn head_of<F: FileBytes>(
     alloc: Global,
     found: &mut Surveyed<F>,
 ) -> Result<Option<[u8; 100]>, Refusal>
-    ensures { found.new ≡ record found.old { view = found.new.view } }
+    ensures found { found.new ≡ record found.old { view = found.new.view } }
+    ensures refused { IfErr result IsFromPage }
 {
     let page = read_page(alloc, &mut found.view, 1)?;
     Ok(page.first_chunk::<100>().copied())
@@ -132,6 +134,7 @@ fn page_facts<F: FileBytes>(alloc: Global, found: &mut Surveyed<F>) -> Result<Pa
     ensures found { found.new ≡ record found.old { view = found.new.view } }
     ensures runs { IfOk result (λ facts. map (λ u. u.role) (expanded facts.runs.items)
         ≡ found.old.survey.roles.items) }
+    ensures refused { IfErr result IsFromPage }
 {
     let head = head_of(alloc, found)?;
     match (trees_found(alloc, found), runs_found(alloc, found)) {
@@ -144,6 +147,7 @@ fn page_facts<F: FileBytes>(alloc: Global, found: &mut Surveyed<F>) -> Result<Pa
 fn facts_in<F: FileBytes>(alloc: Global, found: &mut Found<F>) -> Result<PageFacts, Refusal>
     ensures found { OnlyReads found.old found.new }
     ensures runs { IfOk result (λ facts. map (λ u. u.role) (expanded facts.runs.items) ≡ roles_in found.old) }
+    ensures refused { IfErr result IsFromPage }
 {
     match found {
         Found::Pages(pages) => page_facts(alloc, pages),
@@ -155,7 +159,8 @@ fn facts_in<F: FileBytes>(alloc: Global, found: &mut Found<F>) -> Result<PageFac
     }
 }
 
-/// What a report shows of what was found, and of the log that counts. Refused by `FileFailed` and `NoMemory`.
+/// What a report shows of what was found, and of the log that counts. Refused by `FileFailed` and `NoMemory`, and by
+/// `NoSuchPage` where there is no page 1.
 pub fn facts_of<F: FileBytes + Drop>(
     alloc: Global,
     found: Found<F>,
@@ -164,6 +169,7 @@ pub fn facts_of<F: FileBytes + Drop>(
     ensures found { IfOk result (λ facts. OnlyReads found facts.found) }
     ensures log { IfOk result (λ facts. facts.log ≡ log) }
     ensures runs { IfOk result (λ facts. map (λ u. u.role) (expanded facts.runs.items) ≡ roles_in found) }
+    ensures refused { IfErr result IsFromPage }
 {
     let mut found = found;
     match facts_in(alloc, &mut found) {

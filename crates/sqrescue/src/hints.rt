@@ -1,6 +1,19 @@
-//! What is said to be done after a refusal.
+//! What is said to be done after a refusal, and after damage.
 use cli_facts::Refusal;
+use cli_job::Untold;
+use cli_words::Request;
 use std::io::ErrorKind;
+
+/// What to do where a request found damage.
+pub(crate) fn step_after_damage(request: &Request<'_>) -> &'static str {
+    match request {
+        Request::Salvage { .. } => "the script has a comment for each cell that can't be read",
+        Request::Report { .. } =>
+            "the page marks what has a fault; salvage --to takes out the rows that can be read",
+        _ =>
+            "report --to shows which pages have a fault, and salvage --to takes out the rows that can be read",
+    }
+}
 
 /// What to do where the system refused a call for this.
 fn step_after(cause: Option<ErrorKind>) -> &'static str {
@@ -14,6 +27,23 @@ fn step_after(cause: Option<ErrorKind>) -> &'static str {
         Some(ErrorKind::NotFound) => "see whether the name is right",
         _ =>
             "nothing can be said of files that can't be read; after a failed recover call it again",
+    }
+}
+
+/// What to do where rows were refused behind what was printed.
+pub(crate) fn step_after_rows(why: Untold) -> &'static str {
+    match why {
+        Untold::NoSuchTable => "rows without --table begins each table with its name",
+        Untold::NotUnderstood =>
+            "the note before names what isn't understood; rows --table prints another table alone",
+    }
+}
+
+/// What to do where standard output couldn't be written for this.
+pub(crate) fn step_after_print(cause: ErrorKind) -> &'static str {
+    match cause {
+        ErrorKind::StorageFull | ErrorKind::QuotaExceeded => "make room there, and call this again",
+        _ => "what was printed ends in the middle: call this again with another standard output",
     }
 }
 

@@ -9,12 +9,14 @@ mod diffs;
 mod each;
 mod hints;
 mod locking;
+mod output;
 mod pages;
 mod prefixed;
 mod program;
 mod readings;
 mod unread;
 
+use crate::output::Output;
 use cli_facts::SystemFile;
 use std::env::{self, Env};
 use std::io::{self, IsTerminal, Write};
@@ -42,11 +44,12 @@ where
 }
 
 fn main(rt: HostRuntime) -> ExitCode {
-    let mut out = io::writer(&rt);
+    let mut out = Output::new(io::writer(&rt));
     let mut err = rt.stderr();
     let status = match answer(&rt, &mut out, &mut err) {
         Ok(status) => status,
         Err(error) => unread::unread(&rt, &mut err, &error),
     };
+    out.tell(&mut err);
     ExitCode::from(status)
 }

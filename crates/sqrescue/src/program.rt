@@ -8,7 +8,7 @@ ghost use Rattle.sqrescue.specs.Runs.{AsksHelp, ComesUnder, Ends, EndsUnasked, M
 
 use crate::answers::answered;
 use crate::diffs::print_diff;
-use crate::hints::next_step;
+use crate::hints::{next_step, step_after_damage, step_after_rows};
 use crate::readings::{Read, Reading, read_for};
 use cli_args::{LineError, request};
 use cli_facts::{NoteWriter, Notes, Refusal, Status, SystemFile};
@@ -118,8 +118,8 @@ fn status_of<O: Write, E: Write>(
     }
 }
 
-/// What a request comes to. Why it is refused and what to do then is noted where that is asked for, or a person reads
-/// it.
+/// What a request comes to. Why it is refused, and what to do then or with damage, is noted where that is asked for, or
+/// a person reads it.
 fn noted<R: Files + AllocGlobal + Clock, O: Write, E: Write + IsTerminal>(
     rt: &R,
     request: Request<'_>,
@@ -137,11 +137,17 @@ where
     let writer = NoteWriter::new(&mut *err);
     let is_verbose = options.is_some_and(|options| options.verbose);
     let mut notes = Notes::new(&writer, is_verbose, is_read);
+    let after_damage = step_after_damage(&request);
     let answer = carried_out(rt, request, under, out, &mut notes);
-    if let Err(ShowError::Refused(refusal)) = answer {
-        let is_large = options.is_some_and(|options| options.large);
-        let step = next_step(refusal, notes.cause(), is_large);
-        notes.explain(&step);
+    match answer {
+        Err(ShowError::Refused(refusal)) => {
+            let is_large = options.is_some_and(|options| options.large);
+            let step = next_step(refusal, notes.cause(), is_large);
+            notes.explain(&step);
+        }
+        Ok(Answer::Refused(why)) => notes.explain(&step_after_rows(why)),
+        Ok(Answer::Damaged) => notes.explain(&after_damage),
+        Ok(Answer::Done) | Err(ShowError::Unwritten) => {}
     }
     answer
 }

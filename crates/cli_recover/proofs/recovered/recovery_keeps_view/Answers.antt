@@ -1,5 +1,5 @@
-use Rattle.cli_facts.proofs.RecoveredViews.{fold_keeps, replay_keeps}
-use Rattle.cli_facts.proofs.recovered.recovery_keeps_view.Goals as goal
+use Rattle.cli_recover.proofs.RecoveredViews.{fold_keeps, replay_keeps}
+use Rattle.cli_recover.proofs.recovered.recovery_keeps_view.Goals as goal
 
 pub returns : goal.returns
 returns c = record {

@@ -28,7 +28,7 @@ use Rattle.rollcore.specs.declared.replaying.Replayed.{Replayed}
 use Rattle.rollcore.proofs.replays.LastRecordOfPage.{made_length}
 use Rattle.sqview.specs.LogView.{head_of, own_pages, IsOwn, IsLogged, IsAlone, Views}
 use Rattle.sqview.proofs.openings.ShownOrRefusedView.{alone_bare}
-use Rattle.cli_facts.specs.Recovered.{NamesItself}
+use Rattle.cli_recover.specs.Recovered.{NamesItself}
 
 -- ---- A file that is just a database which names itself.
 
