@@ -1,1 +1,3 @@
+pub mod CopiesPlanned
 pub mod FoldedLogs
+pub mod RecoveriesPlanned

@@ -1,2 +1,5 @@
+pub mod Copies
+pub mod Outcomes
 pub mod Plans
+pub mod Recovers
 pub mod internal

@@ -1,6 +1,11 @@
 //! A file that holds what a recovery would leave in a database file, of which nothing is written.
-ghost use Rattle.std.specs.Prelude.{◌≡◌, ◌≢◌};
+ghost use Rattle.std.specs.Prelude.{◌≡◌, ◌≢◌, Err, IfOk, MatchResult};
+ghost use Rattle.cli_files.specs.Files.{opened_bytes};
 ghost use Rattle.cli_job.specs.Answers.{IsDoneOr};
+ghost use Rattle.cli_job.specs.Opened.{GivesBytes};
+ghost use Rattle.cli_recover.specs.Copies.{Copies, CopiesTo, IsOfJournal, IsOfWal, IsOutcomeOf};
+ghost use Rattle.cli_recover.specs.Copies.{KeepsTo};
+ghost use Rattle.cli_recover.specs.internal.Metered.{FollowsPlan};
 
 use crate::outcomes::print_outcome;
 use crate::plans::{Recovery, plan_recovery, scan_of};
@@ -80,13 +85,36 @@ pub fn recover_to<R: Files + AllocGlobal + Clock, M: Count, O: Write, E: Write>(
 ) -> Result<Answer, ShowError>
 where
     R::File: SystemFile,
-    ensures { IsDoneOr result }
+    ensures done { IsDoneOr result }
+    ensures copies { CopiesTo (opened_bytes R.File.bytes)
+        (GivesBytes R.File.bytes R.File.keeps_word R.File.never_fails) job.entry.now.source.now
+        (O.contents out.old) (O.contents out.new) result }
+{
+    match copied(job, to, notes) {
+        Ok(outcome) => {
+            let printed = print_outcome(out, job.source.options, outcome);
+            kept(job, to, printed, notes)
+        }
+        Err(refusal) => Err(ShowError::Refused(refusal)),
+    }
+}
+
+/// Makes the file of what is read once any change is dated later than the last one, and answers what the recovery comes
+/// to.
+fn copied<R: Files + AllocGlobal + Clock, M: Count, E: Write>(
+    job: &Job<'_, R, M>,
+    to: &str,
+    notes: &mut Notes<'_, E>,
+) -> Result<Outcome, Refusal>
+where
+    R::File: SystemFile,
+    ensures { Copies (opened_bytes R.File.bytes)
+        (GivesBytes R.File.bytes R.File.keeps_word R.File.never_fails) job.entry.now.source.now
+        (λ outcome. outcome) result }
 {
     let before = job.before(false, notes)?;
     thread::sleep(job.rt, wait_for(job.rt, &before));
-    let outcome = made_copy(job, &before, to, notes)?;
-    let printed = print_outcome(out, job.source.options, outcome);
-    kept(job, to, printed, notes)
+    made_copy(job, &before, to, notes)
 }
 
 /// Makes the file, and answers what the recovery comes to.
@@ -98,6 +126,9 @@ fn made_copy<R: Files + AllocGlobal + Clock, M: Count, E: Write>(
 ) -> Result<Outcome, Refusal>
 where
     R::File: SystemFile,
+    ensures { Copies (opened_bytes R.File.bytes)
+        (GivesBytes R.File.bytes R.File.keeps_word R.File.never_fails) job.entry.now.source.now
+        (λ outcome. outcome) result }
 {
     let found = found_in(job, notes);
     match job.standing(before, (false, None), found, notes) {
@@ -120,6 +151,7 @@ fn make_copy<R: Files + AllocGlobal + Clock, F: FileBytes + Drop, M: Count, E: W
 ) -> Result<Outcome, Refusal>
 where
     R::File: SystemFile,
+    ensures { IfOk result (λ outcome. outcome ≡ found.entry.outcome) }
 {
     let Found {
         content,
@@ -146,23 +178,39 @@ fn found_in<'a, R: Files + AllocGlobal + Clock, M: Count, E: Write>(
 ) -> Result<Found<'a, OpenedFile<'a, R::File>, M>, Refusal>
 where
     R::File: SystemFile,
+    ensures { Copies (opened_bytes R.File.bytes)
+        (GivesBytes R.File.bytes R.File.keeps_word R.File.never_fails) job.entry.now.source.now
+        (λ found. found.outcome) result }
 {
     let (meter, source) = (job.meter, job.source);
     let options = source.options;
-    let (said, files) = open_seen(
+    let seen = open_seen(
         job.rt,
         &source.paths,
         options.super_journal,
         options.at,
         notes,
     )?;
+    let (said, files) = seen;
     meter.begin(log_reads(files.wal.len(), files.journal.len()));
-    match content_of(job.rt.alloc(), all_metered(files, meter), options) {
-        Ok((outcome, content)) => Ok(Found {
-            outcome,
-            content,
-            mode: said.mode() & 0o777,
-        }),
+    let left = content_of(job.rt.alloc(), all_metered(files, meter), options);
+    found_by(left, said.mode() & 0o777)
+}
+
+/// What was found, and who may read it.
+fn found_by<'a, F, M>(left: Recovered<'a, F, M>, mode: u32) -> Result<Found<'a, F, M>, Refusal>
+    ensures { MatchResult left.entry (λ left. IfOk result (λ found. found.outcome ≡ left.0))
+        (λ refusal. result ≡ Err refusal) }
+{
+    match left {
+        Ok(left) => {
+            let (outcome, content) = left;
+            Ok(Found {
+                outcome,
+                content,
+                mode,
+            })
+        }
         Err(refusal) => Err(refusal),
     }
 }
@@ -184,15 +232,56 @@ fn content_of<'a, F: FileBytes + Drop, M: Count>(
     alloc: Global,
     files: Contents<Metered<'a, F, M>>,
     options: Options,
-) -> Recovered<'a, F, M> {
+) -> Recovered<'a, F, M>
+    ensures { FollowsPlan (λ file. F.bytes file.file) (λ file. F.gives_bytes file.file) options files.entry
+        (λ left. left.0) result }
+{
     let mut files = files;
     let opened = &mut files;
     let in_use = counting_log(&opened.wal, &mut opened.journal)?;
-    match plan_recovery(alloc, options, in_use, opened)? {
-        Recovery::Nothing if options.at.is_none() => as_it_stands(Outcome::Nothing, files),
-        Recovery::Nothing | Recovery::Empty => as_it_stands(Outcome::NoFront, files),
+    let planned = plan_recovery(alloc, options, in_use, opened);
+    left_by(alloc, options, planned, files)
+}
+
+/// What a plan leaves.
+fn left_by<'a, F: FileBytes + Drop, M: Count>(
+    alloc: Global,
+    options: Options,
+    planned: Result<Recovery, Refusal>,
+    files: Contents<Metered<'a, F, M>>,
+) -> Recovered<'a, F, M>
+    ensures { KeepsTo (λ left. left.0) options.at planned result }
+{
+    match planned {
+        Ok(plan) => left_as_planned(alloc, options, plan, files),
+        Err(refusal) => Err(refusal),
+    }
+}
+
+/// The same of a plan that was made.
+fn left_as_planned<'a, F: FileBytes + Drop, M: Count>(
+    alloc: Global,
+    options: Options,
+    plan: Recovery,
+    files: Contents<Metered<'a, F, M>>,
+) -> Recovered<'a, F, M>
+    ensures { IfOk result (λ left. IsOutcomeOf plan options.at left.0) }
+{
+    match plan {
+        Recovery::Nothing => as_it_stands(left_alone(options.at), files),
+        Recovery::Empty => as_it_stands(Outcome::NoFront, files),
         Recovery::Fold(_, scan) => folded(alloc, options, files, scan),
         Recovery::RollBack => rolled_back(alloc, limits_of(options), files),
+    }
+}
+
+/// What a plan that does nothing comes to: at 0 what a log without a frame that counts does.
+fn left_alone(at: Option<u32>) -> Outcome
+    ensures { IsOutcomeOf Recovery.Nothing at result }
+{
+    match at {
+        None => Outcome::Nothing,
+        Some(_) => Outcome::NoFront,
     }
 }
 
@@ -200,7 +289,9 @@ fn content_of<'a, F: FileBytes + Drop, M: Count>(
 fn as_it_stands<'a, F: FileBytes + Drop, M: Count>(
     outcome: Outcome,
     files: Contents<Metered<'a, F, M>>,
-) -> Recovered<'a, F, M> {
+) -> Recovered<'a, F, M>
+    ensures { IfOk result (λ left. left.0 ≡ outcome) }
+{
     let Contents { db, .. } = files;
     Ok((outcome, Content::File(db)))
 }
@@ -211,7 +302,9 @@ fn folded<'a, F: FileBytes + Drop, M: Count>(
     options: Options,
     files: Contents<Metered<'a, F, M>>,
     scan: Option<Scan>,
-) -> Recovered<'a, F, M> {
+) -> Recovered<'a, F, M>
+    ensures { IfOk result (λ left. IsOfWal left.0) }
+{
     let (mut files, limits) = (files, limits_of(options));
     let scan = match scan {
         Some(scan) => Some(scan),
@@ -233,7 +326,9 @@ fn folded_to<'a, F: FileBytes + Drop, M: Count>(
     files: Contents<Metered<'a, F, M>>,
     scan: &Scan,
     frame: u32,
-) -> Recovered<'a, F, M> {
+) -> Recovered<'a, F, M>
+    ensures { IfOk result (λ left. IsOfWal left.0) }
+{
     let Contents { db, wal, .. } = files;
     let (db, wal) = both_ahead(alloc, db, wal, PIECE)?;
     match View::of_scan_within(alloc, limits, db, wal, scan, frame) {
@@ -250,7 +345,9 @@ fn rolled_back<'a, F: FileBytes + Drop, M: Count>(
     alloc: Global,
     limits: Limits,
     files: Contents<Metered<'a, F, M>>,
-) -> Recovered<'a, F, M> {
+) -> Recovered<'a, F, M>
+    ensures { IfOk result (λ left. IsOfJournal left.0) }
+{
     let mut files = files;
     let records = replayed(alloc, &mut files.journal)?.count();
     let Contents { db, wal, journal } = all_ahead(alloc, files, PIECE)?;

@@ -1,6 +1,13 @@
 //! The recovery of a database file from the log beside it.
-ghost use Rattle.std.specs.Prelude.{◌≡◌};
+ghost use Rattle.std.specs.Prelude.{◌≡◌, ◌⊎◌, IfErr, IfOk, None, Ok};
+ghost use Rattle.cli_files.specs.Files.{opened_bytes};
+ghost use Rattle.cli_files.specs.Refusals.{IsFromSystem};
 ghost use Rattle.cli_job.specs.Answers.{IsDoneOr};
+ghost use Rattle.cli_job.specs.Opened.{GivesBytes};
+ghost use Rattle.cli_show.specs.Contents.{KeepsBytes};
+ghost use Rattle.cli_recover.specs.Copies.{IsOfJournal, IsOfWal, TellsOutcome};
+ghost use Rattle.cli_recover.specs.Recovers.{ArePathsOf, CarriesOut, IsRecovered, Recovers, RecoversTo};
+ghost use Rattle.cli_recover.specs.internal.Planned.{HasPlan, PlansOn};
 
 use crate::outcomes::print_outcome;
 use crate::plans::{Recovery, plan_recovery, scan_of};
@@ -18,8 +25,8 @@ use sqview::{FileBytes, LogInUse};
 use sqwal::Scan;
 use std::alloc::Global;
 use std::cell::RefCell;
-use std::fs::{Metadata, OpenFile, OpenOptions};
-use std::io::Write;
+use std::fs::{OpenFile, OpenOptions};
+use std::io::{self, Write};
 use std::rt::Files;
 use std::time::Clock;
 use walcore::{Folded, fold_within};
@@ -43,14 +50,59 @@ pub fn recover<R: Files + AllocGlobal + Clock, O: Write, E: Write>(
 ) -> Result<Answer, ShowError>
 where
     R::File: SystemFile,
-    ensures { IsDoneOr result }
+    ensures done { IsDoneOr result }
+    ensures recovers { RecoversTo (opened_bytes R.File.bytes)
+        (GivesBytes R.File.bytes R.File.keeps_word R.File.never_fails) of.entry.0.now of.entry.2
+        (O.contents out.old) (O.contents out.new) result }
 {
-    let (file, forced, mut options) = of;
-    options.at = None;
+    let (file, forced, options) = of;
+    match recovered_at(rt, (file, forced), options, notes) {
+        Ok(outcome) => outcome_told(options, outcome, out, notes),
+        Err(refusal) => Err(ShowError::Refused(refusal)),
+    }
+}
+
+/// Prints what a recovery did, or notes it where it can't be printed.
+fn outcome_told<O: Write, E: Write>(
+    options: Options,
+    outcome: Outcome,
+    out: &mut O,
+    notes: &Notes<'_, E>,
+) -> Result<Answer, ShowError>
+    ensures done { IsDoneOr result }
+    ensures told { TellsOutcome options.style (Ok outcome) (O.contents out.old) (O.contents out.new) result }
+{
+    match print_outcome(out, options, outcome) {
+        Ok(()) => Ok(Answer::Done),
+        Err(error) => {
+            notes.say(&format_args!("what was done couldn't be printed: {outcome}"));
+            Err(error)
+        }
+    }
+}
+
+/// Recovers the file that lies at a path, up to the front of its log.
+fn recovered_at<R: Files + AllocGlobal + Clock, E: Write>(
+    rt: &R,
+    of: (&str, bool),
+    options: Options,
+    notes: &mut Notes<'_, E>,
+) -> Result<Outcome, Refusal>
+where
+    R::File: SystemFile,
+    ensures { Recovers (opened_bytes R.File.bytes)
+        (GivesBytes R.File.bytes R.File.keeps_word R.File.never_fails) of.entry.0.now
+        (record options { at = None }) result }
+{
+    let (file, forced) = of;
+    let paths = paths_of(rt, file, notes)?;
     let source = Source {
         file,
-        paths: paths_of(rt, file, notes)?,
-        options,
+        paths,
+        options: Options {
+            at: None,
+            ..options
+        },
         watch: Watch::Still,
     };
     let meter = Progress::new(rt, notes.again(), options);
@@ -59,16 +111,29 @@ where
         source: &source,
         meter: &meter,
     };
-    let outcome = match recovered(&job, forced, notes) {
-        Ok(outcome) => outcome,
-        Err(refusal) => return Err(ShowError::Refused(source.paths.told(notes, refusal))),
-    };
-    let printed = print_outcome(out, options, outcome);
-    if printed.is_err() {
-        notes.say(&format_args!("what was done couldn't be printed: {outcome}"));
+    match recovered(&job, forced, notes) {
+        Ok(outcome) => Ok(outcome),
+        Err(refusal) => Err(source.paths.told(notes, refusal)),
     }
-    printed?;
-    Ok(Answer::Done)
+}
+
+/// Asks whether another process has the files open, and tells where that isn't known. Refused by `InUse`, or where the
+/// system doesn't say which file is which.
+fn asked<G: Guard, E: Write>(
+    guard: &G,
+    unread: &RefCell<Option<io::Error>>,
+    notes: &mut Notes<'_, E>,
+) -> Result<(), Refusal>
+    ensures { IfErr result (λ refusal. (refusal ≡ Refusal.InUse) ⊎ IsFromSystem refusal) }
+{
+    let answer = guard.ask();
+    tell_unread(notes, unread);
+    match answer {
+        Ok(()) => Ok(()),
+        Err(Refusal::InUse) => Err(Refusal::InUse),
+        Err(Refusal::NoMemory) => Err(Refusal::NoMemory),
+        Err(_) => Err(Refusal::FileFailed),
+    }
 }
 
 /// Recovers the file, unless another process is known to have it open.
@@ -79,6 +144,10 @@ fn recovered<R: Files + AllocGlobal, M: Count, E: Write>(
 ) -> Result<Outcome, Refusal>
 where
     R::File: SystemFile,
+    ensures { ArePathsOf job.entry.now.source.now.file.now job.entry.now.source.now.paths
+        → job.entry.now.source.now.options.at ≡ None → Recovers (opened_bytes R.File.bytes)
+        (GivesBytes R.File.bytes R.File.keeps_word R.File.never_fails) job.entry.now.source.now.file.now
+        job.entry.now.source.now.options result }
 {
     let unread = RefCell::new(None);
     let guard = OpenElsewhere {
@@ -88,14 +157,29 @@ where
         meter: job.meter,
         unread: &unread,
     };
-    let asked = guard.ask();
-    tell_unread(notes, &unread);
-    let recovered = match asked {
-        Ok(()) => recovered_by(job, guard, notes),
-        Err(refusal) => Err(refusal),
-    };
+    let recovered = unless_in_use(job, guard, &unread, notes);
     tell_unread(notes, &unread);
     recovered
+}
+
+/// Recovers the file, unless it is in use.
+fn unless_in_use<R: Files + AllocGlobal, G: Guard, M: Count, E: Write>(
+    job: &Job<'_, R, M>,
+    guard: G,
+    unread: &RefCell<Option<io::Error>>,
+    notes: &mut Notes<'_, E>,
+) -> Result<Outcome, Refusal>
+where
+    R::File: SystemFile,
+    ensures { ArePathsOf job.entry.now.source.now.file.now job.entry.now.source.now.paths
+        → job.entry.now.source.now.options.at ≡ None → Recovers (opened_bytes R.File.bytes)
+        (GivesBytes R.File.bytes R.File.keeps_word R.File.never_fails) job.entry.now.source.now.file.now
+        job.entry.now.source.now.options result }
+{
+    match asked(&guard, unread, notes) {
+        Ok(()) => recovered_by(job, guard, notes),
+        Err(refusal) => Err(refusal),
+    }
 }
 
 /// Recovers the file from the log that counts.
@@ -106,15 +190,19 @@ fn recovered_by<R: Files + AllocGlobal, G: Guard, M: Count, E: Write>(
 ) -> Result<Outcome, Refusal>
 where
     R::File: SystemFile,
+    ensures { ArePathsOf job.entry.now.source.now.file.now job.entry.now.source.now.paths
+        → job.entry.now.source.now.options.at ≡ None → Recovers (opened_bytes R.File.bytes)
+        (GivesBytes R.File.bytes R.File.keeps_word R.File.never_fails) job.entry.now.source.now.file.now
+        job.entry.now.source.now.options result }
 {
     let (paths, super_journal) = (&job.source.paths, job.source.options.super_journal);
+    let logs = open_logs(job.rt, paths, super_journal, None, notes)?;
+    tell_database(job, &logs.found, notes);
     let Beside {
-        found: Beheld { db, .. },
         wal,
         mut journal,
         ..
-    } = open_logs(job.rt, paths, super_journal, None, notes)?;
-    tell_database(job, db, notes);
+    } = logs;
     match counting_log(&wal, &mut journal) {
         Ok(LogInUse::Neither) => Ok(Outcome::Nothing),
         Ok(in_use) => carried_out(job, guard, in_use, (wal, journal), notes),
@@ -125,7 +213,7 @@ where
 /// Where it is asked for, says how long a database file is that was found, if it can be opened.
 fn tell_database<R: Files, M, E: Write>(
     job: &Job<'_, R, M>,
-    found: Metadata,
+    found: &Beheld,
     notes: &mut Notes<'_, E>,
 )
 where
@@ -134,7 +222,7 @@ where
     let paths = &job.source.paths;
     if notes.are_asked() {
         // A file that can't be opened is told of.
-        if let Ok(db) = open_database(job.rt, paths, &found, notes) {
+        if let Ok(db) = open_database(job.rt, paths, &found.db, notes) {
             tell_length(notes, paths.db.as_str(), &db);
         }
     }
@@ -160,6 +248,9 @@ fn carried_out<'a, R: Files + AllocGlobal, G: Guard, M: Count, E: Write>(
 ) -> Result<Outcome, Refusal>
 where
     R::File: SystemFile,
+    ensures { PlansOn (opened_bytes R.File.bytes)
+        (GivesBytes R.File.bytes R.File.keeps_word R.File.never_fails) job.entry.now.source.now.paths
+        job.entry.now.source.now.options in_use logs.entry.0 logs.entry.1 CarriesOut result }
 {
     let paths = &job.source.paths;
     let (wal, journal) = logs;
@@ -173,7 +264,8 @@ where
             &paths.wal
         }
     };
-    let (db, log) = open_both(job.rt, paths.db.as_str(), place.as_str(), notes)?;
+    let opened = open_both(job.rt, paths.db.as_str(), place.as_str(), notes)?;
+    let (db, log) = opened;
     match plan_opened(job, in_use, db, (wal, journal), notes) {
         Ok(planned) => carried_out_on(job, planned, log, guard, notes),
         Err(refusal) => Err(refusal),
@@ -190,26 +282,66 @@ fn plan_opened<'a, R: Files + AllocGlobal, M: Count, E: Write>(
 ) -> Result<Planned<R::File>, Refusal>
 where
     R::File: SystemFile,
+    ensures { PlansOn (opened_bytes R.File.bytes)
+        (GivesBytes R.File.bytes R.File.keeps_word R.File.never_fails) job.entry.now.source.now.paths
+        job.entry.now.source.now.options in_use logs.entry.0 logs.entry.1 HasPlan result }
 {
     let (alloc, place, options) = (job.rt.alloc(), &job.source.paths.db, job.source.options);
     let length = match metadata_of(&db) {
         Ok(said) => said.len(),
         Err(error) => return Err(told(notes, place.as_str(), error).refusal),
     };
-    let (wal, journal) = logs;
-    let mut files = Contents {
-        db: Metered::new(OpenedFile::new(db, length, place), None),
-        wal: Metered::new(wal, Some(job.meter)),
-        journal: Metered::new(journal, None),
-    };
+    let opened = OpenedFile::new(db, length, place);
+    let mut files = wal_metered(opened, logs, job.meter);
     let scan = asked_scan(alloc, limits_of(options), &mut files.wal, notes);
-    let plan = plan_recovery(alloc, options, in_use, &mut files)?;
+    let plan = plan_recovery(alloc, options, in_use, &mut files);
     let Contents { db, wal, .. } = files;
-    match db.into_file().into_file() {
+    planned_by(plan, db.into_file().into_file(), wal.len(), scan)
+}
+
+/// A database file and its logs, of which it is counted what is read of the write-ahead log.
+fn wal_metered<'a, F, M>(db: F, logs: (F, F), meter: &'a M) -> Contents<Metered<'a, F, M>>
+    ensures db { result.db.file ≡ db }
+    ensures wal { result.wal.file ≡ logs.0 }
+    ensures journal { result.journal.file ≡ logs.1 }
+{
+    let (wal, journal) = logs;
+    Contents {
+        db: Metered::new(db, None),
+        wal: Metered::new(wal, Some(meter)),
+        journal: Metered::new(journal, None),
+    }
+}
+
+/// A plan, with the database file that it is of, unless that is missing.
+fn planned_by<F: Drop>(
+    plan: Result<Recovery, Refusal>,
+    db: Option<F>,
+    length: u64,
+    scan: Option<Scan>,
+) -> Result<Planned<F>, Refusal>
+    ensures { HasPlan plan result }
+{
+    match plan {
+        Ok(plan) => planned_on(plan, db, length, scan),
+        Err(refusal) => Err(refusal),
+    }
+}
+
+/// The same of a plan that was made.
+fn planned_on<F: Drop>(
+    plan: Recovery,
+    db: Option<F>,
+    length: u64,
+    scan: Option<Scan>,
+) -> Result<Planned<F>, Refusal>
+    ensures { IfOk result (λ found. found.plan ≡ plan) }
+{
+    match db {
         Some(db) => Ok(Planned {
             db,
             plan,
-            length: wal.len(),
+            length,
             scan,
         }),
         None => Err(Refusal::FileFailed),
@@ -226,6 +358,7 @@ fn carried_out_on<R: Files + AllocGlobal, G: Guard, M, E: Write>(
 ) -> Result<Outcome, Refusal>
 where
     R::File: SystemFile,
+    ensures { IfOk result (IsRecovered planned.plan) }
 {
     let Planned {
         db,
@@ -251,7 +384,9 @@ fn replay<F: SystemFile + Drop, G: Guard, E: Write>(
     source: &Source<'_>,
     disk: FileDisk<F, G>,
     notes: &mut Notes<'_, E>,
-) -> Result<Outcome, Refusal> {
+) -> Result<Outcome, Refusal>
+    ensures { IfOk result (λ outcome. (outcome ≡ Outcome.Nothing) ⊎ IsOfJournal outcome) }
+{
     let mut disk = disk;
     match replay_within(alloc, &mut disk, limits_of(source.options)) {
         Ok(replayed) if replayed.hot => Ok(Outcome::RolledBack {
@@ -275,7 +410,9 @@ fn fold<F: SystemFile + Drop, G: Guard, E: Write>(
     disk: FileDisk<F, G>,
     log: (PageSize, u64, Option<Scan>),
     notes: &mut Notes<'_, E>,
-) -> Result<Outcome, Refusal> {
+) -> Result<Outcome, Refusal>
+    ensures { IfOk result IsOfWal }
+{
     let (page_size, length, scan) = log;
     let mut disk = disk;
     match fold_within(alloc, &mut disk, page_size, limits_of(source.options)) {
@@ -293,7 +430,9 @@ fn fold<F: SystemFile + Drop, G: Guard, E: Write>(
     }
 }
 
-fn outcome_of(folded: Folded) -> Outcome {
+fn outcome_of(folded: Folded) -> Outcome
+    ensures { IsOfWal result }
+{
     match folded.frames {
         0 => Outcome::NoFront,
         frames => Outcome::Folded {
@@ -309,7 +448,9 @@ fn asked_scan<F: FileBytes, E: Write>(
     limits: Limits,
     log: &mut F,
     notes: &Notes<'_, E>,
-) -> Option<Scan> {
+) -> Option<Scan>
+    ensures { KeepsBytes F.bytes F.gives_bytes log.old log.new }
+{
     if !notes.are_asked() {
         return None;
     }
@@ -324,7 +465,9 @@ fn open<R: Files, E: Write>(
     rt: &R,
     path: &str,
     notes: &mut Notes<'_, E>,
-) -> Result<R::File, Refusal> {
+) -> Result<R::File, Refusal>
+    ensures { IfErr result IsFromSystem }
+{
     match OpenOptions::new().read(true).write(true).open(rt, path) {
         Ok(file) => Ok(file),
         Err(error) => Err(told(notes, path, error).refusal),
@@ -337,7 +480,9 @@ fn open_both<R: Files, E: Write>(
     db: &str,
     log: &str,
     notes: &mut Notes<'_, E>,
-) -> Result<(R::File, R::File), Refusal> {
+) -> Result<(R::File, R::File), Refusal>
+    ensures { IfErr result IsFromSystem }
+{
     let db = open(rt, db, notes)?;
     match open(rt, log, notes) {
         Ok(log) => Ok((db, log)),

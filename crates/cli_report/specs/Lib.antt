@@ -1,1 +1,3 @@
+pub mod Reports
 pub mod Salvages
+pub mod internal

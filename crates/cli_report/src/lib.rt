@@ -1,6 +1,7 @@
 //! What is made of what was found: a page of HTML, a script of SQL, and what is told behind rows.
 #![tactic(auto)]
 
+mod pages;
 mod reports;
 mod rows;
 mod salvages;

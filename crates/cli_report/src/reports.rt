@@ -1,19 +1,28 @@
 //! A page of HTML that shows a database and its log.
+ghost use Rattle.std.specs.Prelude.{◌≡◌, IfErr, IfOk, Some, true};
+ghost use Rattle.cli_files.specs.Files.{opened_bytes};
+ghost use Rattle.cli_files.specs.Refusals.{IsFromSystem, IsFromWatch};
+ghost use Rattle.cli_job.specs.Opened.{GivesBytes};
+ghost use Rattle.cli_show.specs.Errors.{IfRefused};
+ghost use Rattle.cli_show.specs.Reports.{OnlyReads};
+ghost use Rattle.cli_report.specs.Reports.{IsUnreported, ReportsTo};
+ghost use Rattle.cli_report.specs.internal.Shown.{AreChangesOf, AreFactsOf, IsLogShown, IsShownOf};
+
+use crate::pages::{Page, Shown, Template, WRITTEN, made_whole, write_html};
 use cli_dump::{CHANGES_HEAD, CHANGES_TAIL, Kept, keep_history};
 use cli_facts::{Front, NoteWriter, Notes, Refusal, SystemFile};
-use cli_files::{Beside, Count, NewFile, begin_file, look_at, open_logs, told};
+use cli_files::{Count, NewFile, begin_file, look_at, open_logs, told};
 use cli_history::Files as Lent;
-use cli_job::{Answer, Counted, Job, Wants, judge_name, kept, named, open_all, wait_for};
+use cli_job::{Answer, Counted, Job, Wants, judge_name, kept, open_all, wait_for};
 use cli_show::{
-    LogFound, ReportFacts, ShowError, asked_of, facts_of, limits_of, log_of, survey_files,
-    write_report_facts, write_verdict,
+    Found, LogFound, ReportFacts, ShowError, asked_of, facts_of, limits_of, log_of, survey_files,
+    write_verdict,
 };
 use cli_text::{HEAD, TAIL};
 use cli_words::Style;
 use sqview::FileBytes;
 use std::alloc::Global;
-use std::fs::OpenFile;
-use std::io::{self, BufWriter, Seek, Write};
+use std::io::{self, BufWriter, Write};
 use std::os::unix::fs::MetadataExt;
 use std::rt::Files;
 use std::thread;
@@ -22,17 +31,18 @@ use std::time::Clock;
 /// The program and its version, as `--version` prints it, and a page names them.
 pub const VERSION: &str = "sqrescue 0.1.0";
 
-/// How many bytes are written at once.
-const WRITTEN: usize = 65_536;
-
 /// How many bytes of changes a page holds.
 const CHANGES_HELD: usize = 4_194_304;
 
-/// What a page shows: the facts, and the changes of each commit where they are asked for.
-#[derive(Drop)]
-struct Shown<F> {
-    facts: ReportFacts<F>,
-    changes: Option<Kept>,
+/// What is the same in each page.
+fn template() -> Template<'static> {
+    Template {
+        version: VERSION,
+        head: HEAD,
+        tail: TAIL,
+        changes_head: CHANGES_HEAD,
+        changes_tail: CHANGES_TAIL,
+    }
 }
 
 /// What a page shows of real files.
@@ -42,22 +52,23 @@ type ShownOf<'a, F, M> = Shown<Counted<'a, F, M>>;
 fn log_now<R: Files + AllocGlobal, M>(job: &Job<'_, R, M>) -> Result<LogFound, Refusal>
 where
     R::File: SystemFile,
+    ensures shown { IfOk result (IsLogShown (opened_bytes R.File.bytes)
+        (GivesBytes R.File.bytes R.File.keeps_word R.File.never_fails) job.entry.now.source.now) }
+    ensures refused { IfErr result (IsUnreported (opened_bytes R.File.bytes)
+        (GivesBytes R.File.bytes R.File.keeps_word R.File.never_fails) job.entry.now.source.now) }
 {
     let (paths, options) = (&job.source.paths, job.source.options);
     let nowhere = NoteWriter::new(io::sink());
     let mut unheard = Notes::new(&nowhere, false, false);
-    let Beside {
-        mut wal,
-        mut journal,
-        ..
-    } = open_logs(
+    let mut logs = open_logs(
         job.rt,
         paths,
         options.super_journal,
         options.at,
         &mut unheard,
     )?;
-    match log_of(job.rt.alloc(), limits_of(options), &mut wal, &mut journal) {
+    let limits = limits_of(options);
+    match log_of(job.rt.alloc(), limits, &mut logs.wal, &mut logs.journal) {
         // The database is shown without either.
         Err(Refusal::TwoLogs) if options.at == Some(0) => Ok(LogFound::None),
         answer => answer,
@@ -68,6 +79,10 @@ where
 fn changes_now<R: Files + AllocGlobal, M>(job: &Job<'_, R, M>) -> Result<Kept, Refusal>
 where
     R::File: SystemFile,
+    ensures kept { IfOk result (λ kept. AreChangesOf (opened_bytes R.File.bytes)
+        (GivesBytes R.File.bytes R.File.keeps_word R.File.never_fails) job.entry.now.source.now true (Some kept)) }
+    ensures refused { IfErr result (IsUnreported (opened_bytes R.File.bytes)
+        (GivesBytes R.File.bytes R.File.keeps_word R.File.never_fails) job.entry.now.source.now) }
 {
     let (paths, options) = (&job.source.paths, job.source.options);
     let nowhere = NoteWriter::new(io::sink());
@@ -99,13 +114,34 @@ fn facts_now<'a, R: Files + AllocGlobal + Clock, M: Count, E: Write>(
 ) -> Result<ReportFacts<Counted<'a, R::File, M>>, Refusal>
 where
     R::File: SystemFile,
+    ensures facts { IfOk result (AreFactsOf (opened_bytes R.File.bytes)
+        (GivesBytes R.File.bytes R.File.keeps_word R.File.never_fails) job.entry.now.source.now) }
+    ensures refused { IfErr result (IsUnreported (opened_bytes R.File.bytes)
+        (GivesBytes R.File.bytes R.File.keeps_word R.File.never_fails) job.entry.now.source.now) }
 {
     let asked = asked_of(job.source.options);
     let log = log_now(job)?;
     let files = job.opened(Wants::PAGES, notes)?;
     match survey_files(job.rt.alloc(), asked, files) {
-        Ok(found) => facts_of(job.rt.alloc(), found, log),
+        Ok(found) => facts_in(job.rt.alloc(), found, log),
         Err(refusal) => Err(refusal),
+    }
+}
+
+/// The facts of what was found. Refused by `NoMemory`, and by `FileFailed` where a page can't be read.
+fn facts_in<F: FileBytes + Drop>(
+    alloc: Global,
+    found: Found<F>,
+    log: LogFound,
+) -> Result<ReportFacts<F>, Refusal>
+    ensures found { IfOk result (λ facts. OnlyReads found facts.found) }
+    ensures log { IfOk result (λ facts. facts.log ≡ log) }
+    ensures refused { IfErr result IsFromSystem }
+{
+    match facts_of(alloc, found, log) {
+        Ok(facts) => Ok(facts),
+        Err(Refusal::NoMemory) => Err(Refusal::NoMemory),
+        Err(_) => Err(Refusal::FileFailed),
     }
 }
 
@@ -117,6 +153,10 @@ fn shown_now<'a, R: Files + AllocGlobal + Clock, M: Count, E: Write>(
 ) -> Result<ShownOf<'a, R::File, M>, Refusal>
 where
     R::File: SystemFile,
+    ensures shown { IfOk result (IsShownOf (opened_bytes R.File.bytes)
+        (GivesBytes R.File.bytes R.File.keeps_word R.File.never_fails) job.entry.now.source.now with_changes) }
+    ensures refused { IfErr result (IsUnreported (opened_bytes R.File.bytes)
+        (GivesBytes R.File.bytes R.File.keeps_word R.File.never_fails) job.entry.now.source.now) }
 {
     let facts = facts_now(job, notes)?;
     if !with_changes {
@@ -142,6 +182,10 @@ fn settled<'a, R: Files + AllocGlobal + Clock, M: Count, E: Write>(
 ) -> Result<ShownOf<'a, R::File, M>, Refusal>
 where
     R::File: SystemFile,
+    ensures shown { IfOk result (IsShownOf (opened_bytes R.File.bytes)
+        (GivesBytes R.File.bytes R.File.keeps_word R.File.never_fails) job.entry.now.source.now with_changes) }
+    ensures refused { IfErr result (IsUnreported (opened_bytes R.File.bytes)
+        (GivesBytes R.File.bytes R.File.keeps_word R.File.never_fails) job.entry.now.source.now) }
 {
     let before = job.before(false, notes)?;
     thread::sleep(job.rt, wait_for(job.rt, &before));
@@ -158,48 +202,23 @@ fn front_of<F: FileBytes>(shown: &Result<Shown<F>, Refusal>) -> Option<Front> {
     }
 }
 
-/// The page, with what it shows.
-fn write_html<W: Write, F: FileBytes>(out: &mut W, file: &str, shown: &Shown<F>) -> io::Result<()> {
-    out.write_all(HEAD.as_bytes())?;
-    write_report_facts(out, VERSION, file, &shown.facts)?;
-    if let Some(kept) = &shown.changes {
-        out.write_all(CHANGES_HEAD.as_bytes())?;
-        kept.write_element(out)?;
-        out.write_all(CHANGES_TAIL.as_bytes())?;
-    }
-    out.write_all(TAIL.as_bytes())?;
-    out.flush()
-}
-
 /// Prints a report.
 fn print_page<O: Write, F: FileBytes>(
     alloc: Global,
     out: &mut O,
     file: &str,
     shown: &Shown<F>,
-) -> Result<Answer, ShowError> {
+) -> Result<Answer, ShowError>
+    ensures done { IfOk result (λ answer. answer ≡ Answer.Done) }
+    ensures refused { IfErr result (IfRefused IsFromWatch) }
+{
     match BufWriter::with_capacity(alloc, WRITTEN, out) {
         Ok(mut out) => {
-            write_html(&mut out, file, shown)?;
+            write_html(&mut out, &template(), file, shown)?;
+            out.flush()?;
             Ok(Answer::Done)
         }
         Err(_) => Err(ShowError::Refused(Refusal::NoMemory)),
-    }
-}
-
-/// Writes a report to a new file, and finishes that.
-fn fill<O: Write + Seek + OpenFile, F: FileBytes>(
-    alloc: Global,
-    made: &mut NewFile<'_, O>,
-    file: &str,
-    shown: &Shown<F>,
-) -> io::Result<()> {
-    let mut out = BufWriter::with_capacity(alloc, WRITTEN, &mut *made)?;
-    let written = write_html(&mut out, file, shown);
-    drop(out);
-    match written {
-        Ok(()) => made.finish(),
-        Err(error) => Err(error),
     }
 }
 
@@ -216,15 +235,40 @@ pub fn report_to<R: Files + AllocGlobal + Clock, M: Count, O: Write, E: Write>(
 ) -> Result<Answer, ShowError>
 where
     R::File: SystemFile,
+    ensures { ReportsTo (opened_bytes R.File.bytes)
+        (GivesBytes R.File.bytes R.File.keeps_word R.File.never_fails) job.entry.now.source.now result }
 {
-    let ((to, with_changes), alloc, source) = (of, job.rt.alloc(), job.source);
+    let (to, with_changes) = of;
     match settled(job, with_changes, notes) {
-        Ok(shown) if to == "-" => print_page(alloc, out, source.file, &shown),
-        Ok(shown) => match make_page(job, to, &shown, notes) {
-            Ok(()) => kept(job, to, printed(out, source.options.style, &shown), notes),
-            Err(refusal) => Err(ShowError::Refused(refusal)),
-        },
-        Err(refusal) => Err(ShowError::Refused(source.paths.told(notes, refusal))),
+        Ok(shown) => shown_to(job, to, &shown, out, notes),
+        Err(refusal) => Err(ShowError::Refused(job.source.paths.told(notes, refusal))),
+    }
+}
+
+/// Makes the page of what it shows, and prints the verdict; or prints the page.
+fn shown_to<R: Files + AllocGlobal + Clock, M: Count, F: FileBytes, O: Write, E: Write>(
+    job: &Job<'_, R, M>,
+    to: &str,
+    shown: &Shown<F>,
+    out: &mut O,
+    notes: &mut Notes<'_, E>,
+) -> Result<Answer, ShowError>
+where
+    R::File: SystemFile,
+    ensures done { IfOk result (λ answer. answer ≡ Answer.Done) }
+    ensures refused { IfErr result (IfRefused IsFromWatch) }
+{
+    if to == "-" {
+        return print_page(job.rt.alloc(), out, job.source.file, shown);
+    }
+    match make_page(job, to, shown, notes) {
+        Ok(()) => kept(
+            job,
+            to,
+            printed(out, job.source.options.style, shown),
+            notes,
+        ),
+        Err(refusal) => Err(ShowError::Refused(refusal)),
     }
 }
 
@@ -236,8 +280,11 @@ pub(crate) fn new_page<'a, R: Files + AllocGlobal + Clock, M: Count, E: Write>(
 ) -> Result<NewFile<'a, R::File>, Refusal>
 where
     R::File: SystemFile,
+    ensures refused { IfErr result IsFromSystem }
 {
-    judge_name(job, to, notes)?;
+    if judge_name(job, to, notes).is_err() {
+        return Err(Refusal::FileFailed);
+    }
     let paths = &job.source.paths;
     let mode = match look_at(job.rt, paths.db.as_str()) {
         Ok(found) => found.mode() & 0o777,
@@ -255,13 +302,18 @@ fn make_page<R: Files + AllocGlobal + Clock, M: Count, F: FileBytes, E: Write>(
 ) -> Result<(), Refusal>
 where
     R::File: SystemFile,
+    ensures refused { IfErr result IsFromWatch }
 {
-    let mut made = new_page(job, to, notes)?;
-    let filled = match fill(job.rt.alloc(), &mut made, job.source.file, shown) {
-        Ok(()) => Ok(()),
-        Err(error) => Err(told(notes, made.path(), error).refusal),
-    };
-    named(job, made, filled, notes)
+    let rt = job.rt;
+    let made = new_page(job, to, notes)?;
+    made_whole(
+        rt.alloc(),
+        Page { rt, made },
+        &template(),
+        job.source.file,
+        shown,
+        notes,
+    )
 }
 
 /// Prints the verdict.
@@ -269,7 +321,9 @@ fn printed<F: FileBytes, O: Write>(
     out: &mut O,
     style: Style,
     shown: &Shown<F>,
-) -> Result<(), ShowError> {
+) -> Result<(), ShowError>
+    ensures { IfErr result (λ error. error ≡ ShowError.Unwritten) }
+{
     write_verdict(out, style, &shown.facts.found)?;
     out.flush()?;
     Ok(())

@@ -16,6 +16,7 @@ use Rattle.cli_words.specs.declared.requests.Options.{Options}
 use Rattle.cli_words.specs.declared.requests.Request.{Request}
 use Rattle.cli_words.specs.declared.requests.Request.TheVariants as requests
 use Rattle.cli_job.specs.Answers.{status_named, IsDoneOr}
+use Rattle.cli_recover.specs.Recovers.{RecoversTo}
 use Rattle.sqrescue.specs.Locking.{refusal_of}
 use Rattle.sqrescue.specs.Reads.{IsRead}
 use Rattle.cli_job.specs.declared.answers.Answer.{Answer}
@@ -23,6 +24,8 @@ use Rattle.sqrescue.specs.declared.program.Under.{Under}
 use Rattle.sqrescue.specs.declared.program.Under.TheVariants as under
 use Rattle.sqrescue.specs.declared.readings.Look.TheVariants.{Part, Damage, Rows}
 use Rattle.sqrescue.specs.declared.readings.Read.{Read}
+use Rattle.sqrescue.specs.declared.readings.Task.{Task}
+use Rattle.sqrescue.specs.declared.readings.Task.TheVariants as tasks
 use Rattle.sqrescue.specs.declared.readings.Reading.{Reading}
 use Rattle.sqrescue.specs.declared.readings.Reading.TheVariants.{Look, Diff, Copy, Report, Salvage}
 
@@ -30,26 +33,27 @@ use Rattle.sqrescue.specs.declared.readings.Reading.TheVariants.{Look, Diff, Cop
 abbrev pub read_named : Reading → (file : Bor (List ℕ)) → Options → Read
 read_named reading file options = record { reading = reading; file = file; options = options }
 
--- what is read for a request; none for a recovery in place and for the version
-abbrev pub read_for : Request → Option Read
-read_for (requests.Show file part options) = Some (read_named (Look (Part part)) file options)
-read_for (requests.Check file deep options) = Some (read_named (Look (Damage deep)) file options)
-read_for (requests.Rows file table form options) = Some (read_named (Look (Rows (record { table = table; form = form }))) file options)
-read_for (requests.Diff file compared options) = Some (read_named (Diff compared) file (record options { at = compared.to }))
-read_for (requests.Recover file (Some to) force options) = Some (read_named (Copy to) file options)
-read_for (requests.Recover file None force options) = None
-read_for (requests.Report file to changes options) = Some (read_named (Report to changes) file options)
-read_for (requests.Salvage file to places options) = Some (read_named (Salvage to places) file options)
-read_for requests.Version = None
+-- what a request is carried out by
+abbrev pub task_of : Request → Task
+task_of (requests.Show file part options) = tasks.Read (read_named (Look (Part part)) file options)
+task_of (requests.Check file deep options) = tasks.Read (read_named (Look (Damage deep)) file options)
+task_of (requests.Rows file table form options) = tasks.Read (read_named (Look (Rows (record { table = table; form = form }))) file options)
+task_of (requests.Diff file compared options) = tasks.Read (read_named (Diff compared) file (record options { at = compared.to }))
+task_of (requests.Recover file (Some to) force options) = tasks.Read (read_named (Copy to) file options)
+task_of (requests.Recover file None force options) = tasks.Recover file force options
+task_of (requests.Report file to changes options) = tasks.Read (read_named (Report to changes) file options)
+task_of (requests.Salvage file to places options) = tasks.Read (read_named (Salvage to places) file options)
+task_of requests.Version = tasks.Version
 
--- what a request comes to that reads this; what reads nothing so is done, or refused
-abbrev pub ComesBy : {F : Type 0} → (bytes : OpenedFile F → List ℕ) → (gives : OpenedFile F → Type 0) → Option Read → Result Answer ShowError → Type 0
-ComesBy bytes gives (Some read) answer = IsRead bytes gives read answer
-ComesBy bytes gives None answer = IsDoneOr answer
+-- what it comes to: what is read as its reading does, a recovery in place as its plan; the version is printed, or refused
+abbrev pub ComesBy : {F : Type 0} → (bytes : OpenedFile F → List ℕ) → (gives : OpenedFile F → Type 0) → Task → Result Answer ShowError → Type 0
+ComesBy bytes gives (tasks.Read read) answer = IsRead bytes gives read answer
+ComesBy bytes gives (tasks.Recover file force options) answer = (before : Option (List ℕ)) × (after : Option (List ℕ)) × RecoversTo bytes gives file.now options before after answer
+ComesBy bytes gives tasks.Version answer = IsDoneOr answer
 
 -- under these locks, or without them as it is refused
 abbrev pub ComesUnder : {F : Type 0} → (bytes : OpenedFile F → List ℕ) → (gives : OpenedFile F → Type 0) → Under → Request → Result Answer ShowError → Type 0
-ComesUnder bytes gives (under.Locks locks wait) request answer = ComesBy bytes gives (read_for request) answer
+ComesUnder bytes gives (under.Locks locks wait) request answer = ComesBy bytes gives (task_of request) answer
 ComesUnder bytes gives (under.Refused refusal) request answer = answer ≡ Err (errors.Refused refusal)
 
 -- a word by which help may be asked for: its name, or an option with an h

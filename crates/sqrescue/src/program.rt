@@ -4,12 +4,12 @@ ghost use Rattle.cli_files.specs.Files.{opened_bytes};
 ghost use Rattle.cli_job.specs.Answers.{status_named};
 ghost use Rattle.cli_job.specs.Opened.{GivesBytes};
 ghost use Rattle.sqrescue.specs.Reads.{IsRead, ReadsTo};
-ghost use Rattle.sqrescue.specs.Runs.{AsksHelp, ComesUnder, Ends, EndsUnasked, MayAskHelp};
+ghost use Rattle.sqrescue.specs.Runs.{AsksHelp, ComesBy, ComesUnder, Ends, EndsUnasked, MayAskHelp};
 
 use crate::answers::answered;
 use crate::diffs::print_diff;
 use crate::hints::next_step;
-use crate::readings::{Read, Reading, read_for};
+use crate::readings::{Read, Reading, Task, task_of};
 use cli_args::{LineError, request};
 use cli_facts::{NoteWriter, Notes, Refusal, Status, SystemFile};
 use cli_files::Progress;
@@ -58,7 +58,7 @@ where
 }
 
 /// How a run ends whose words ask for nothing, or for help.
-fn unasked<O: Write, E: Write>(
+pub(crate) fn unasked<O: Write, E: Write>(
     words: &[&str],
     error: &LineError,
     out: &mut O,
@@ -270,25 +270,39 @@ where
     ensures { ComesUnder (opened_bytes R.File.bytes)
         (GivesBytes R.File.bytes R.File.keeps_word R.File.never_fails) under request.entry result }
 {
-    let (locks, wait) = match under {
-        Under::Locks(locks, wait) => (locks, wait),
-        Under::Refused(refusal) => return Err(ShowError::Refused(refusal)),
-    };
-    tell_locks(locks, notes);
-    match read_for(request) {
-        Some(asked) => read_under(rt, &asked, (locks, wait), out, notes),
-        None => match request {
-            Request::Recover {
-                file,
-                force,
-                options,
-                ..
-            } => recover(rt, (file, force, options), out, notes),
-            _ => {
-                line(out, &VERSION)?;
-                Ok(Answer::Done)
-            }
-        },
+    match under {
+        Under::Locks(locks, wait) => {
+            tell_locks(locks, notes);
+            done_by(rt, task_of(request), (locks, wait), out, notes)
+        }
+        Under::Refused(refusal) => Err(ShowError::Refused(refusal)),
+    }
+}
+
+/// What a task comes to under these locks; what is read is read again for so many seconds.
+fn done_by<R: Files + AllocGlobal + Clock, O: Write, E: Write>(
+    rt: &R,
+    task: Task<'_>,
+    under: (Locks, u32),
+    out: &mut O,
+    notes: &mut Notes<'_, E>,
+) -> Result<Answer, ShowError>
+where
+    R::File: SystemFile,
+    ensures { ComesBy (opened_bytes R.File.bytes)
+        (GivesBytes R.File.bytes R.File.keeps_word R.File.never_fails) task.entry result }
+{
+    match task {
+        Task::Read(asked) => read_under(rt, &asked, under, out, notes),
+        Task::Recover {
+            file,
+            force,
+            options,
+        } => recover(rt, (file, force, options), out, notes),
+        Task::Version => {
+            line(out, &VERSION)?;
+            Ok(Answer::Done)
+        }
     }
 }
 
