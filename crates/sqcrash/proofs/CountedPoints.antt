@@ -6,6 +6,7 @@ use Rattle.std.proofs.lemmas.List.{length-map}
 use Rattle.std.proofs.lemmas.List.Concat.{flat_map-cons}
 use Rattle.std.proofs.lemmas.List.Sums.{count_by-le-length, sum_by-append}
 use Rattle.rig_play.specs.declared.trace.Record.{Record}
+use Rattle.rig_families.specs.Versions.{Named}
 use Rattle.rig_images.specs.declared.torn.Which.{Which}
 use Rattle.rig_images.specs.declared.torn.Which.TheVariants.{Db, Wal, Journal}
 use Rattle.rig_judge.specs.declared.judgment.Judgment.{Judgment}
@@ -88,10 +89,10 @@ grows_more a b old mid new first more = record {
   found = omega (arith, first.found, more.found);
 }
 
-pub grows_untorn : (run : RunState) (limit : ℕ) (old new : Survey) → IsUntornSurvey run limit old new → GrowsBy limit old new
-grows_untorn run limit old new is = elim is [
+pub grows_untorn : (versions : List Named) (run : RunState) (limit : ℕ) (old new : Survey) → IsUntornSurvey versions run limit old new → GrowsBy limit old new
+grows_untorn versions run limit old new is = elim is [
   | inl all ↦ let one = all.1 in grows_tells run one.judged old new limit one.told (let e = one.all in omega (arith, e, all.0))
-  | inr some ↦ let one = some.1 in grows_tells run one.judged old new limit one.told one.most
+  | inr some ↦ let one = some.1.sample in grows_tells run one.judged old new limit one.told one.most
 ]
 
 pub grows_torn : (run : RunState) (w : Which) (limit : ℕ) (old new : Survey) → IsTornSurvey run w limit old new → GrowsBy limit old new
@@ -109,11 +110,11 @@ pub record GrowsPoint (limit : ℕ) (old : Tally) (new : Survey) : Type 0 where
   pub faults : new.tally.faults ≤ old.faults + most_images limit
   pub found : length new.findings.items ≤ most_images limit
 
-pub grows_point : (run : RunState) (limit : ℕ) (old : Tally) (new : Survey) → IsSurvey run limit old new → GrowsPoint limit old new
-grows_point run limit old new is =
+pub grows_point : (versions : List Named) (run : RunState) (limit : ℕ) (old : Tally) (new : Survey) → IsSurvey versions run limit old new → GrowsPoint limit old new
+grows_point versions run limit old new is =
     let third = third_of limit in
     let first = is.begins in
-    let a = grows_untorn run limit is.begun is.mid is.untorn in
+    let a = grows_untorn versions run limit is.begun is.mid is.untorn in
     let b = grows_torn run Db third is.mid is.db is.torn_db in
     let d = grows_torn run Wal third is.db is.wal is.torn_wal in
     let e = grows_torn run Journal third is.wal new is.torn_journal in
@@ -157,9 +158,9 @@ record Judging (most : ℕ) (old new : Tally) (told : List Told) : Type 0 where
   faults : new.faults ≤ old.faults + most
   found : length told ≤ most
 
-judging : (b : Bool) (limit : ℕ) (run : RunState) (old new : Tally) (found : List Told) → JudgesWhere b limit run old new found → Judging (most_images limit) old new found
-judging true limit run old new found is =
-    let grows = grows_point run limit old is.0 is.1 in
+judging : (b : Bool) (limit : ℕ) (versions : List Named) (run : RunState) (old new : Tally) (found : List Told) → JudgesWhere b limit versions run old new found → Judging (most_images limit) old new found
+judging true limit versions run old new found is =
+    let grows = grows_point versions run limit old is.0 is.1 in
     let e = is.2 in
     record {
       points = omega (arith, ap (λ (t : Tally). t.points) e, grows.points);
@@ -169,7 +170,7 @@ judging true limit run old new found is =
       faults = omega (arith, ap (λ (t : Tally). t.faults) e, grows.faults);
       found = omega (arith, ap (λ (l : List Told). length l) is.3, grows.found);
     }
-judging false limit run old new found is =
+judging false limit versions run old new found is =
     let e = is.0 in
     record {
       points = omega (arith, ap (λ (t : Tally). t.points) e);
@@ -215,7 +216,7 @@ counted_all plan b (r ∷ records) old new lines is =
     let images = most_images plan.images in
     let one = is.3 in
     let mid = is.0 in
-    let judged = judging (is_point plan.every r && is_of_part plan.part mid.point) plan.images mid.run old.tally mid.tally is.1 one.2 in
+    let judged = judging (is_point plan.every r && is_of_part plan.part mid.point) plan.images mid.versions mid.run old.tally mid.tally is.1 one.2 in
     let more = counted_all plan b records mid new is.2 is.4 in
     let few = one_few (is_point plan.every r) in
     let texts = texts_at plan b r mid is.1 in
@@ -237,13 +238,13 @@ pub record NoneJudged (plan : Plan) (old : RigState) (n : ℕ) : Type 0 where
   pub each : (point : ℕ) → old.point < point → point ≤ old.point + n → is_of_part plan.part point ≡ false
 
 -- of one record
-step_none : (p q : Bool) (limit : ℕ) (run : RunState) (old new : Tally) (found : List Told) → JudgesWhere (p && q) limit run old new found → new.points ≡ 0
+step_none : (p q : Bool) (limit : ℕ) (versions : List Named) (run : RunState) (old new : Tally) (found : List Told) → JudgesWhere (p && q) limit versions run old new found → new.points ≡ 0
     → (old.points ≡ 0) × (p ≡ true → q ≡ false)
-step_none true true limit run old new found is none =
-    let grows = grows_point run limit old is.0 is.1 in
+step_none true true limit versions run old new found is none =
+    let grows = grows_point versions run limit old is.0 is.1 in
     absurd (omega (arith, grows.points, ap (λ (t : Tally). t.points) is.2, none))
-step_none true false limit run old new found is none = (omega (arith, ap (λ (t : Tally). t.points) is.0, none), λ e. refl)
-step_none false q limit run old new found is none = (omega (arith, ap (λ (t : Tally). t.points) is.0, none), λ e. absurd (cc e))
+step_none true false limit versions run old new found is none = (omega (arith, ap (λ (t : Tally). t.points) is.0, none), λ e. refl)
+step_none false q limit versions run old new found is none = (omega (arith, ap (λ (t : Tally). t.points) is.0, none), λ e. absurd (cc e))
 
 -- a point is the one of a record, or a later one
 each_behind : (plan : Plan) (p : Bool) (old mid n : ℕ) → mid ≡ old + one_if p → (p ≡ true → is_of_part plan.part mid ≡ false)
@@ -263,7 +264,7 @@ none_judged plan b (r ∷ records) old new lines is none =
     let p = is_point plan.every r in
     let n = count_by (is_point plan.every) records in
     let later = none_judged plan b records mid new is.2 is.4 none in
-    let one = step_none p (is_of_part plan.part mid.point) plan.images mid.run old.tally mid.tally is.1 is.3.2 later.points in
+    let one = step_none p (is_of_part plan.part mid.point) plan.images mid.versions mid.run old.tally mid.tally is.1 is.3.2 later.points in
     let all : count_by (is_point plan.every) (r ∷ records) ≡ one_if p + n =
     (let e = sum_by-append (λ (x : Record). cond (is_point plan.every x) 1 0) (r ∷ []) records in omega (arith, e)) in
     record {

@@ -5,8 +5,10 @@ pub mod CountedPoints
 pub mod PlayedRecords
 pub mod TallyOfJudgedImages
 pub mod SampledImages
+pub mod LikeliestImages
 pub mod JudgedRecords
 pub mod AppendedBytes
+pub mod PairsWritten
 pub mod WrittenTexts
 pub mod JudgedFiles
 pub mod WaitingCommits

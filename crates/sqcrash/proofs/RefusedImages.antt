@@ -4,7 +4,7 @@ use Rattle.rig_images.specs.declared.image.Image.{Image}
 use Rattle.sqcrash.specs.Refusals.{HasRoom, JudgingRefused, SurveyRefused, most_images}
 use Rattle.sqcrash.specs.Runs.{RunState}
 use Rattle.sqcrash.specs.Surveys.{IsBegun, Judged, Tells}
-use Rattle.sqcrash.specs.internal.Samples.{IsSampled}
+use Rattle.sqcrash.specs.Samples.{IsSampled}
 use Rattle.sqcrash.specs.declared.outcome.Refusal.{Refusal}
 use Rattle.sqcrash.specs.declared.sample.Sample.{Sample}
 use Rattle.sqcrash.specs.declared.survey.Survey.{Survey}

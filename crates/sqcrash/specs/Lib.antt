@@ -5,6 +5,7 @@ pub mod Snapshots
 pub mod Marked
 pub mod Markings
 pub mod Told
+pub mod Objects
 pub mod Surveys
 pub mod Samples
 pub mod Lines

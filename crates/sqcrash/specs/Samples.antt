@@ -1,10 +1,13 @@
 -- Images that are taken into a sample, each once (own).
-use Rattle.std.specs.Prelude.{◌≡◌, ◌⊎◌, ℕ, suc, ◌+◌, Bool, true, false, cond, nat_eq, List, ◌++◌}
+use Rattle.std.specs.Prelude.{◌≡◌, ◌⊎◌, ℕ, suc, ◌+◌, Bool, true, false, cond, nat_eq, List, ◌++◌, length, map}
 use Rattle.std.specs.HashSet.{contains}
+use Rattle.std.specs.List.{All, AllPairs, Contains}
+use Rattle.rig_families.specs.Versions.{Named}
 use Rattle.rig_images.specs.Keys.{key_of}
+use Rattle.rig_images.specs.Left.{MayLeave}
 use Rattle.rig_images.specs.declared.image.Image.{Image}
 use Rattle.sqcrash.specs.Runs.{RunState}
-use Rattle.sqcrash.specs.Surveys.{IsJudgedBy, with_image, finding_of}
+use Rattle.sqcrash.specs.Surveys.{AreLikeliestFirst, AreSame, IsJudgedBy, Judged, Tells, with_image, finding_of}
 use Rattle.rig_judge.specs.declared.judgment.Judgment.{Judgment}
 use Rattle.rig_missing.specs.declared.missing.Missing.{Missing}
 use Rattle.sqcrash.specs.declared.sample.Sample.{Sample}
@@ -29,3 +32,19 @@ TakesOne run image old new = (j : Judgment) × (missing : List Missing) × IsJud
 abbrev pub GoesOn : RunState → Image → (old new : Sample) → (before after : Survey) → Type 0
 GoesOn run image old new before after =
     (Takes (key_of image) true old new × TakesOne run image before after) ⊎ (Takes (key_of image) false old new × (after ≡ before))
+
+-- the images that were taken into a sample are judged, and others of that kind may follow
+pub record IsSampled (Left : Image → Type 0) (run : RunState) (limit : ℕ) (old : Survey) (sample : Sample) (new : Survey) : Type 0 where
+  pub judged : List Judged
+  pub left : All (λ x. Left x.image) judged
+  pub differ : AllPairs (λ x y. ¬ AreSame x.image y.image) judged
+  pub only : (q : ℕ) → contains nat_eq sample.keys q ≡ true → Contains (map (λ x. key_of x.image) judged) q
+  pub keyed : All (λ x. contains nat_eq sample.keys (key_of x.image) ≡ true) judged
+  pub none : length judged ≡ 0 → (q : ℕ) → contains nat_eq sample.keys q ≡ false
+  pub count : length judged + sample.left ≡ limit
+  pub told : Tells run judged old new
+
+-- the likeliest were, and others may follow
+pub record IsDrawing (versions : List Named) (run : RunState) (limit : ℕ) (old : Survey) (sample : Sample) (new : Survey) : Type 0 where
+  pub so : IsSampled (MayLeave run.files) run limit old sample new
+  pub likeliest : AreLikeliestFirst run.files versions limit so.judged

@@ -1,8 +1,12 @@
 -- What is counted and told of the images at a point (own).
 use Rattle.std.specs.Prelude.{◌≡◌, ◌⊎◌, ℕ, suc, ◌+◌, ◌/◌, ◌<◌, ◌≤◌, IsTrue, Bool, true, false, cond, List, [], ◌∷◌, ◌++◌, length, map, Option, Some, None}
-use Rattle.std.specs.List.{All, AllPairs, count_by}
+use Rattle.std.specs.List.{All, AllPairs, Contains, count_by}
 use Rattle.sqwal.specs.Took.{Took}
 use Rattle.sqwal.specs.declared.scan.Scan.{Scan}
+use Rattle.rig_families.specs.Families.{IsLikely}
+use Rattle.rig_families.specs.Versions.{Named}
+use Rattle.rig_images.specs.Keys.{key_of}
+use Rattle.rig_play.specs.Plays.{Files}
 use Rattle.rig_images.specs.Images.{AreCounts, IsNumbered, image_count}
 use Rattle.rig_images.specs.Left.{MayLeave}
 use Rattle.rig_images.specs.Torn.{MayLeaveTorn, NoneTears}
@@ -21,10 +25,14 @@ use Rattle.rig_missing.specs.declared.missing.Missing.{Missing}
 use Rattle.rig_shrink.specs.Shrunk.{IsShrunk}
 use Rattle.sqcrash.specs.declared.survey.Survey.{Survey}
 
--- this is the scan of an image's log, if there is one
+-- this is the scan of a log, if there is one
+abbrev pub IsLogScan : List ℕ → Option Scan → Type 0
+IsLogScan log None = Unit {0}
+IsLogScan log (Some scan) = Took log scan
+
+-- of an image's log
 abbrev pub IsScanOf : Image → Option Scan → Type 0
-IsScanOf image None = Unit {0}
-IsScanOf image (Some scan) = Took image.wal.items scan
+IsScanOf image scan = IsLogScan image.wal.items scan
 
 -- the same where that is fixed; otherwise there is none
 abbrev pub IsFixedScan : Fixed → Image → Option Scan → Type 0
@@ -167,9 +175,23 @@ pub record IsSample (Left : Image → Type 0) (run : RunState) (limit : ℕ) (ol
   pub most : length judged ≤ limit
   pub told : Tells run judged old new
 
--- of those that a crash may leave
-abbrev pub IsDrawnSurvey : RunState → (limit : ℕ) → (old new : Survey) → Type 0
-IsDrawnSurvey run limit old new = IsSample (MayLeave run.files) run limit old new
+-- half of them, or one more where they are odd
+abbrev pub half_of : ℕ → ℕ
+half_of n = (n + 1) / 2
+
+-- Of the images that are judged the likeliest come first: half of the limit, or one of each key of theirs where these are fewer.
+pub record AreLikeliestFirst (s : Files) (versions : List Named) (limit : ℕ) (judged : List Judged) : Type 0 where
+  pub likely : List Judged
+  pub drawn : List Judged
+  pub first : judged ≡ likely ++ drawn
+  pub are : All (λ x. IsLikely s versions x.image) likely
+  pub most : length likely ≤ half_of limit
+  pub all : (length likely ≡ half_of limit) ⊎ ((image : Image) → IsLikely s versions image → Contains (map (λ x. key_of x.image) likely) (key_of image))
+
+-- of those that a crash may leave, first the likeliest, also by the versions of the files behind earlier calls, and then others
+pub record IsDrawnSurvey (versions : List Named) (run : RunState) (limit : ℕ) (old new : Survey) : Type 0 where
+  pub sample : IsSample (MayLeave run.files) run limit old new
+  pub likeliest : AreLikeliestFirst run.files versions limit sample.judged
 
 -- of those in which a sector of this file is torn, where one may be
 abbrev pub IsTornSurvey : RunState → Which → (limit : ℕ) → (old new : Survey) → Type 0
@@ -180,17 +202,17 @@ abbrev pub third_of : ℕ → ℕ
 third_of n = (n + 2) / 3
 
 -- all that a crash may leave with no sector torn, where they are no more than the limit, otherwise some that are drawn
-abbrev pub IsUntornSurvey : RunState → (limit : ℕ) → (old new : Survey) → Type 0
-IsUntornSurvey run limit old new =
-    ((image_count run.files ≤ limit) × IsNumberedSurvey run old new) ⊎ ((limit < image_count run.files) × IsDrawnSurvey run limit old new)
+abbrev pub IsUntornSurvey : (versions : List Named) → RunState → (limit : ℕ) → (old new : Survey) → Type 0
+IsUntornSurvey versions run limit old new =
+    ((image_count run.files ≤ limit) × IsNumberedSurvey run old new) ⊎ ((limit < image_count run.files) × IsDrawnSurvey versions run limit old new)
 
 -- The images of a point: those with no sector torn, and where sectors may tear a third as many in which one of the database file is
 -- torn, of the log, and of the journal.
-pub record IsSurvey (run : RunState) (limit : ℕ) (before : Tally) (s : Survey) : Type 0 where
+pub record IsSurvey (versions : List Named) (run : RunState) (limit : ℕ) (before : Tally) (s : Survey) : Type 0 where
   pub begun : Survey
   pub begins : IsBegun before begun
   pub mid : Survey
-  pub untorn : IsUntornSurvey run limit begun mid
+  pub untorn : IsUntornSurvey versions run limit begun mid
   pub db : Survey
   pub torn_db : IsTornSurvey run Db (third_of limit) mid db
   pub wal : Survey

@@ -10,6 +10,7 @@ mod finding;
 mod keep;
 mod lines;
 mod marked;
+mod objects;
 mod outcome;
 mod plan;
 mod program;
@@ -26,9 +27,10 @@ use std::env::{self, Env};
 use std::io::{self, Write};
 use std::process::ExitCode;
 use std::rt::Files;
+use std::time::Clock;
 
 /// Reads the words and carries them out.
-fn answer<R: Env + Files + AllocGlobal, O: Write, E: Write>(
+fn answer<R: Env + Files + Clock + AllocGlobal, O: Write, E: Write>(
     rt: &R,
     out: &mut O,
     err: &mut E,

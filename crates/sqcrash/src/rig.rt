@@ -13,6 +13,7 @@ use crate::run::Run;
 use crate::stopped::Stopped;
 use crate::survey::{Tally, judge_images};
 use rand_pcg::Pcg32;
+use rig_families::Prefixes;
 use rig_play::{Kind, Record};
 use std::alloc::Global;
 
@@ -23,6 +24,8 @@ pub struct Rig {
     plan: Plan,
     rng: Pcg32,
     run: Run,
+    /// The versions of its files behind its last calls.
+    prefixes: Prefixes,
     tally: Tally,
     /// The number of the last point, counted from 1; 0 before the first.
     point: u64,
@@ -61,7 +64,7 @@ fn begin_draws(plan: Plan, point: u64, rng: &mut Pcg32)
 }
 
 impl Rig {
-    ghost use Rattle.std.specs.Prelude.{◌≡◌, OnOk, IfOk, IfErr};
+    ghost use Rattle.std.specs.Prelude.{◌≡◌, [], OnOk, IfOk, IfErr};
     ghost use Rattle.sqcrash.specs.Runs.{run_of};
     ghost use Rattle.sqcrash.specs.Surveys.{no_tally};
     ghost use Rattle.sqcrash.specs.Rigs.{rig_of, no_rig, marked_rig, stopped_at, Judges};
@@ -70,6 +73,7 @@ impl Rig {
     /// Nothing is played yet.
     pub fn new(alloc: Global, plan: Plan) -> Rig
         ensures run { run_of result.run ≡ (no_rig plan).run }
+        ensures versions { result.prefixes.versions.items ≡ [] }
         ensures tally { result.tally ≡ no_tally }
         ensures point { result.point ≡ 0 }
         ensures plan { result.plan ≡ plan }
@@ -81,6 +85,7 @@ impl Rig {
             plan,
             rng: Pcg32::new(plan.seed, 1),
             run,
+            prefixes: Prefixes::new(alloc),
             tally: Tally::none(),
             point: 0,
         }
@@ -132,6 +137,8 @@ impl Rig {
         ensures refused { IfErr result (RigRefused self.old.plan trace.now call.now (rig_of self.old)) }
     {
         self.run.play(trace, call)?;
+        self.prefixes
+            .note(self.alloc, self.run.player(), call.kind)?;
         if !is_point(self.plan.every, call) {
             return Ok(Vec::new(self.alloc));
         }
@@ -145,6 +152,7 @@ impl Rig {
         let found = judge_images(
             &self.run,
             self.plan.images,
+            &self.prefixes,
             &mut self.rng,
             keeper,
             self.tally,

@@ -1,5 +1,6 @@
 //! The images of a point are judged, counted and told (own).
-ghost use Rattle.std.specs.Prelude.{◌≡◌, ◌+◌, IfOk, IfErr, MatchResult};
+ghost use Rattle.std.specs.Prelude.{◌≡◌, ◌+◌, IfOk, IfErr, MatchResult, map};
+ghost use Rattle.rig_families.specs.Versions.{named_of};
 ghost use Rattle.rig_images.specs.Images.{AreCounts};
 ghost use Rattle.sqcrash.specs.Runs.{run_of};
 ghost use Rattle.sqcrash.specs.Surveys.{IsNumberedSurvey, IsDrawnSurvey, IsUntornSurvey, IsSurvey, third_of};
@@ -13,12 +14,12 @@ use crate::run::Run;
 use crate::sample::{survey_drawn, survey_redrawn, survey_torn};
 use crate::shown::{shown_of, shrunk_in};
 use rand_core::Rng;
+use rig_families::Prefixes;
 use rig_images::{Counts, Image, Which};
 use rig_judge::Judgment;
 use rig_missing::Missing;
 use sqwal::Scan;
 use std::alloc::Global;
-use std::fmt;
 
 /// How many points and images there were, and of these how many with something wrong.
 #[derive(Clone, Copy, Debug, PartialEq, Eq)]
@@ -87,16 +88,6 @@ impl Tally {
             Judgment::Fault(_) | Judgment::Refused(_) => self.faults = more(self.faults)?,
         }
         Ok(self)
-    }
-}
-
-impl fmt::Display for Tally {
-    fn fmt<W: fmt::Write>(&self, f: &mut fmt::Formatter<W>) -> fmt::Result {
-        write!(
-            f,
-            "{} points, {} images, {} lost, {} mixed, {} faults",
-            self.points, self.images, self.lost, self.mixed, self.faults
-        )
     }
 }
 
@@ -218,21 +209,23 @@ fn survey_numbered<K: Keeper>(
     Ok(())
 }
 
-/// Judges images that are drawn, by what is quicker.
+/// Judges the likeliest images, and then others that are drawn, by what is quicker.
 fn survey_some<R: Rng, K: Keeper>(
     run: &Run,
     limit: u64,
+    prefixes: &Prefixes,
     rng: &mut R,
     keeper: &mut K,
     survey: &mut Survey,
 ) -> Result<(), Refusal>
-    ensures { MatchResult result (λ done. IsDrawnSurvey (run_of run.now) limit survey.old survey.new)
+    ensures { MatchResult result (λ done. IsDrawnSurvey (map (λ v. named_of v) prefixes.now.versions.items)
+        (run_of run.now) limit survey.old survey.new)
         (JudgingRefused limit survey.old) }
 {
     if run.player().earlier().is_empty() {
-        survey_redrawn(run, limit, rng, keeper, survey)
+        survey_redrawn(run, limit, prefixes, rng, keeper, survey)
     } else {
-        survey_drawn(run, limit, rng, keeper, survey)
+        survey_drawn(run, limit, prefixes, rng, keeper, survey)
     }
 }
 
@@ -240,34 +233,39 @@ fn survey_some<R: Rng, K: Keeper>(
 fn survey_untorn<R: Rng, K: Keeper>(
     run: &Run,
     limit: u64,
+    prefixes: &Prefixes,
     rng: &mut R,
     keeper: &mut K,
     survey: &mut Survey,
 ) -> Result<(), Refusal>
-    ensures { MatchResult result (λ done. IsUntornSurvey (run_of run.now) limit survey.old survey.new)
+    ensures { MatchResult result (λ done. IsUntornSurvey (map (λ v. named_of v) prefixes.now.versions.items)
+        (run_of run.now) limit survey.old survey.new)
         (JudgingRefused limit survey.old) }
 {
     match Counts::of(run.alloc(), run.player(), limit)? {
         Some(counts) => survey_numbered(run, &counts, keeper, survey),
-        None => survey_some(run, limit, rng, keeper, survey),
+        None => survey_some(run, limit, prefixes, rng, keeper, survey),
     }
 }
 
 /// Judges what a crash may leave of a run now: all images that aren't torn, where they are no more than the limit,
-/// otherwise so many that are drawn; and of each file that may be torn a third as many that are drawn so. What was
-/// counted before is counted on. Images with something wrong go to the keeper. Refused by NoMemory, by TooMany where a
-/// count would pass 18,446,744,073,709,551,615, and by what refuses the keeper.
+/// otherwise so many, first the likeliest, at most half of them, and then some that are drawn; and of each file that
+/// may be torn a third as many that are drawn so. What was counted before is counted on. Images with something wrong go
+/// to the keeper. Refused by NoMemory, by TooMany where a count would pass 18,446,744,073,709,551,615, and by what
+/// refuses the keeper.
 pub fn judge_images<R: Rng, K: Keeper>(
     run: &Run,
     limit: u64,
+    prefixes: &Prefixes,
     rng: &mut R,
     keeper: &mut K,
     before: Tally,
 ) -> Result<Survey, Refusal>
-    ensures { MatchResult result (IsSurvey (run_of run.now) limit before) (SurveyRefused limit before) }
+    ensures { MatchResult result (IsSurvey (map (λ v. named_of v) prefixes.now.versions.items)
+        (run_of run.now) limit before) (SurveyRefused limit before) }
 {
     let mut survey = Survey::new(run.alloc(), before)?;
-    survey_untorn(run, limit, rng, keeper, &mut survey)?;
+    survey_untorn(run, limit, prefixes, rng, keeper, &mut survey)?;
     let third = third_of(limit);
     survey_torn(run, Which::Db, third, rng, keeper, &mut survey)?;
     survey_torn(run, Which::Wal, third, rng, keeper, &mut survey)?;

@@ -4,6 +4,8 @@
 #[cfg(test)]
 mod asserts;
 #[cfg(test)]
+mod rig_families_tests;
+#[cfg(test)]
 mod rig_images_tests;
 #[cfg(test)]
 mod rig_judge_tests;

@@ -1,12 +1,13 @@
-use Rattle.std.proofs.Common.{◌≡◌, ◌≢◌, ◌<◌, true, false, refl, subst, arith}
+use Rattle.std.proofs.Common.{◌≡◌, ◌≢◌, ◌<◌, true, false, map, refl, subst, arith}
 use Rattle.rig_play.specs.Plays.{epoch_now}
 use Rattle.rig_images.specs.Left.{MayLeave, MayLeaveIn}
 use Rattle.rig_images.proofs.ImagesOfCurrentEpoch.{now_may_leave}
 use Rattle.sqcrash.proofs.TallyOfJudgedImages.{scan_stays, scan_is}
 use Rattle.rig_play.specs.Plays.{Files}
 use Rattle.rig_images.specs.declared.image.Image.{Image}
+use Rattle.rig_families.specs.Versions.{named_of}
 use Rattle.sqcrash.specs.Runs.{run_of}
-use Rattle.sqcrash.proofs.SampledImages.{sampled_none, sampled_on, sample_done}
+use Rattle.sqcrash.proofs.SampledImages.{drawing_on, drawing_done}
 use Rattle.sqcrash.proofs.RefusedImages.{judging_sampled}
 use Rattle.sqcrash.proofs.PassedRefusals.{passed}
 use Rattle.sqcrash.proofs.sample.survey_redrawn.Goals as goal
@@ -15,7 +16,7 @@ pub loop-n-init : goal.loop-n-init
 loop-n-init g c =
     let run = run_of c.args.run.now in
     let Left : Image → Type 0 = λ image. MayLeave run.files image in
-    ((subst (λ (s : Files). MayLeaveIn s (epoch_now s) c.draw_now.new.image) c.player-player.ensures c.in_ok-draw_now.ensures, c.fixed_scan-scan.ensures), sampled_none Left run c.args.limit c.new-sample.result c.args.survey.now c.new-sample.ensures.keys c.new-sample.ensures.left, λ went. absurd (omega arith))
+    ((subst (λ (s : Files). MayLeaveIn s (epoch_now s) c.draw_now.new.image) c.player-player.ensures c.in_ok-draw_now.ensures, c.fixed_scan-scan.ensures), c.in_ok-sample.ensures, λ went. absurd (omega arith))
 
 pub loop-n-preserved : goal.loop-n-preserved
 loop-n-preserved g c =
@@ -24,7 +25,7 @@ loop-n-preserved g c =
     let so_far = c.loop-n.invariant in
     let full : c.loop-n.sample.left ≢ 0 = λ e. let no : false ≡ true = c.if-is_full.ensures.1 e in cc in
     let left = so_far.0.0 in
-    let on = sampled_on Left run c.args.limit c.args.survey.now c.loop-n.sample c.judge.new.self c.loop-n.survey c.judge.new.survey c.loop-n.image so_far.1 (now_may_leave run.files c.loop-n.image left) (omega arith) (c.in_ok-judge.ensures.judged (scan_is c.of-fixed.result c.loop-n.image _ so_far.0.1)) in
+    let on = drawing_on (map (λ v. named_of v) c.args.prefixes.now.versions.items) run c.args.limit c.args.survey.now c.loop-n.sample c.judge.new.self c.loop-n.survey c.judge.new.survey c.loop-n.image so_far.1 (now_may_leave run.files c.loop-n.image left) (omega arith) (c.in_ok-judge.ensures.judged (scan_is c.of-fixed.result c.loop-n.image _ so_far.0.1)) in
     let next = subst (λ (s : Files). MayLeaveIn s (epoch_now s) c.loop-n.image → MayLeaveIn s (epoch_now s) c.redraw.new.image) c.player-player.ensures c.in_ok-redraw.ensures.left left in
     ((next, scan_stays c.of-fixed.result c.loop-n.image c.redraw.new.image _ so_far.0.1 c.in_ok-redraw.ensures.same_log), on.0, λ went. on.1)
 
@@ -32,17 +33,19 @@ pub returns-then-is_full : goal.returns-then-is_full
 returns-then-is_full g c =
     let run = run_of c.args.run.now in
     let Left : Image → Type 0 = λ image. MayLeave run.files image in
-    let so = c.loop-n.invariant.1 in
+    let is = c.loop-n.invariant.1 in
+    let so = is.so in
     let full : c.loop-n.sample.left ≡ 0 = c.if-is_full.ensures.0 refl in
-    sample_done Left run c.args.limit c.args.survey.now c.loop-n.survey c.loop-n.sample so (λ some. omega (arith, so.count))
+    drawing_done (map (λ v. named_of v) c.args.prefixes.now.versions.items) run c.args.limit c.args.survey.now c.loop-n.survey c.loop-n.sample is (λ some. let count = so.count in omega (arith, count))
 
 pub returns : goal.returns
 returns g c =
     let run = run_of c.args.run.now in
     let Left : Image → Type 0 = λ image. MayLeave run.files image in
-    let so = c.loop-n.invariant.1 in
+    let is = c.loop-n.invariant.1 in
+    let so = is.so in
     let end : c.loop-n.n ≡ c.tries-n-end.result = omega (arith, c.loop-n.auto.n-end, c.loop-n-test.false) in
-    sample_done Left run c.args.limit c.args.survey.now c.loop-n.survey c.loop-n.sample so
+    drawing_done (map (λ v. named_of v) c.args.prefixes.now.versions.items) run c.args.limit c.args.survey.now c.loop-n.survey c.loop-n.sample is
     (λ some. c.loop-n.invariant.2 (let went : 0 < c.loop-n.n = omega (arith, end, c.tries-n-end.ensures some) in went))
 
 pub returns-in_err-judge : goal.returns-in_err-judge
@@ -51,4 +54,4 @@ returns-in_err-judge g c =
     let Left : Image → Type 0 = λ image. MayLeave run.files image in
     let full : c.loop-n.sample.left ≢ 0 = λ e. let no : false ≡ true = c.if-is_full.ensures.1 e in cc in
     passed c.from_residual-in_err-judge.result _ _ _ c.from_residual-in_err-judge.ensures.1
-    (judging_sampled Left run c.args.limit c.args.survey.now c.loop-n.sample c.loop-n.survey _ c.loop-n.invariant.1 (omega arith) c.in_err-judge.ensures.refused)
+    (judging_sampled Left run c.args.limit c.args.survey.now c.loop-n.sample c.loop-n.survey _ c.loop-n.invariant.1.so (omega arith) c.in_err-judge.ensures.refused)

@@ -27,7 +27,7 @@ loop-n-preserved g c =
     let full : c.loop-n.sample.left ≢ 0 = λ e. let no : false ≡ true = c.if-is_full.ensures.1 e in cc in
     let on = sampled_on Left run c.args.limit c.args.survey.now c.loop-n.sample c.judge.new.self c.loop-n.survey c.judge.new.survey c.loop-n.image so_far.1 so_far.0 (omega arith) (c.in_ok-judge.ensures.judged tt) in
     let next = subst (λ (s : Files). MatchBool c.in_ok-draw_torn-2.field-0 (MayLeaveTorn s c.args.which c.draw_torn-in-loop-n.new.image) (NoneTears s c.args.which)) c.player-player.ensures c.in_ok-draw_torn-2.ensures in
-    (still_torn run.files c.args.which c.loop-n.image c.draw_torn-in-loop-n.new.image c.in_ok-draw_torn-2.field-0 so_far.0 next, on.0, λ went. on.1)
+    (still_torn run.files c.args.which c.loop-n.image c.draw_torn-in-loop-n.new.image c.in_ok-draw_torn-2.field-0 so_far.0 next, on.so, λ went. on.some)
 
 pub returns-then-is_full : goal.returns-then-is_full
 returns-then-is_full g c =

@@ -1,7 +1,7 @@
 use Rattle.std.proofs.Common.{◌<◌, length}
 use Rattle.rig_images.specs.Torn.{MayLeaveTorn}
 use Rattle.sqcrash.specs.Runs.{run_of}
-use Rattle.sqcrash.specs.internal.Samples.{IsSampled}
+use Rattle.sqcrash.specs.Samples.{IsSampled}
 use Rattle.sqcrash.proofs.sample.survey_torn.Given as goal
 
 abbrev pub invariant-loop-n : goal.invariant-loop-n

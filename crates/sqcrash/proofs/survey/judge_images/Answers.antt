@@ -1,4 +1,5 @@
-use Rattle.std.proofs.Common.{ℕ, ◌+◌, subst, arith}
+use Rattle.std.proofs.Common.{ℕ, ◌+◌, map, subst, arith}
+use Rattle.rig_families.specs.Versions.{named_of}
 use Rattle.rig_images.specs.declared.torn.Which.TheVariants.{Db, Wal, Journal}
 use Rattle.sqcrash.specs.Runs.{run_of}
 use Rattle.sqcrash.specs.Surveys.{IsTornSurvey}
@@ -39,7 +40,7 @@ returns-in_err-survey_torn g c =
     let begun = c.in_ok-survey.survey in
     let mid = c.survey_untorn.new.survey in
     passed c.from_residual-in_err-survey_torn.result _ _ _ c.from_residual-in_err-survey_torn.ensures.1
-    (survey_refused limit limit c.third_of-third.result c.args.before begun mid _ c.in_ok-survey.ensures (grows_untorn run limit begun mid c.in_ok-survey_untorn.ensures)
+    (survey_refused limit limit c.third_of-third.result c.args.before begun mid _ c.in_ok-survey.ensures (grows_untorn (map (λ v. named_of v) c.args.prefixes.now.versions.items) run limit begun mid c.in_ok-survey_untorn.ensures)
     (omega (arith, c.third_of-third.ensures)) c.in_err-survey_torn.ensures)
 
 pub returns-in_err-survey_torn-2 : goal.returns-in_err-survey_torn-2
@@ -50,7 +51,7 @@ returns-in_err-survey_torn-2 g c =
     let begun = c.in_ok-survey.survey in
     let mid = c.survey_untorn.new.survey in
     let db = c.survey_torn.new.survey in
-    let first = grows_untorn run limit begun mid c.in_ok-survey_untorn.ensures in
+    let first = grows_untorn (map (λ v. named_of v) c.args.prefixes.now.versions.items) run limit begun mid c.in_ok-survey_untorn.ensures in
     let more = grows_torn run Db third mid db c.in_ok-survey_torn.ensures in
     passed c.from_residual-in_err-survey_torn-2.result _ _ _ c.from_residual-in_err-survey_torn-2.ensures.1
     (survey_refused limit (limit + third) third c.args.before begun db _ c.in_ok-survey.ensures (grows_more limit third begun mid db first more)
@@ -65,7 +66,7 @@ returns-in_err-survey_torn-3 g c =
     let mid = c.survey_untorn.new.survey in
     let db = c.survey_torn.new.survey in
     let wal = c.survey_torn-2.new.survey in
-    let first = grows_untorn run limit begun mid c.in_ok-survey_untorn.ensures in
+    let first = grows_untorn (map (λ v. named_of v) c.args.prefixes.now.versions.items) run limit begun mid c.in_ok-survey_untorn.ensures in
     let more = grows_torn run Db third mid db c.in_ok-survey_torn.ensures in
     let last = grows_torn run Wal third db wal c.in_ok-survey_torn-2.ensures in
     passed c.from_residual-in_err-survey_torn-3.result _ _ _ c.from_residual-in_err-survey_torn-3.ensures.1

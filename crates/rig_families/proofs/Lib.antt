@@ -1,0 +1,3 @@
+pub mod LikeliestImages
+pub mod PiecesPut
+pub mod HeldFiles

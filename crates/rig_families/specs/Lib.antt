@@ -1,0 +1,5 @@
+pub mod Versions
+pub mod Families
+pub mod Members
+pub mod Likeliest
+pub mod internal
