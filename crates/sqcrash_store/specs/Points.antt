@@ -1,5 +1,5 @@
 -- Where a crash may come, and what is known there (own).
-use Rattle.std.specs.Prelude.{◌≡◌, ◌≢◌, ◌⊎◌, ℕ, Bool, true, false, List, codes}
+use Rattle.std.specs.Prelude.{◌≡◌, ◌≢◌, ◌⊎◌, ℕ, Bool, true, false, nat_eq, List, codes, Option, Some, None}
 use Rattle.rig_store.specs.declared.call.Action.{Action}
 use Rattle.rig_store.specs.declared.call.Action.TheVariants as actions
 use Rattle.sqcrash_store.specs.declared.plan.Plan.{Plan}
@@ -19,3 +19,8 @@ IsPromise plan line = (plan.is_promised ≡ true) × (line ≢ codes "mode")
 -- the number of the last state that is known to be durable behind a mark, where that is state number `mark`
 abbrev pub IsKnown : Plan → (line : List ℕ) → (mark old new : ℕ) → Type 0
 IsKnown plan line mark old new = (IsPromise plan line × (new ≡ mark)) ⊎ ((IsPromise plan line → ⊥) × (new ≡ old))
+
+-- a number is the one that is asked for, if one is
+abbrev pub is_asked : Option ℕ → (n : ℕ) → Bool
+is_asked None n = true
+is_asked (Some asked) n = nat_eq asked n

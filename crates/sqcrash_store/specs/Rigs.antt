@@ -1,12 +1,12 @@
 -- A trace is played, and what crashes may leave at its points is judged (own).
-use Rattle.std.specs.Prelude.{◌≡◌, ℕ, ◌+◌, Bool, true, false, nat_eq, List, [], ◌∷◌, ◌++◌, Option, Some, None}
+use Rattle.std.specs.Prelude.{◌≡◌, ℕ, ◌+◌, Bool, true, false, List, [], ◌∷◌, ◌++◌, Option}
 use Rattle.rig_store.specs.Calls.{IsTrace, bytes_of}
 use Rattle.rig_store.specs.Stores.{StoreState, store_of, no_store, Goes}
 use Rattle.rig_store.specs.declared.call.Action.{Action}
 use Rattle.rig_store.specs.declared.call.Action.TheVariants as actions
 use Rattle.rig_store.specs.declared.call.Call.{Call}
 use Rattle.rig_store.specs.declared.call.Trace.{Trace}
-use Rattle.sqcrash_store.specs.Points.{is_point, IsKnown}
+use Rattle.sqcrash_store.specs.Points.{is_point, is_asked, IsKnown}
 use Rattle.sqcrash_store.specs.States.{AreStates}
 use Rattle.sqcrash_store.specs.Surveys.{Judging, Judged, IsSurvey, with_images, lines_from}
 use Rattle.sqcrash_store.specs.Tallies.{no_tally, with_point}
@@ -37,12 +37,7 @@ NotesBy actions.Mark plan line old new =
     (known : ℕ) × IsKnown plan line (old.marks + 1) old.known known × (new ≡ record old { marks = old.marks + 1; known = known })
 NotesBy _ plan line old new = new ≡ old
 
--- a point is the one that is asked for, if one is
-abbrev pub is_asked : Option ℕ → (point : ℕ) → Bool
-is_asked None point = true
-is_asked (Some asked) point = nat_eq asked point
-
--- where the first image of the next point is
+-- the next point, and what is known there
 abbrev pub next_place : RigState → Place
 next_place rig = record { point = rig.tally.points + 1; image = 0; known = rig.known }
 

@@ -1,12 +1,13 @@
 -- The images of a point are judged, counted and told (own).
 use Rattle.std.specs.Prelude.{◌≡◌, ℕ, ◌+◌, ◌/◌, cond, not, nat_eq, List, [], ◌∷◌, ◌++◌, length, map, drop, fold, Option}
-use Rattle.std.specs.List.{All, filter}
+use Rattle.std.specs.List.{All, filter, flat_map}
 use Rattle.std.specs.String.{string_bytes}
 use Rattle.rig_store.specs.Left.{MayLeave}
 use Rattle.rig_store.specs.Stores.{StoreState}
 use Rattle.rig_store.specs.Torn.{IsTornIfAny}
 use Rattle.sqcrash_store.specs.Keys.{key_of}
 use Rattle.sqcrash_store.specs.Lines.{finding_text}
+use Rattle.sqcrash_store.specs.Points.{is_asked}
 use Rattle.sqcrash_store.specs.Tallies.{with_image}
 use Rattle.sqcrash_store.specs.Verdicts.{IsVerdict}
 use Rattle.sqcrash_store.specs.declared.lines.Place.{Place}
@@ -26,8 +27,9 @@ pub record Judging : Type 0 where
 abbrev pub judging_of : Bench → Judging
 judging_of b = record { plan = b.plan; trace = b.trace.now; states = b.states.now }
 
--- An image, what the command said of it, and what is to be said of it by that.
+-- An image, its number at its point, what the command said of it, and what is to be said of it by that.
 pub record Judged : Type 0 where
+  pub number : ℕ
   pub image : List (Option (List ℕ))
   pub answer : Answer
   pub verdict : Verdict
@@ -49,15 +51,27 @@ line_of at x = finding_text at x.verdict (string_bytes x.answer.line)
 abbrev pub place_of : Point → (image : ℕ) → Place
 place_of p image = record { point = p.number; image = image; known = p.known }
 
--- the lines of images, of which the first has this place, and each other the next one
+-- the lines of images of a point, each by its number
 abbrev pub lines_from : Place → List Judged → List ℕ
-lines_from at [] = []
-lines_from at (x ∷ judged) = line_of at x ++ lines_from (record at { image = at.image + 1 }) judged
+lines_from at judged = flat_map (λ x. line_of (record at { image = x.number }) x) judged
 
 -- of images with the same key the first alone
 abbrev pub firsts : List (List (Option (List ℕ))) → List (List (Option (List ℕ)))
 firsts [] = []
 firsts (x ∷ images) = x ∷ filter (λ y. not (nat_eq (key_of x) (key_of y))) (firsts images)
+
+-- images with their numbers, from this one on
+abbrev pub numbered : (n : ℕ) → List (List (Option (List ℕ))) → List (ℕ × List (Option (List ℕ)))
+numbered n [] = []
+numbered n (x ∷ images) = (n, x) ∷ numbered (n + 1) images
+
+-- those of a number that is asked for, if one is
+abbrev pub asked_among : (asked : Option ℕ) → List (ℕ × List (Option (List ℕ))) → List (ℕ × List (Option (List ℕ)))
+asked_among asked images = filter (λ x. is_asked asked x.0) images
+
+-- an image that is judged, with its number
+abbrev pub with_number : Judged → ℕ × List (Option (List ℕ))
+with_number x = (x.number, x.image)
 
 -- a third, and one where that leaves something
 abbrev pub third_of : ℕ → ℕ
@@ -68,11 +82,11 @@ abbrev pub drawn_count : Plan → ℕ
 drawn_count plan = plan.images + cond plan.tears (third_of plan.images) 0
 
 -- The images of a point: so many are drawn of those that a crash may leave; those that are more than asked for have a torn sector,
--- where one may tear; and of these images each is judged, once.
+-- where one may tear. Of these the images that differ have numbers, from 0 on, and each that is asked for is judged, once.
 pub record IsSurvey (Says : List (Option (List ℕ)) → Answer → Type 0) (j : Judging) (s : StoreState) (known : ℕ) (judged : List Judged) : Type 0 where
   pub drawn : List (List (Option (List ℕ)))
   pub number : length drawn ≡ drawn_count j.plan
   pub left : All (MayLeave s) drawn
   pub torn : All (IsTornIfAny s) (drop j.plan.images drawn)
-  pub once : map (λ x. x.image) judged ≡ firsts drawn
+  pub once : map with_number judged ≡ asked_among j.plan.image (numbered 0 (firsts drawn))
   pub each : All (IsJudged Says j.states known) judged

@@ -39,7 +39,7 @@ with_draws a = with_rule (with_rule a (option (codes "images") (Unsigned 1 18446
 
 abbrev pub with_points : (promises : ValueParser) → App → App
 with_points promises a =
-    with_rule (with_rule (with_rule a (flag (codes "every"))) (option (codes "promise") promises)) (option (codes "point") (Unsigned 0 18446744073709551615))
+    with_rule (with_rule (with_rule (with_rule a (flag (codes "every"))) (option (codes "promise") promises)) (option (codes "point") (Unsigned 0 18446744073709551615))) (option (codes "image") (Unsigned 0 18446744073709551615))
 
 -- the command line, with the values that options take
 abbrev pub line : (sectors metas promises : ValueParser) → App
@@ -92,6 +92,7 @@ pub record IsPlan (rows : List Row) (plan : Plan) : Type 0 where
   pub every : plan.every ≡ gives (codes "every") (codes "true") rows
   pub promised : plan.is_promised ≡ not (gives (codes "promise") (codes "none") rows)
   pub point : GivesNumber (first_of (codes "point") rows) plan.point
+  pub image : GivesNumber (first_of (codes "image") rows) plan.image
 
 -- what is asked for by what clap found
 pub record IsRequest (rows : List Row) (request : Request) : Type 0 where

@@ -197,9 +197,17 @@ fn with_points<'a>(
         "Judges point P alone, counted from 1",
         ValueParser::unsigned(0, u64::MAX),
     );
+    let image = option(
+        alloc,
+        "image",
+        "I",
+        "Judges image I of a point alone, counted from 0",
+        ValueParser::unsigned(0, u64::MAX),
+    );
     let command = with(command, every)?;
     let command = with(command, promise)?;
-    with(command, point)
+    let command = with(command, point)?;
+    with(command, image)
 }
 
 /// The program's command line, with these values of its options.
@@ -312,6 +320,7 @@ fn plan_of(matches: &ArgMatches<'_>) -> Plan
         every: gives(matches, "every", "true"),
         is_promised: !gives(matches, "promise", "none"),
         point: number(matches, "point"),
+        image: number(matches, "image"),
     }
 }
 

@@ -3,6 +3,7 @@
 
 ghost use Rattle.std.specs.Prelude.{◌≤◌, IfOk};
 
+mod asked;
 mod asking;
 mod commands;
 mod judging;

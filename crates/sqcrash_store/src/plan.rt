@@ -23,5 +23,7 @@ pub struct Plan {
     pub is_promised: bool,
     /// The point that is judged alone, counted from 1; all where there is none.
     pub point: Option<u64>,
+    /// The image of a point that is judged alone, counted from 0; all where there is none.
+    pub image: Option<u64>,
     ghost is_size: { IsTrue (is_sector_size sector) },
 }

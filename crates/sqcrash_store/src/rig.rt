@@ -1,22 +1,20 @@
 //! A trace is played, and what crashes may leave at its points is judged (own).
 ghost use Rattle.std.specs.Prelude.{◌≡◌, ◌+◌};
 ghost use Rattle.sqcrash_store.specs.Points.{is_point, IsKnown};
-ghost use Rattle.sqcrash_store.specs.Rigs.{is_asked};
 
+use crate::asked::is_asked;
 use crate::asking::Judge;
 use crate::outcome::{Refusal, more};
 use crate::plan::Plan;
 use crate::states::play;
 use crate::survey::{Bench, Point, survey};
 use crate::tally::Tally;
-use rand_pcg::Pcg32;
 use rig_store::{Action, Call, Store};
 use std::io::Write;
 
 /// A run that is being played and judged.
 #[derive(Drop)]
 pub struct Rig {
-    rng: Pcg32,
     store: Store,
     tally: Tally,
     /// How many marks were played.
@@ -48,22 +46,13 @@ fn known_by(plan: Plan, line: &[u8], mark: u64, known: u64) -> u64
     }
 }
 
-/// Whether a point is the one that is asked for, if one is.
-fn is_asked(asked: Option<u64>, point: u64) -> bool
-    ensures { result ≡ is_asked asked point }
-{
-    match asked {
-        None => true,
-        Some(number) => number == point,
-    }
-}
-
 impl Rig {
     ghost use Rattle.std.specs.Prelude.{◌≡◌, ◌+◌, ℕ, List, OnOk};
     ghost use Rattle.std.specs.Io.KnownBytes.{Appends};
     ghost use Rattle.rig_store.specs.Calls.{bytes_of};
     ghost use Rattle.sqcrash_store.specs.Surveys.{judging_of};
-    ghost use Rattle.sqcrash_store.specs.Rigs.{rig_of, no_rig, NotesBy, JudgesAsked, PlaysOne, is_asked};
+    ghost use Rattle.sqcrash_store.specs.Points.{is_asked};
+    ghost use Rattle.sqcrash_store.specs.Rigs.{rig_of, no_rig, NotesBy, JudgesAsked, PlaysOne};
 
     /// Nothing is played yet.
     pub fn new(bench: &Bench<'_>) -> Rig
@@ -71,7 +60,6 @@ impl Rig {
     {
         let plan = bench.plan;
         Rig {
-            rng: Pcg32::new(plan.seed, 1),
             store: Store::new(bench.alloc, plan.sector, plan.tears, plan.meta),
             tally: Tally::none(),
             marks: 0,
@@ -124,7 +112,7 @@ impl Rig {
             number: tally.points,
             known: self.known,
         };
-        self.tally = survey(judge, bench, &mut self.rng, &point, tally, out)?;
+        self.tally = survey(judge, bench, &point, tally, out)?;
         Ok(())
     }
 

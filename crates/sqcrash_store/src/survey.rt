@@ -1,6 +1,8 @@
 //! The images of a point are judged, counted and told (own).
 ghost use Rattle.std.specs.Prelude.{◌≡◌, ◌≤◌, ℕ, List, IfOk};
 ghost use Rattle.std.specs.Io.KnownBytes.{Appends};
+ghost use Rattle.rand_pcg.specs.Lcg.{increment_of, started};
+ghost use Rattle.rand_pcg.specs.Pcg.{multiplier_64};
 ghost use Rattle.rig_store.specs.Left.{image_of, MayLeave};
 ghost use Rattle.rig_store.specs.Stores.{store_of};
 ghost use Rattle.rig_store.specs.Torn.{IsTornIfAny};
@@ -9,6 +11,7 @@ ghost use Rattle.sqcrash_store.specs.Tallies.{with_image};
 ghost use Rattle.sqcrash_store.specs.Surveys.{Judged, IsJudged, IsSurvey, judging_of};
 ghost use Rattle.sqcrash_store.specs.Surveys.{with_images, line_of, lines_from, place_of, third_of, drawn_count};
 
+use crate::asked::is_asked;
 use crate::asking::Judge;
 use crate::lines::{Place, write_finding};
 use crate::outcome::{Refusal, more};
@@ -16,6 +19,7 @@ use crate::plan::Plan;
 use crate::tally::Tally;
 use crate::verdict::{Answer, verdict_of};
 use rand_core::Rng;
+use rand_pcg::Pcg32;
 use rig_store::{Image, Store, draw, draw_torn};
 use std::alloc::Global;
 use std::collections::HashSet;
@@ -89,7 +93,7 @@ fn judge_one<J: Judge, O: Write>(
     before: Tally,
     out: &mut O,
 ) -> Result<Tally, Refusal>
-    ensures { IfOk result (λ tally. (x : Judged) × (x.image ≡ image_of image.now)
+    ensures { IfOk result (λ tally. (x : Judged) × (x.image ≡ image_of image.now) × (x.number ≡ at.image)
         × IsJudged J.says bench.now.states.now at.known x × (tally ≡ with_image before x.verdict)
         × Appends (O.contents out.old) (O.contents out.new) (line_of at x)) }
 {
@@ -137,11 +141,17 @@ fn draw_one<R: Rng>(
     Ok(draw_torn(bench.alloc, rng, store)?)
 }
 
+/// The draws of a point, which begin with the seed and the point's number, and so are the same whatever else is judged.
+fn draws_of(plan: Plan, point: u64) -> Pcg32
+    ensures { result ≡ started 64 multiplier_64 plan.seed (increment_of 64 point) }
+{
+    Pcg32::new(plan.seed, point)
+}
+
 /// Judges images that are drawn of those that a crash may leave at a point, each once.
-pub fn survey<R: Rng, J: Judge, O: Write>(
+pub fn survey<J: Judge, O: Write>(
     judge: &mut J,
     bench: &Bench<'_>,
-    rng: &mut R,
     point: &Point<'_>,
     before: Tally,
     out: &mut O,
@@ -151,17 +161,22 @@ pub fn survey<R: Rng, J: Judge, O: Write>(
         × (tally ≡ with_images before judged)
         × Appends (O.contents out.old) (O.contents out.new) (lines_from (place_of point.now 0) judged)) }
 {
+    let mut rng = draws_of(bench.plan, point.number);
     let mut keys = HashSet::new(bench.alloc);
     let mut tally = before;
-    let mut number = 0;
+    let mut next = 0;
     let count = drawn_count(bench.plan)?;
     for n in 0..count {
-        let image = draw_one(bench, rng, point.store, n)?;
+        let image = draw_one(bench, &mut rng, point.store, n)?;
         if !keys.insert(key_of(&image))? {
             continue;
         }
+        let number = next;
+        next = more(number)?;
+        if !is_asked(bench.plan.image, number) {
+            continue;
+        }
         tally = judge_one(judge, bench, &image, point.place(number), tally, out)?;
-        number = more(number)?;
     }
     Ok(tally)
 }

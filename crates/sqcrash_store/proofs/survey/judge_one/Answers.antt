@@ -10,8 +10,9 @@ returns g c =
     let said = c.verdict_of-said.result in
     let old = g.O.Write.contents c.args.out.now in
     let new = g.O.Write.contents c.write_finding.new.out in
-    let x : Judged = record { image = image_of c.args.image.now; answer = c.in_ok-answer.answer; verdict = said } in (
+    let x : Judged = record { number = c.args.at.image; image = image_of c.args.image.now; answer = c.in_ok-answer.answer; verdict = said } in (
       x,
+      refl,
       refl,
       record { says = c.in_ok-answer.ensures; verdict = c.verdict_of-said.ensures },
       c.in_ok-tally.ensures,

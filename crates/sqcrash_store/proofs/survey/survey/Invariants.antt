@@ -1,4 +1,4 @@
-use Rattle.std.proofs.Common.{◌≡◌, nat_eq, List, length}
+use Rattle.std.proofs.Common.{◌≡◌, nat_eq, List}
 use Rattle.std.specs.HashSet.{contains}
 use Rattle.std.specs.Io.KnownBytes.{Appends}
 use Rattle.rig_store.specs.Stores.{store_of}
@@ -8,7 +8,6 @@ use Rattle.sqcrash_store.proofs.survey.survey.Given as goal
 
 abbrev pub invariant-loop-n : goal.invariant-loop-n
 invariant-loop-n g l = (judged : List Judged)
-    × IsSurveyed g.J.Judge.says (judging_of l.bench) (store_of l.point.store.now) l.point.known l.n (λ q. contains nat_eq l.keys q) judged
-    × (l.number ≡ length judged)
+    × IsSurveyed g.J.Judge.says (judging_of l.bench) (store_of l.point.store.now) l.point.known l.n l.next (λ q. contains nat_eq l.keys q) judged
     × (l.tally ≡ with_images l.fn.before judged)
     × Appends (g.O.Write.contents l.initial.out) (g.O.Write.contents l.out) (lines_from (place_of l.point 0) judged)

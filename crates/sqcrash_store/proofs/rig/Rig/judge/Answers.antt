@@ -1,6 +1,7 @@
 use Rattle.std.proofs.Common.{◌≡◌, ℕ, Bool, List, [], refl, ◌∙◌, ap, subst}
 use Rattle.std.specs.Io.KnownBytes.{Appends}
-use Rattle.sqcrash_store.specs.Rigs.{rig_of, is_asked, next_place, JudgesAsked}
+use Rattle.sqcrash_store.specs.Points.{is_asked}
+use Rattle.sqcrash_store.specs.Rigs.{rig_of, next_place, JudgesAsked}
 use Rattle.sqcrash_store.specs.Surveys.{judging_of, lines_from, with_images}
 use Rattle.sqcrash_store.specs.declared.lines.Place.{Place}
 use Rattle.sqcrash_store.specs.declared.tally.Tally.{Tally}
