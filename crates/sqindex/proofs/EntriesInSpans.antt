@@ -26,7 +26,7 @@ use Rattle.sqindex.specs.Rules.{width, HasEntries}
 use Rattle.sqindex.specs.Indexes.{EntryRefused, ReadRefused, NoEntries, IndexRefused}
 use Rattle.sqindex.specs.internal.Held.{payload_in, held_in, held_by, entry_in, nothing, plain}
 use Rattle.sqindex.specs.internal.Judging.{IsNumbered, TwiceRefused}
-use Rattle.sqindex.specs.internal.Parts.{IsNoEntry, PartRefused, GatherRefused}
+use Rattle.sqindex.specs.internal.Parts.{IsNoEntry, PartRefused, CutRefused}
 use Rattle.sqindex.specs.internal.Reading.{stored_of, AreTaken}
 use Rattle.sqindex.specs.internal.Spans.{number_in, up_to, passed, in_span, entries_in, IsNumberOf, KeepsTo, AreOfSpan, GoesOn}
 use Rattle.sqindex.specs.internal.Streaming.{StandsAmong}
@@ -238,7 +238,7 @@ module _ (d : Database) (index : ℕ) (key : IndexKey) (limit : ℕ) (cells : Ce
   abbrev pub x : Stored
   x = stored_of found bytes
 
-  no_entry : (e : IndexError) → AreTaken d index cells (seen ++ x ∷ []) → IsNoEntry key found bytes e → PartRefused d index key limit e
+  pub no_entry : (e : IndexError) → AreTaken d index cells (seen ++ x ∷ []) → IsNoEntry key found bytes e → PartRefused d index key limit e
   no_entry (errors.Table e) w h = absurd h
   no_entry errors.TooLarge w h = absurd h
   no_entry (errors.Index (reads.Tree e)) w h = absurd h
@@ -259,9 +259,8 @@ module _ (d : Database) (index : ℕ) (key : IndexKey) (limit : ℕ) (cells : Ce
       let f = taken_first d index cells (seen ++ x ∷ []) xs w has.stored in
       twice_among key xs seen (x ∷ f.1) span entries e (f.3 ∙ append_assoc seen (x ∷ []) f.1) are h
 
-  pub gathered_not : (part : Part) (e : IndexError) → AreTaken d index cells (seen ++ x ∷ []) → AreOfSpan key part.span part.entries seen → GatherRefused key part found bytes e → PartRefused d index key limit e
-  gathered_not part e w are (inl h) = no_entry e w h
-  gathered_not part e w are (inr h) = not_cut part.span part.entries e w are (h key (each_numbered key part.span part.entries seen are))
+  pub gathered_not : (part : Part) (e : IndexError) → AreTaken d index cells (seen ++ x ∷ []) → AreOfSpan key part.span part.entries seen → CutRefused part e → PartRefused d index key limit e
+  gathered_not part e w are h = not_cut part.span part.entries e w are (h key (each_numbered key part.span part.entries seen are))
 
 -- The same of two entries of a whole range.
 pub twice_of_all : (d : Database) (table index : ℕ) (key : IndexKey) (limit : ℕ) (xs : List Stored) (part : Part) (e : IndexError) → HasEntries d index xs → AreOfSpan key part.span part.entries xs

@@ -1,7 +1,9 @@
 pub mod Places
 pub mod FieldsLeft
+pub mod PayloadsWhole
 pub mod CellsTaken
 pub mod RowidsOfEntries
+pub mod BodiesOfEntries
 pub mod EntriesHeld
 pub mod EntriesRead
 pub mod EntriesJudged
@@ -13,7 +15,9 @@ pub mod RowsInSpans
 pub mod EntriesInSpans
 pub mod IndexesJudged
 pub mod EntriesStreamed
+pub mod RowsGiven
 pub mod RangesMatched
+pub mod RowsInStep
 pub mod RowsScanned
 pub mod KeyedScanned
 pub mod RowsOfKind

@@ -1,10 +1,8 @@
 -- The rows of a table beside the entries of a range of rowids, and one range after another.
-use Rattle.std.proofs.Common.{◌≡◌, ◌≤◌, ◌+◌, ◌∙◌, Bool, true, false, not, ◌&&◌, ℕ, zero, suc, ℤ, ◌<ℤ◌, int_le, List, [], ◌∷◌, ◌++◌, length, slice_get, Option, Some, None, refl, sym, ap, subst, arith, append-nil, append_assoc, IsPermutation}
+use Rattle.std.proofs.Common.{◌≡◌, ◌≤◌, ◌∙◌, Bool, true, false, not, ◌&&◌, ℕ, ℤ, List, [], ◌∷◌, ◌++◌, length, slice_get, Option, Some, None, refl, sym, ap, subst, append-nil, IsPermutation, inl, inr}
 use Rattle.std.specs.List.{filter}
-use Rattle.std.specs.Prelude.{Result, Ok, Err, OnOk, IfErr, MatchOption}
+use Rattle.std.specs.Prelude.{Result, Ok, Err, IfOk, IfErr, IsOk}
 use Rattle.std.proofs.lemmas.List.Elements.{filter-append}
-use Rattle.std.proofs.lemmas.Int.{ints}
-use Rattle.sqrows.specs.declared.cells.Cells.{Cells}
 use Rattle.sqval.specs.Database.{Database}
 use Rattle.sqkeys.specs.declared.key.IndexKey.{IndexKey}
 use Rattle.sqindex.specs.declared.entries.Entries.{Entries}
@@ -12,6 +10,7 @@ use Rattle.sqindex.specs.declared.error.IndexError.{IndexError}
 use Rattle.sqindex.specs.declared.error.IndexError.TheVariants as errors
 use Rattle.sqindex.specs.declared.join.Join.{Join}
 use Rattle.sqindex.specs.declared.part.Part.{Part}
+use Rattle.sqindex.specs.declared.rows.Rows.{Rows}
 use Rattle.sqindex.specs.declared.span.Span.{Span}
 use Rattle.sqindex.specs.Stored.{Stored}
 use Rattle.sqindex.specs.Keys.{rowid_of}
@@ -19,18 +18,16 @@ use Rattle.sqindex.specs.Rules.{Rise, HasKeyedRows, HasEntries, Match, IsIndexOf
 use Rattle.sqindex.specs.Indexes.{IndexRefused}
 use Rattle.sqindex.specs.internal.Held.{held_by}
 use Rattle.sqindex.specs.internal.Judging.{AreByRowid, AreSoundEntries}
-use Rattle.sqindex.specs.internal.Joining.{JoinedAs, IsJoined, Sees, EndTells}
-use Rattle.sqindex.specs.internal.Matching.{SeesIn, HasRowsInOrder, IsMatchedIn, MatchRefusedIn, MatchesNext, AreMatchedTo, IsMatched}
+use Rattle.sqindex.specs.internal.Joining.{JoinedAs, IsJoined, Sees, BothRefused}
+use Rattle.sqindex.specs.internal.Matching.{SeesIn, HasRowsInOrder, IsMatchedTo, CloseRefused, MatchRefusedIn, MatchesNext, AreMatchedTo, IsMatched}
+use Rattle.sqindex.specs.internal.RowsGiven.{IsCursor, AreUpTo, IsReadTo}
 use Rattle.sqindex.specs.internal.Parts.{PartRefused}
-use Rattle.sqindex.specs.internal.Reading.{AreTaken}
-use Rattle.sqindex.specs.internal.Spans.{passed, in_span, rows_in, entries_in, AreOfSpan, IsOpen}
+use Rattle.sqindex.specs.internal.Spans.{up_to, passed, in_span, rows_in, entries_in, AreOfSpan, IsOpen}
 use Rattle.sqindex.specs.internal.Streaming.{StandsAmong, StreamRefused}
-use Rattle.sqindex.proofs.CellsTaken.{has_once, taken_first}
 use Rattle.sqindex.proofs.IndexesJudged.{stands, both}
 use Rattle.sqindex.proofs.ListsKept.{at_true, at_false, none_kept}
-use Rattle.sqindex.proofs.Places.{some_once, get_here, get_right}
-use Rattle.sqindex.proofs.RowsInSpans.{rise_filter, rows_up, entries_up, matched_more, matched_all, matched_next, fault_of_all}
-use Rattle.sqindex.proofs.RowsJoined.{far, matched, ends}
+use Rattle.sqindex.proofs.RowsInSpans.{rise_filter, rows_up, entries_up, nothing_matched, matched_more, matched_all, matched_next, fault_of_all}
+use Rattle.sqindex.proofs.RowsJoined.{matched, ends}
 
 and_false : (b : Bool) → b && false ≡ false
 and_false true = refl
@@ -53,50 +50,40 @@ module _ (key : IndexKey) (part : Part) where
       filter-append p rows (row ∷ []) ∙ ap (λ (l : List Stored). filter p rows ++ l) (at_false (p row) (row ∷ []) [] out) ∙ append-nil (filter p rows) in
       subst (λ (l : List Stored). IsJoined key part.entries l old) (sym same) j
 
-  -- what is told behind the last row
-  pub ended_ok : AreByRowid key part.entries → (d : Database) (table : ℕ) (rows : List Stored) (join : Join) (result : Result (Unit {0}) IndexError) → HasKeyedRows d table rows
-      → IsJoined key part.entries (rows_in part.span rows) join → EndTells part.entries join result → OnOk result (IsMatchedIn d table key part)
-  ended_ok w d table rows join (Ok x) has j h =
-      let m = matched key part.entries w (rows_in part.span rows) join.at (subst (JoinedAs key part.entries (rows_in part.span rows) join.at) h.0 j) h.1 in
-      (λ none. (rows, has), λ other keyed. subst (λ (l : List Stored). Match key (rows_in part.span l) (held_by part.entries)) (has_once d table other rows keyed.stored has.stored) m)
-  ended_ok w d table rows join (Err e) has j h = tt
+  -- where all others are behind the range these are all that are in it
+  pub rows_given : (d : Database) (table : ℕ) (given : List Stored) → AreUpTo d table part.span.last given → (all : List Stored) → HasKeyedRows d table all → rows_in part.span all ≡ rows_in part.span given
+  rows_given d table given w all has =
+      let p : Stored → Bool = λ row. in_span part.span.above part.span.last (rowid_of row) in
+      let o = w.others all has in
+      let out : (i : ℕ) (y : Stored) → slice_get o.0 i ≡ Some y → p y ≡ false = λ i y at.
+      ap (λ (c : Bool). not (passed part.span.above (rowid_of y)) && c) (o.2 i y at) ∙ and_false (not (passed part.span.above (rowid_of y))) in
+      ap (filter p) o.1 ∙ filter-append p given o.0 ∙ ap (λ (l : List Stored). filter p given ++ l) (none_kept p o.0 out) ∙ append-nil (filter p given)
 
-  -- a row behind the range, where each of its entries has its row
-  pub ended_before : AreByRowid key part.entries → (d : Database) (table : ℕ) (cells : Cells) (seen : List Stored) (x : Stored) (join : Join) (b : ℤ) → AreTaken d table cells (seen ++ x ∷ [])
-      → IsJoined key part.entries (rows_in part.span seen) join → join.fault ≡ None → length part.entries.list.items ≤ join.at → part.span.last ≡ Some b → b <ℤ rowid_of x → IsMatchedIn d table key part
-  ended_before w d table cells seen x join b taken j sound all last behind = (
-    λ none. absurd (let is : Some b ≡ None = sym last ∙ none in cc),
-    λ rows keyed.
-        let f = taken_first d table cells (seen ++ x ∷ []) rows taken keyed.stored in
-        let p : Stored → Bool = λ row. in_span part.span.above part.span.last (rowid_of row) in
-        let whole : rows ≡ seen ++ (x ∷ f.1) = f.3 ∙ append_assoc seen (x ∷ []) f.1 in
-        let first = subst (λ (l : List Stored). slice_get l (length seen) ≡ Some x) (sym whole) (get_here seen x f.1) in
-        let out : (i : ℕ) (y : Stored) → slice_get (x ∷ f.1) i ≡ Some y → p y ≡ false = λ i y at. beyond y (go rows f.1 keyed.rise whole first i y at) in
-        let same : rows_in part.span rows ≡ rows_in part.span seen =
-        ap (filter p) whole ∙ filter-append p seen (x ∷ f.1) ∙ ap (λ (l : List Stored). filter p seen ++ l) (none_kept p (x ∷ f.1) out) ∙ append-nil (filter p seen) in
-        subst (λ (l : List Stored). Match key l (held_by part.entries)) (sym same)
-        (matched key part.entries w (rows_in part.span seen) join.at (subst (JoinedAs key part.entries (rows_in part.span seen) join.at) sound j) all),
-  )
-    where
-      beyond : (y : Stored) → b <ℤ rowid_of y → in_span part.span.above part.span.last (rowid_of y) ≡ false
-      beyond y above =
-          let far' : int_le (rowid_of y) b ≡ false = grind (arith, ints) in
-          ap (λ (o : Option ℤ). in_span part.span.above o (rowid_of y)) last ∙ ap (λ (c : Bool). not (passed part.span.above (rowid_of y)) && c) far' ∙ and_false (not (passed part.span.above (rowid_of y)))
+  pub matched_to : AreByRowid key part.entries → (d : Database) (table : ℕ) (rows : Rows) (given : List Stored) (join : Join) → IsCursor d table rows given → AreUpTo d table part.span.last given
+      → IsJoined key part.entries (rows_in part.span given) join → join.fault ≡ None → length part.entries.list.items ≤ join.at
+      → ((i : ℕ) (row : Stored) → slice_get given i ≡ Some row → up_to part.span.last (rowid_of row) ≡ true) → IsMatchedTo d table key part rows
+  matched_to w d table rows given join cursor ends j sound all up =
+      let m = matched key part.entries w (rows_in part.span given) join.at (subst (JoinedAs key part.entries (rows_in part.span given) join.at) sound j) all in (
+        (
+          λ none. (given, ends.whole none),
+          λ other keyed. subst (λ (l : List Stored). Match key l (held_by part.entries)) (sym (rows_given d table given ends other keyed)) m,
+        ),
+        λ b is. (given, cursor, λ i row at. subst (λ (o : Option ℤ). up_to o (rowid_of row) ≡ true) is (up i row at)),
+      )
 
-      go : (rows more : List Stored) → Rise rows → rows ≡ seen ++ (x ∷ more) → slice_get rows (length seen) ≡ Some x → (i : ℕ) (y : Stored) → slice_get (x ∷ more) i ≡ Some y → b <ℤ rowid_of y
-      go rows more rise whole first zero y at = subst (λ (z : Stored). b <ℤ rowid_of z) (some_once x y at) behind
-      go rows more rise whole first (suc i) y at =
-          let there = subst (λ (l : List Stored). slice_get l (length seen + suc i) ≡ Some y) (sym whole) (get_right seen (x ∷ more) (suc i) y at) in
-          let up = far rowid_of rows rise (length seen + suc i) (length seen) x y (omega arith) first there in
-          omega (arith, ints, behind, up)
-
-  pub ended_err : AreByRowid key part.entries → (d : Database) (table : ℕ) (rows : List Stored) (join : Join) (result : Result (Unit {0}) IndexError) → HasKeyedRows d table rows
-      → IsJoined key part.entries (rows_in part.span rows) join → EndTells part.entries join result → IfErr result (MatchRefusedIn d table key part)
-  ended_err w d table rows join (Ok x) has j h = tt
-  ended_err w d table rows join (Err (errors.Table e)) has j h = absurd h
-  ended_err w d table rows join (Err (errors.Index e)) has j h = absurd h
-  ended_err w d table rows join (Err errors.TooLarge) has j h = absurd h
-  ended_err w d table rows join (Err (errors.Entry e)) has j h = (rows, has, ends key part.entries w (rows_in part.span rows) join.at join.fault e j h)
+  pub not_closed : AreByRowid key part.entries → (d : Database) (table : ℕ) (given : List Stored) (join : Join) (e : IndexError) → AreUpTo d table part.span.last given
+      → IsJoined key part.entries (rows_in part.span given) join → CloseRefused d table part.entries join e → MatchRefusedIn d table key part e
+  not_closed w d table given join e ends' j (inl h) = subst (MatchRefusedIn d table key part) (sym h.1) h.2
+  not_closed w d table given join (errors.Table e) ends' j (inr h) = absurd h.0
+  not_closed w d table given join (errors.Index e) ends' j (inr h) = absurd h.0
+  not_closed w d table given join errors.TooLarge ends' j (inr h) = absurd h.0
+  not_closed w d table given join (errors.Entry e) ends' j (inr h) =
+      let all = h.1 in (
+        all.0,
+        all.1,
+        subst (λ (l : List Stored). BothRefused key (held_by part.entries) l e.fault e.page e.cell) (sym (rows_given d table given ends' all.0 all.1))
+            (ends key part.entries w (rows_in part.span given) join.at join.fault e j h.0),
+      )
 
 module _ (d : Database) (table index : ℕ) (key : IndexKey) (limit : ℕ) (xs : List Stored) (has : HasEntries d index xs) where
   -- why a range isn't matched is why the index isn't
@@ -113,38 +100,46 @@ module _ (d : Database) (table index : ℕ) (key : IndexKey) (limit : ℕ) (xs :
   part_refused (errors.Entry e) h = let s = h xs has in stands d table index key limit xs s.0 s.1 e.fault e.page e.cell has s.2 s.3 s.4 s.5
   part_refused errors.TooLarge h = absurd h
 
+  -- nothing was matched before the first range
+  pub begun : (above : Option ℤ) (new : Result Rows IndexError) → above ≡ None → IfOk new (λ rows. IsCursor d table rows []) → IfErr new (IndexRefused d table index key limit) → AreMatchedTo d table index key limit above xs new
+  begun above (Ok cursor) none is refused = (([], is, λ i row at. absurd (cc)), λ rows keyed. nothing_matched key above rows xs none)
+  begun above (Err e) none is refused = refused
+
   -- the entries and the rows up to the last one of a range
-  abbrev pub AreMatchedUp : Option ℤ → Option IndexError → Type 0
-  AreMatchedUp last None = (last ≡ None → HasRowsInOrder d table) × ((rows : List Stored) → HasKeyedRows d table rows → Match key (rows_up last rows) (entries_up key last xs))
-  AreMatchedUp last (Some e) = IndexRefused d table index key limit e
+  abbrev pub AreMatchedUp : Option ℤ → Result Rows IndexError → Type 0
+  AreMatchedUp last (Ok cursor) = ((b : ℤ) → last ≡ Some b → IsReadTo d table (Some b) cursor) × (last ≡ None → HasRowsInOrder d table)
+      × ((rows : List Stored) → HasKeyedRows d table rows → Match key (rows_up last rows) (entries_up key last xs))
+  AreMatchedUp last (Err e) = IndexRefused d table index key limit e
 
   -- one range more
-  pub matched_up : AreSoundEntries key xs → (part : Part) (fault result : Option IndexError) → IsOpen part.span → IsPermutation (held_by part.entries) (entries_in key part.span xs)
-      → AreMatchedTo d table index key limit part.span.above xs fault → MatchesNext d table key part fault result → AreMatchedUp part.span.last result
-  matched_up sound part None None upward same to next =
-      (next.0, λ rows keyed. matched_more key part.span rows xs (held_by part.entries) upward keyed.rise (to rows keyed) (next.1 rows keyed) same)
-  matched_up sound part None (Some e) upward same to next = refused_in sound part e same next
-  matched_up sound part (Some f) result upward same to next = subst (AreMatchedUp part.span.last) (sym next) to
+  pub matched_up : AreSoundEntries key xs → (part : Part) (old new : Result Rows IndexError) → IsOpen part.span → IsPermutation (held_by part.entries) (entries_in key part.span xs)
+      → AreMatchedTo d table index key limit part.span.above xs old → MatchesNext d table key part old new → AreMatchedUp part.span.last new
+  matched_up sound part (Ok cursor) (Ok new) upward same to next =
+      let m = next to.0 in
+      (m.1, m.0.0, λ rows keyed. matched_more key part.span rows xs (held_by part.entries) upward keyed.rise (to.1 rows keyed) (m.0.1 rows keyed) same)
+  matched_up sound part (Ok cursor) (Err e) upward same to next = refused_in sound part e same (next to.0)
+  matched_up sound part (Err f) new upward same to next = subst (AreMatchedUp part.span.last) (sym next) to
 
   -- the same of a range that was sorted
-  pub span_matched : AreSoundEntries key xs → (part : Part) (entries : Entries) (fault result : Option IndexError) → AreOfSpan key part.span part.entries xs → IsOpen part.span
-      → IsPermutation (held_by entries) (held_by part.entries) → AreMatchedTo d table index key limit part.span.above xs fault
-      → MatchesNext d table key (record { entries = entries; span = part.span }) fault result → AreMatchedUp part.span.last result
-  span_matched sound part entries fault result are upward sorted to next =
-      matched_up sound (record { entries = entries; span = part.span }) fault result upward (subst (IsPermutation (held_by entries)) are.are sorted) to next
+  pub span_matched : AreSoundEntries key xs → (part : Part) (entries : Entries) (old new : Result Rows IndexError) → AreOfSpan key part.span part.entries xs → IsOpen part.span
+      → IsPermutation (held_by entries) (held_by part.entries) → AreMatchedTo d table index key limit part.span.above xs old
+      → MatchesNext d table key (record { entries = entries; span = part.span }) old new → AreMatchedUp part.span.last new
+  span_matched sound part entries old new are upward sorted to next =
+      matched_up sound (record { entries = entries; span = part.span }) old new upward (subst (IsPermutation (held_by entries)) are.are sorted) to next
 
-  pub next_matched : (last above : Option ℤ) (b : ℤ) (fault : Option IndexError) → last ≡ Some b → above ≡ Some b → AreMatchedUp last fault → AreMatchedTo d table index key limit above xs fault
-  next_matched last above b None is same h = λ rows keyed. matched_next key last above b rows xs is same (h.1 rows keyed)
-  next_matched last above b (Some e) is same h = h
+  pub next_matched : (last above : Option ℤ) (b : ℤ) (new : Result Rows IndexError) → last ≡ Some b → above ≡ Some b → AreMatchedUp last new → AreMatchedTo d table index key limit above xs new
+  next_matched last above b (Ok cursor) is same h =
+      (subst (λ (a : Option ℤ). IsReadTo d table a cursor) (sym same) (h.0 b is), λ rows keyed. matched_next key last above b rows xs is same (h.2 rows keyed))
+  next_matched last above b (Err e) is same h = h
 
-  pub all_matched : (last : Option ℤ) (fault : Option IndexError) → last ≡ None → fault ≡ None → AreMatchedUp last fault → IsMatched d table key xs
-  all_matched last fault none sound h =
-      let m = subst (AreMatchedUp last) sound h in
-      let r = m.0 none in
-      (r.0, r.1, matched_all key last r.0 xs none (m.1 r.0 r.1))
+  pub all_matched : (last : Option ℤ) (new : Result Rows IndexError) → last ≡ None → IsOk new → AreMatchedUp last new → IsMatched d table key xs
+  all_matched last (Ok cursor) none sound h =
+      let r = h.1 none in
+      (r.0, r.1, matched_all key last r.0 xs none (h.2 r.0 r.1))
+  all_matched last (Err e) none sound h = absurd (cc)
 
-  pub end_refused : (last : Option ℤ) (fault : Option IndexError) (e : IndexError) → fault ≡ Some e → AreMatchedUp last fault → IndexRefused d table index key limit e
-  end_refused last fault e is h = subst (AreMatchedUp last) is h
+  pub end_refused : (last : Option ℤ) (new : Result Rows IndexError) (e : IndexError) → new ≡ Err e → AreMatchedUp last new → IndexRefused d table index key limit e
+  end_refused last new e is h = subst (AreMatchedUp last) is h
 
   pub index_of : AreSoundEntries key xs → (n : ℕ) → length xs ≡ n → IsMatched d table key xs → IsIndexOf d table index key n
   index_of sound n many m = record {

@@ -1,22 +1,23 @@
 //! The rows of a table beside the entries of its index (fileformat2, 2.4).
-ghost use Rattle.std.specs.Prelude.{List, IfOk, IfErr, OnOk, IsTrue, unwrap_or, pos};
+ghost use Rattle.std.specs.Prelude.{◌≡◌, ◌≤◌, ℕ, List, None, IfOk, IfErr, length};
 ghost use Rattle.sqpage.specs.Source.{KeepsPages};
 ghost use Rattle.sqindex.specs.Stored.{Stored};
 ghost use Rattle.sqindex.specs.internal.Reading.{stored_of};
 ghost use Rattle.sqindex.specs.internal.Judging.{AreByRowid};
 ghost use Rattle.sqindex.specs.internal.Joining.{JudgesRow, Sees, EndTells, IsAbove, NotAbove};
-ghost use Rattle.sqindex.specs.internal.Matching.{SeesIn, IsPast, IsMatchedIn, MatchRefusedIn};
+ghost use Rattle.sqindex.specs.internal.Matching.{SeesIn, CloseRefused, IsMatchedTo, MatchRefusedIn};
+ghost use Rattle.sqindex.specs.internal.RowsGiven.{IsCursor, IsReadTo};
+ghost use Rattle.sqindex.specs.internal.Spans.{IsOpen};
 
 use crate::compare::compare_entry;
 use crate::entries::Entries;
 use crate::error::{EntryError, IndexError, ReadError};
 use crate::fault::IndexFault;
 use crate::part::Part;
-use crate::walk::{Found, Walk};
+use crate::rows::Rows;
+use crate::walk::Found;
 use sqkeys::IndexKey;
 use sqpage::PageSource;
-use sqval::MOST_BYTES;
-use std::alloc::Global;
 use std::cmp::Ordering;
 
 /// How many entries by rowid were found to be those of rows, and the first fault.
@@ -87,22 +88,6 @@ fn see_in(key: &IndexKey, part: &Part, join: Join, found: Found, row: &[u8]) -> 
     see(key, &part.entries, join, found, row)
 }
 
-/// Whether a row is behind the range, and each entry of that was found to be a row's.
-fn is_past(part: &Part, join: Join, found: Found) -> bool
-    ensures { IsTrue result → IsPast part.now join (unwrap_or found.rowid (pos 0)) }
-{
-    if join.fault.is_some() {
-        return false;
-    }
-    if join.at < part.entries.len() {
-        return false;
-    }
-    match part.span.last {
-        Some(last) => last < found.rowid.unwrap_or(0),
-        None => false,
-    }
-}
-
 /// What is told behind the last row: the first fault, or that an entry is left.
 fn end(entries: &Entries, join: Join) -> Result<(), IndexError>
     ensures { EndTells entries.now join result }
@@ -131,42 +116,58 @@ pub(crate) fn above(last: Option<i64>, rowid: Option<i64>) -> Result<Option<i64>
     }
 }
 
-/// Judges that the entries by rowid are those of the rows of the table in their range, of each row one. Refused by
-/// EntryOfNoRow and RowWithoutEntry, and where the rows can't be read or their rowids don't rise. Behind the range they
-/// are read only where a fault was found.
-pub(crate) fn match_rows<S: PageSource>(
-    alloc: Global,
+/// Ends a range behind its last row, where the other rows are behind it. Where a fault was found they are read.
+fn close<S: PageSource>(
     source: &mut S,
-    table: u32,
+    part: &Part,
+    join: Join,
+    mut rows: Rows,
+) -> Result<Rows, IndexError>
+    requires sized { S.size source.old ≡ rows.walk.cells.size }
+    ensures ok { IfOk result (λ new. (new ≡ rows) × (join.fault ≡ None)
+        × (length part.now.entries.list.items ≤ join.at)) }
+    ensures err { S.gives_pages source.old → (table : ℕ) (given : List Stored)
+        → IsCursor (S.pages source.old) table rows given
+        → IfErr result (CloseRefused (S.pages source.old) table part.now.entries join) }
+    ensures keeps { KeepsPages S.pages S.size S.reads_right S.gives_pages source.old source.new }
+{
+    let fault = match end(&part.entries, join) {
+        Ok(()) => return Ok(rows),
+        Err(fault) => fault,
+    };
+    match rows.finish(source) {
+        Ok(()) => Err(fault),
+        Err(refusal) => Err(IndexError::Table(refusal)),
+    }
+}
+
+/// Judges that the entries by rowid are those of the rows of the table in their range, of each row one, where the rows
+/// before it were given. Refused by EntryOfNoRow and RowWithoutEntry, and where the rows can't be read or their rowids
+/// don't rise. Behind the range they are read only where a fault was found.
+pub(crate) fn match_rows<S: PageSource>(
+    source: &mut S,
     key: &IndexKey,
     part: &Part,
-) -> Result<(), IndexError>
-    ensures ok { S.gives_pages source.old → AreByRowid key.now part.now.entries
-        → OnOk result (IsMatchedIn (S.pages source.old) table key.now part.now) }
-    ensures err { S.gives_pages source.old → AreByRowid key.now part.now.entries
+    mut rows: Rows,
+) -> Result<Rows, IndexError>
+    requires sized { S.size source.old ≡ rows.walk.cells.size }
+    ensures ok { S.gives_pages source.old → (table : ℕ) → AreByRowid key.now part.now.entries → IsOpen part.now.span
+        → IsReadTo (S.pages source.old) table part.now.span.above rows
+        → IfOk result (IsMatchedTo (S.pages source.old) table key.now part.now) }
+    ensures err { S.gives_pages source.old → (table : ℕ) → AreByRowid key.now part.now.entries → IsOpen part.now.span
+        → IsReadTo (S.pages source.old) table part.now.span.above rows
         → IfErr result (MatchRefusedIn (S.pages source.old) table key.now part.now) }
+    ensures size { IfOk result (λ new. new.walk.cells.size ≡ rows.walk.cells.size) }
     ensures keeps { KeepsPages S.pages S.size S.reads_right S.gives_pages source.old source.new }
 {
     let mut join = Join { at: 0, fault: None };
-    let mut last = None;
-    let mut walk = match Walk::new(alloc, source, table, MOST_BYTES as u64) {
-        Ok(walk) => walk,
-        Err(refusal) => return Err(IndexError::Table(ReadError::Tree(refusal))),
-    };
     'turns: for _ in 0..u64::MAX {
-        let found = match walk.advance(source) {
+        let found = match rows.advance_to(source, part.span.last) {
             Ok(Some(found)) => found,
-            Ok(None) => return end(&part.entries, join),
-            Err(refusal) => return Err(IndexError::Table(ReadError::of_cell(refusal))),
-        };
-        match above(last, found.rowid) {
-            Ok(rowid) => last = rowid,
+            Ok(None) => return close(source, part, join, rows),
             Err(refusal) => return Err(IndexError::Table(refusal)),
-        }
-        if is_past(part, join, found) {
-            return Ok(());
-        }
-        join = see_in(key, part, join, found, &walk.payload);
+        };
+        join = see_in(key, part, join, found, &rows.walk.payload);
     }
     Err(IndexError::Table(ReadError::NoMemory))
 }

@@ -19,6 +19,7 @@ mod part;
 mod read;
 mod room;
 mod row_fault;
+mod rows;
 mod span;
 mod spans;
 mod stream;

@@ -1,8 +1,11 @@
 //! The entries of an index whose rowids are in a range.
-ghost use Rattle.std.specs.Prelude.{◌≡◌, [], IfOk, IfErr, OnOk};
+ghost use Rattle.std.specs.Prelude.{◌≡◌, [], None, IfOk, IfErr, OnOk};
 ghost use Rattle.sqpage.specs.Source.{KeepsPages};
+ghost use Rattle.sqlite_record.specs.Record.{decode};
+ghost use Rattle.sqindex.specs.Keys.{IsKeyed};
+ghost use Rattle.sqindex.specs.Rules.{width};
 ghost use Rattle.sqindex.specs.internal.Held.{held_by};
-ghost use Rattle.sqindex.specs.internal.Parts.{Cuts, CutRefused, TakesIn, Gathers, GatherRefused, IsPart, PartRefused};
+ghost use Rattle.sqindex.specs.internal.Parts.{Cuts, CutRefused, TakesIn, Gathers, IsNoEntry, IsPart, PartRefused};
 ghost use Rattle.sqindex.specs.internal.Spans.{GoesOn};
 ghost use Rattle.sqindex.specs.declared.error.IndexError.TheVariants as errors;
 ghost use Rattle.sqindex.specs.declared.error.ReadError.TheVariants.{NoMemory};
@@ -26,12 +29,13 @@ pub(crate) struct Part {
     pub(crate) span: Span,
 }
 
-/// Ends a range where about half of its entries are before, and drops the others. Refused where they have one rowid.
-fn cut(alloc: Global, part: &mut Part) -> Result<(), IndexError>
+/// Ends a range that has no room for this rowid, and drops the entries that are behind its end then. Refused where they
+/// have one rowid.
+fn cut(alloc: Global, part: &mut Part, rowid: i64) -> Result<(), IndexError>
     ensures ok { OnOk result (Cuts part.old part.new) }
     ensures err { IfErr result (CutRefused part.old) }
 {
-    let last = part.entries.middle().unwrap_or(i64::MIN);
+    let last = part.entries.end_before(rowid).unwrap_or(i64::MIN);
     let Some(span) = part.span.up_to(last) else {
         sort_entries(&mut part.entries)?;
         return Err(IndexError::Index(ReadError::NoMemory));
@@ -63,7 +67,7 @@ fn make_room(
     ensures err { IfErr result (CutRefused part.old) }
 {
     if is_full(part, rowid, entry, held) {
-        return cut(alloc, part);
+        return cut(alloc, part, rowid);
     }
     Ok(())
 }
@@ -82,30 +86,38 @@ fn take_in(part: &mut Part, found: Found, rowid: i64, entry: &[u8]) -> Result<()
     }
 }
 
-/// Adds what the walk came to, where its rowid is in the range. The range ends sooner where there is no room.
+/// Adds an entry with this rowid, where that is in the range. The range ends sooner where there is no room.
 pub(crate) fn gather(
     alloc: Global,
-    key: &IndexKey,
     part: &mut Part,
     found: Found,
+    rowid: i64,
     entry: &[u8],
     held: u64,
 ) -> Result<(), IndexError>
-    ensures ok { OnOk result (Gathers key.now part.old found entry.now part.new) }
-    ensures err { IfErr result (GatherRefused key.now part.old found entry.now) }
+    ensures ok { OnOk result (Gathers part.old found rowid entry.now part.new) }
+    ensures err { IfErr result (CutRefused part.old) }
+{
+    make_room(alloc, part, rowid, entry, held)?;
+    take_in(part, found, rowid, entry)
+}
+
+/// The rowid of an entry that a walk came to. Refused where it is none of an index with this key.
+fn rowid_of(key: &IndexKey, found: Found, entry: &[u8]) -> Result<i64, IndexError>
+    ensures ok { IfOk result (λ rowid. (found.rowid ≡ None) × IsKeyed (width key.now) rowid (decode entry.now)) }
+    ensures err { IfErr result (IsNoEntry key.now found entry.now) }
 {
     if found.rowid.is_some() {
         return Err(IndexError::Index(ReadError::OtherKind));
     }
-    let Some(rowid) = rowid_in(entry, key.columns.len()) else {
-        return Err(IndexError::Entry(EntryError {
+    match rowid_in(entry, key.columns.len()) {
+        Some(rowid) => Ok(rowid),
+        None => Err(IndexError::Entry(EntryError {
             fault: IndexFault::EntryForm,
             page: found.page,
             cell: found.cell,
-        }));
-    };
-    make_room(alloc, part, rowid, entry, held)?;
-    take_in(part, found, rowid, entry)
+        })),
+    }
 }
 
 /// The entries of the index whose rowids are in a range of which none is held yet. It ends sooner where there is no
@@ -135,7 +147,8 @@ pub(crate) fn read_part<S: PageSource>(
             Ok(None) => return Ok(part),
             Err(refusal) => return Err(IndexError::Index(ReadError::of_cell(refusal))),
         };
-        gather(alloc, key, &mut part, found, &walk.payload, room.held)?;
+        let rowid = rowid_of(key, found, &walk.payload)?;
+        gather(alloc, &mut part, found, rowid, &walk.payload, room.held)?;
     }
     Err(IndexError::Index(ReadError::NoMemory))
 }

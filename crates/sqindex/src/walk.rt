@@ -1,15 +1,17 @@
 //! What the cells of a tree store, one after another (fileformat2, 1.6 and 1.7).
-ghost use Rattle.std.specs.Prelude.{◌≡◌, ◌≢◌, ◌↔◌, List, IfOk, IfErr, true};
+ghost use Rattle.std.specs.Prelude.{◌≡◌, ◌≢◌, ◌≤◌, ◌↔◌, List, IfOk, IfErr, OnOk, IsSome, IsTrue, true, length};
+ghost use Rattle.sqpage.specs.Chain.{payload_size, IsPayload};
 ghost use Rattle.sqpage.specs.Page.{has_payload};
 ghost use Rattle.sqpage.specs.Source.{KeepsPages};
 ghost use Rattle.sqpage.specs.declared.fault.Fault.{Fault};
 ghost use Rattle.sqrows.specs.Cursor.{IsOver, IsLeft, IsAt};
+ghost use Rattle.sqrows.specs.Payloads.{PayloadRefused};
 ghost use Rattle.sqrows.specs.Trees.{Entry, IsTree};
 ghost use Rattle.sqindex.specs.Stored.{IsStoredIn};
 ghost use Rattle.sqindex.specs.internal.Reading.{stored_of, WalkMoves, WalkRefused, LoadRefused, NotSource};
 
-use sqpage::{CheckError, PageSource};
-use sqrows::{Cells, RowsError, payload_into};
+use sqpage::{Cell, CheckError, PageSource};
+use sqrows::{Cells, PayloadError, RowsError, payload_into};
 use std::alloc::Global;
 
 /// Where the cell stands that a walk came to, and its rowid in a table.
@@ -29,6 +31,37 @@ pub(crate) struct Walk {
     pub(crate) limit: u64,
     /// The payload of the cell that it came to last.
     pub(crate) payload: Vec<u8>,
+}
+
+/// Whether the payload of a cell lies whole in it.
+fn is_whole(cell: &Cell) -> bool
+    ensures { IsTrue result → (payload_size cell.now ≡ length cell.now.local.now) × (cell.now.overflow ≡ 0) }
+{
+    cell.overflow == 0 && cell.payload == Some(cell.local.len() as u64)
+}
+
+/// Reads the payload of a cell of at most `limit` bytes into `out`, in the place of what is there, as `payload_into`.
+fn load_into<S: PageSource>(
+    alloc: Global,
+    source: &mut S,
+    cell: &Cell,
+    limit: u64,
+    out: &mut Vec<u8>,
+) -> Result<(), PayloadError>
+    requires payload { IsSome cell.now.payload × (length cell.now.local.now ≤ payload_size cell.now) }
+    requires usable { (480 ≤ cell.now.usable) × (cell.now.usable ≤ S.size source.old) }
+    ensures ok { S.gives_pages source.old → OnOk result (IsPayload (S.pages source.old) cell.now out.new.items) }
+    ensures err { S.gives_pages source.old → IfErr result (PayloadRefused (S.pages source.old) cell.now limit) }
+    ensures keeps { KeepsPages S.pages S.size S.reads_right S.gives_pages source.old source.new }
+{
+    if is_whole(cell) && cell.local.len() as u64 <= limit {
+        out.clear();
+        match out.extend_from_slice(cell.local) {
+            Ok(()) => return Ok(()),
+            Err(_) => {}
+        }
+    }
+    payload_into(alloc, source, cell, limit, out)
 }
 
 impl Walk {
@@ -75,7 +108,7 @@ impl Walk {
             cell: self.cells.index(),
             rowid: cell.rowid,
         };
-        match payload_into(self.alloc, source, &cell, self.limit, &mut self.payload) {
+        match load_into(self.alloc, source, &cell, self.limit, &mut self.payload) {
             Ok(()) => Ok(found),
             Err(refusal) => Err(RowsError::Payload(refusal)),
         }

@@ -33,20 +33,16 @@ abbrev pub TakesIn : (old : Part) → Found → (rowid : ℤ) → (bytes : List 
 TakesIn old found rowid bytes new = (new.span ≡ old.span) × ((key : IndexKey) (seen : List Stored) → IsKeyed (width key) rowid (decode bytes)
     → AreOfSpan key old.span old.entries seen → AreOfSpan key new.span new.entries (seen ++ plain found bytes ∷ []))
 
--- What was found was added, where it is of the range, which may end sooner.
-abbrev pub Gathers : IndexKey → (old : Part) → Found → (bytes : List ℕ) → (new : Part) → Type 0
-Gathers key old found bytes new = (found.rowid ≡ None) × GoesOn old.span new.span
-    × ((seen : List Stored) → AreOfSpan key old.span old.entries seen → AreOfSpan key new.span new.entries (seen ++ plain found bytes ∷ []))
+-- An entry with this rowid was added, where that is in the range, which may end sooner.
+abbrev pub Gathers : (old : Part) → Found → (rowid : ℤ) → (bytes : List ℕ) → (new : Part) → Type 0
+Gathers old found rowid bytes new = GoesOn old.span new.span × ((key : IndexKey) (seen : List Stored) → IsKeyed (width key) rowid (decode bytes)
+    → AreOfSpan key old.span old.entries seen → AreOfSpan key new.span new.entries (seen ++ plain found bytes ∷ []))
 
 -- Why no entry was found: it has a rowid of its own, or hasn't the key's form.
 abbrev pub IsNoEntry : IndexKey → Found → (bytes : List ℕ) → IndexError → Type 0
 IsNoEntry key found bytes (errors.Index OtherKind) = found.rowid ≢ None
 IsNoEntry key found bytes (errors.Entry e) = (e.fault ≡ faults.EntryForm) × (e.page ≡ found.page) × (e.cell ≡ found.cell) × ((rowid : ℤ) → ¬ IsKeyed (width key) rowid (decode bytes))
 IsNoEntry key found bytes _ = ⊥
-
--- Why it isn't added.
-abbrev pub GatherRefused : IndexKey → (old : Part) → Found → (bytes : List ℕ) → IndexError → Type 0
-GatherRefused key old found bytes e = IsNoEntry key found bytes e ⊎ CutRefused old e
 
 -- These are all the entries of the index that are in the range.
 abbrev pub IsPart : Database → (index : ℕ) → IndexKey → Part → Type 0

@@ -1,97 +1,95 @@
-use Rattle.std.proofs.Common.{◌≡◌, ◌++◌, ◌∷◌, [], ◌∙◌, ℕ, List, Option, Some, None, subst, sym}
+use Rattle.std.proofs.Common.{◌≡◌, ◌++◌, ◌∷◌, [], ◌∙◌, ⊎_elim, ℕ, true, false, List, Option, Some, None, slice_get, subst, sym, ap, refl}
+use Rattle.std.specs.Prelude.{Result, Ok, Err, IfOk, IfErr}
 use Rattle.sqval.specs.Database.{Database}
-use Rattle.sqval.specs.Record.{most_bytes}
-use Rattle.sqrows.specs.Cursor.{IsOver}
+use Rattle.sqindex.specs.declared.error.IndexError.{IndexError}
+use Rattle.sqindex.specs.declared.rows.Ahead.{Ahead}
+use Rattle.sqindex.specs.declared.rows.Rows.{Rows}
 use Rattle.sqindex.specs.declared.walk.Found.{Found}
+use Rattle.sqindex.specs.Keys.{rowid_of}
 use Rattle.sqindex.specs.Rules.{Rise}
+use Rattle.sqindex.specs.Stored.{Stored}
+use Rattle.sqindex.specs.internal.Reading.{stored_of}
+use Rattle.sqval.specs.Record.{most_bytes}
 use Rattle.sqindex.specs.Indexes.{ReadRefused, NoRows}
-use Rattle.sqindex.specs.internal.Reading.{stored_of, WalkMoves, WalkRefused}
 use Rattle.sqindex.specs.internal.Joining.{IsJoined}
-use Rattle.sqindex.proofs.CellsTaken.{none_taken, one_taken, unread}
-use Rattle.sqindex.proofs.RowsSeen.{none_seen, one_seen, all_seen, not_above}
-use Rattle.sqindex.specs.internal.Spans.{rows_in}
+use Rattle.sqindex.specs.internal.Matching.{CloseRefused}
+use Rattle.sqindex.specs.internal.RowsGiven.{IsCursor, AreGiven, GivesTo}
+use Rattle.sqindex.specs.internal.Spans.{up_to, in_span, rows_in}
+use Rattle.sqindex.proofs.ListsKept.{none_kept}
+use Rattle.sqindex.proofs.Places.{get_push}
+use Rattle.sqindex.proofs.RowsGiven.{passed_up, are_seen}
+use Rattle.sqindex.proofs.RowsInSpans.{was_passed}
 use Rattle.sqindex.proofs.RowsJoined.{none_joined}
-use Rattle.sqindex.proofs.RangesMatched.{ended_ok, ended_before, ended_err}
+use Rattle.sqindex.proofs.RangesMatched.{matched_to, not_closed}
 use Rattle.sqindex.proofs.join.match_rows.Goals as goal
 
-pub returns-in-Err-clause-err : goal.returns-in-Err-clause-err
-returns-in-Err-clause-err g c = λ gives ordered. let e = c.in-Err.ensures.err gives in (e.0, λ other rows has. e.1 other has.stored.0 has.stored.1)
+if_ok : {P Q : Rows → Type 0} (r : Result Rows IndexError) → IfOk r P → ((new : Rows) → P new → Q new) → IfOk r Q
+if_ok (Ok x) h f = f x h
+if_ok (Err e) h f = tt
+
+if_err : {P Q : IndexError → Type 0} (r : Result Rows IndexError) → IfErr r P → ((e : IndexError) → P e → Q e) → IfErr r Q
+if_err (Ok x) h f = tt
+if_err (Err e) h f = f e h
 
 pub turns-init : goal.turns-init
-turns-init g c =
-    let d = g.S.PageSource.pages c.args.source.now in
-    let e = c.in-Ok.ensures in
-    record {
-      kept = e.keeps;
-      sized = e.size.0;
-      limited = e.size.1;
-      over = λ gives. (e.ok gives).0;
-      seen = λ gives ordered. ([], none_seen d c.args.table c.in-Ok.walk.cells (none_taken d c.args.table c.in-Ok.walk.cells (e.ok gives).1), none_joined c.args.key.now c.args.part.now.entries);
-    }
+turns-init g c = record {
+  kept = record { still_right = λ right. right; still_gives = λ gives. gives; same_pages = refl; same_size = refl };
+  sized = sym c.requires.sized;
+  seen = λ gives table ordered upward read.
+      let key = c.args.key.now in
+      let part = c.args.part.now in
+      let span = part.span in
+      let given = read.0 in
+      let none = none_kept (λ row. in_span span.above span.last (rowid_of row)) given (λ i row at. (was_passed span.above span.last upward (rowid_of row) (read.2 i row at)).1) in (
+        given,
+        read.1,
+        subst (λ (l : List Stored). IsJoined key part.entries l (record { at = 0; fault = None })) (sym none) (none_joined key part.entries),
+        passed_up span given upward read.2,
+      );
+}
 
 pub returns-in-Ok-None-clause-ok : goal.returns-in-Ok-None-clause-ok
-returns-in-Ok-None-clause-ok g c = λ gives ordered.
+returns-in-Ok-None-clause-ok g c = λ gives table ordered upward read.
     let d = g.S.PageSource.pages c.args.source.now in
     let i = c.turns.invariant in
-    let over = subst (λ (d : Database). IsOver d c.turns.walk.cells) (sym i.kept.same_pages) (i.over gives) in
-    let moves = subst (λ (f : Option Found). WalkMoves (g.S.PageSource.pages c.turns.source) c.turns.walk.cells f c.advance.new.self) c.in-Ok-None.field-0-is (c.in-Ok-None.ensures.ok (i.kept.still_gives gives) over) in
-    let seen = i.seen gives ordered in
-    let has = all_seen d c.args.table c.turns.walk.cells c.advance.new.self c.turns.last seen.0 seen.1 (subst (λ (d : Database). WalkMoves d c.turns.walk.cells None c.advance.new.self) i.kept.same_pages moves) in
-    ended_ok c.args.key.now c.args.part.now ordered d c.args.table seen.0 c.turns.join c.end.result has seen.2 c.end.ensures
+    let was = i.seen gives table ordered upward read in
+    let here = subst (λ (d : Database). IsCursor d table c.turns.rows was.0) (sym i.kept.same_pages) was.1 in
+    let last = c.args.part.now.span.last in
+    let gave = subst (λ (f : Option Found). GivesTo (g.S.PageSource.pages c.turns.source) table last c.advance_to.new.self was.0 f) c.in-Ok-None.field-0-is (c.in-Ok-None.ensures.ok (i.kept.still_gives gives) table was.0 here) in
+    let now = subst (λ (d : Database). GivesTo d table last c.advance_to.new.self was.0 None) i.kept.same_pages gave in
+    if_ok c.close.result c.close.ensures.ok (λ new is. matched_to c.args.key.now c.args.part.now ordered d table new was.0 c.turns.join (subst (λ (r : Rows). IsCursor d table r was.0) (sym is.0) now.0) now.1 was.2 is.1 is.2 was.3)
 
 pub returns-in-Ok-None-clause-err : goal.returns-in-Ok-None-clause-err
-returns-in-Ok-None-clause-err g c = λ gives ordered.
+returns-in-Ok-None-clause-err g c = λ gives table ordered upward read.
     let d = g.S.PageSource.pages c.args.source.now in
     let i = c.turns.invariant in
-    let over = subst (λ (d : Database). IsOver d c.turns.walk.cells) (sym i.kept.same_pages) (i.over gives) in
-    let moves = subst (λ (f : Option Found). WalkMoves (g.S.PageSource.pages c.turns.source) c.turns.walk.cells f c.advance.new.self) c.in-Ok-None.field-0-is (c.in-Ok-None.ensures.ok (i.kept.still_gives gives) over) in
-    let seen = i.seen gives ordered in
-    let has = all_seen d c.args.table c.turns.walk.cells c.advance.new.self c.turns.last seen.0 seen.1 (subst (λ (d : Database). WalkMoves d c.turns.walk.cells None c.advance.new.self) i.kept.same_pages moves) in
-    ended_err c.args.key.now c.args.part.now ordered d c.args.table seen.0 c.turns.join c.end.result has seen.2 c.end.ensures
+    let was = i.seen gives table ordered upward read in
+    let here = subst (λ (d : Database). IsCursor d table c.turns.rows was.0) (sym i.kept.same_pages) was.1 in
+    let last = c.args.part.now.span.last in
+    let e = c.in-Ok-None.ensures in
+    let gave = subst (λ (f : Option Found). GivesTo (g.S.PageSource.pages c.turns.source) table last c.advance_to.new.self was.0 f) c.in-Ok-None.field-0-is (e.ok (i.kept.still_gives gives) table was.0 here) in
+    let now = subst (λ (d : Database). GivesTo d table last c.advance_to.new.self was.0 None) i.kept.same_pages gave in
+    let pages = e.keeps.same_pages ∙ i.kept.same_pages in
+    let cursor = subst (λ (d : Database). IsCursor d table c.advance_to.new.self was.0) (sym pages) now.0 in
+    if_err c.close.result (c.close.ensures.err (e.keeps.still_gives (i.kept.still_gives gives)) table was.0 cursor) (λ fault told.
+    not_closed c.args.key.now c.args.part.now ordered d table was.0 c.turns.join fault now.1 was.2 (subst (λ (d : Database). CloseRefused d table c.args.part.now.entries c.turns.join fault) pages told))
 
-pub returns-in-Err-advance-clause-err : goal.returns-in-Err-advance-clause-err
-returns-in-Err-advance-clause-err g c = λ gives ordered.
-    let d = g.S.PageSource.pages c.args.source.now in
+pub returns-in-Ok-None-clause-size : goal.returns-in-Ok-None-clause-size
+returns-in-Ok-None-clause-size g c =
     let i = c.turns.invariant in
-    let over = subst (λ (d : Database). IsOver d c.turns.walk.cells) (sym i.kept.same_pages) (i.over gives) in
-    let refused = c.in-Err-advance.ensures.err (i.kept.still_gives gives) over in
-    let here = subst (λ (limit : ℕ). WalkRefused d c.turns.walk.cells limit c.in-Err-advance.refusal) i.limited (subst (λ (d : Database). WalkRefused d c.turns.walk.cells c.turns.walk.limit c.in-Err-advance.refusal) i.kept.same_pages refused) in
-    let seen = i.seen gives ordered in
-    subst (ReadRefused d c.args.table most_bytes (NoRows d c.args.table)) (sym c.of_cell.ensures)
-    (unread d c.args.table c.turns.walk.cells most_bytes seen.0 c.in-Err-advance.refusal (NoRows d c.args.table) (λ none rows has. none rows has.stored) seen.1.taken here (c.in-Err-advance.ensures.read (i.kept.still_gives gives)))
+    if_ok c.close.result c.close.ensures.ok (λ new is. ap (λ (r : Rows). r.walk.cells.size) is.0 ∙ c.in-Ok-None.ensures.size ∙ i.sized ∙ c.requires.sized)
 
-pub returns-in-Err-above-clause-err : goal.returns-in-Err-above-clause-err
-returns-in-Err-above-clause-err g c = λ gives ordered.
-    let d = g.S.PageSource.pages c.args.source.now in
+pub returns-in-Err-clause-err : goal.returns-in-Err-clause-err
+returns-in-Err-clause-err g c = λ gives table ordered upward read.
     let i = c.turns.invariant in
-    let found = c.in-Ok-Some.found in
-    let walk = c.advance.new.self in
-    let over = subst (λ (d : Database). IsOver d c.turns.walk.cells) (sym i.kept.same_pages) (i.over gives) in
-    let moves = subst (λ (f : Option Found). WalkMoves (g.S.PageSource.pages c.turns.source) c.turns.walk.cells f walk) c.in-Ok-Some.field-0-is (c.in-Ok-Some.ensures.ok (i.kept.still_gives gives) over) in
-    let seen = i.seen gives ordered in
-    let one = one_taken d c.args.table c.turns.walk.cells walk found seen.0 seen.1.taken (subst (λ (d : Database). WalkMoves d c.turns.walk.cells (Some found) walk) i.kept.same_pages moves) in
-    not_above d c.args.table most_bytes walk.cells c.turns.walk.cells c.turns.last seen.0 (stored_of found walk.payload.items) c.in-Err-above.refusal seen.1 one c.in-Err-above.ensures.err
-
-pub returns-then-is_past-clause-ok : goal.returns-then-is_past-clause-ok
-returns-then-is_past-clause-ok g c = λ gives ordered.
-    let d = g.S.PageSource.pages c.args.source.now in
-    let i = c.turns.invariant in
-    let found = c.in-Ok-Some.found in
-    let walk = c.advance.new.self in
-    let over = subst (λ (d : Database). IsOver d c.turns.walk.cells) (sym i.kept.same_pages) (i.over gives) in
-    let moves = subst (λ (f : Option Found). WalkMoves (g.S.PageSource.pages c.turns.source) c.turns.walk.cells f walk) c.in-Ok-Some.field-0-is (c.in-Ok-Some.ensures.ok (i.kept.still_gives gives) over) in
-    let seen = i.seen gives ordered in
-    let one = one_taken d c.args.table c.turns.walk.cells walk found seen.0 seen.1.taken (subst (λ (d : Database). WalkMoves d c.turns.walk.cells (Some found) walk) i.kept.same_pages moves) in
-    let p = c.is_past.ensures c.if-is_past.true in
-    ended_before c.args.key.now c.args.part.now ordered d c.args.table walk.cells seen.0 (stored_of found walk.payload.items) c.turns.join p.2 one seen.2 p.0 p.1 p.3 p.4
+    let was = i.seen gives table ordered upward read in
+    let here = subst (λ (d : Database). IsCursor d table c.turns.rows was.0) (sym i.kept.same_pages) was.1 in
+    subst (λ (d : Database). ReadRefused d table most_bytes (NoRows d table) c.in-Err.refusal) i.kept.same_pages (c.in-Err.ensures.err (i.kept.still_gives gives) table was.0 here)
 
 pub turns-preserved : goal.turns-preserved
 turns-preserved g c =
-    let d = g.S.PageSource.pages c.args.source.now in
     let i = c.turns.invariant in
     let e = c.in-Ok-Some.ensures in
-    let found = c.in-Ok-Some.found in
-    let walk = c.advance.new.self in
     record {
       kept = record {
         still_right = λ right. e.keeps.still_right (i.kept.still_right right);
@@ -99,16 +97,28 @@ turns-preserved g c =
         same_pages = e.keeps.same_pages ∙ i.kept.same_pages;
         same_size = e.keeps.same_size ∙ i.kept.same_size;
       };
-      sized = e.size.0 ∙ i.sized;
-      limited = e.size.2 ∙ i.limited;
-      over = λ gives. e.size.1 ∙ i.over gives;
-      seen = λ gives ordered.
-          let over = subst (λ (d : Database). IsOver d c.turns.walk.cells) (sym i.kept.same_pages) (i.over gives) in
-          let moves = subst (λ (f : Option Found). WalkMoves (g.S.PageSource.pages c.turns.source) c.turns.walk.cells f walk) c.in-Ok-Some.field-0-is (e.ok (i.kept.still_gives gives) over) in
-          let seen = i.seen gives ordered in
-          let x = stored_of found walk.payload.items in
-          let more = one_seen d c.args.table c.turns.walk.cells walk found c.turns.last c.in-Ok-above.rowid seen.0 seen.1 (subst (λ (d : Database). WalkMoves d c.turns.walk.cells (Some found) walk) i.kept.same_pages moves) c.in-Ok-above.ensures.ok in
-          let same : c.deref.result.now ≡ walk.payload.items = c.deref.ensures.value in
-          let joined = c.see_in-join.ensures seen.0 ordered (subst (λ (b : List ℕ). Rise (seen.0 ++ stored_of found b ∷ [])) (sym same) more.rise) seen.2 in
-          (seen.0 ++ x ∷ [], more, subst (λ (b : List ℕ). IsJoined c.args.key.now c.args.part.now.entries (rows_in c.args.part.now.span (seen.0 ++ stored_of found b ∷ [])) c.see_in-join.result) same joined);
+      sized = e.size ∙ i.sized;
+      seen = λ gives table ordered upward read.
+          let d = g.S.PageSource.pages c.args.source.now in
+          let key = c.args.key.now in
+          let part = c.args.part.now in
+          let last = part.span.last in
+          let found = c.in-Ok-Some.found in
+          let rows = c.advance_to.new.self in
+          let was = i.seen gives table ordered upward read in
+          let here = subst (λ (d : Database). IsCursor d table c.turns.rows was.0) (sym i.kept.same_pages) was.1 in
+          let gave = subst (λ (f : Option Found). GivesTo (g.S.PageSource.pages c.turns.source) table last rows was.0 f) c.in-Ok-Some.field-0-is (e.ok (i.kept.still_gives gives) table was.0 here) in
+          let now = subst (λ (d : Database). GivesTo d table last rows was.0 (Some found)) i.kept.same_pages gave in
+          let x = stored_of found rows.walk.payload.items in
+          let rise = (are_seen d table rows (was.0 ++ x ∷ []) now.0.0 now.0.1).rise in
+          let same : c.deref.result.now ≡ rows.walk.payload.items = c.deref.ensures.value in
+          let joined = c.see_in-join.ensures was.0 ordered (subst (λ (b : List ℕ). Rise (was.0 ++ stored_of found b ∷ [])) (sym same) rise) was.2 in (
+            was.0 ++ x ∷ [],
+            now.0.0,
+            subst (λ (b : List ℕ). IsJoined key part.entries (rows_in part.span (was.0 ++ stored_of found b ∷ [])) c.see_in-join.result) same joined,
+            λ k row at. ⊎_elim
+                (λ (old : slice_get was.0 k ≡ Some row). was.3 k row old)
+                (λ new. subst (λ (z : Stored). up_to last (rowid_of z) ≡ true) (sym new.1) now.1)
+                (get_push was.0 x k row at),
+          );
     }

@@ -1,4 +1,5 @@
-use Rattle.std.proofs.Common.{ℕ, ◌≡◌, ◌++◌, ◌∷◌, [], ◌∙◌, List, Option, Some, None, refl, subst, sym}
+use Rattle.std.proofs.lemmas.Int.{to_z-of_z}
+use Rattle.std.proofs.Common.{ℕ, ℤ, rules, FitsSigned, w64, to_z, of_z, ◌≡◌, ◌++◌, ◌∷◌, [], ◌∙◌, List, Option, Some, None, refl, subst, sym}
 use Rattle.sqval.specs.Database.{Database}
 use Rattle.sqcheck.proofs.checks.ResultsOfCalls.{exits}
 use Rattle.sqrows.specs.Cursor.{IsOver}
@@ -6,12 +7,15 @@ use Rattle.sqindex.specs.declared.walk.Found.{Found}
 use Rattle.sqindex.specs.Indexes.{ReadRefused, NoEntries}
 use Rattle.sqindex.specs.Stored.{Stored}
 use Rattle.sqindex.specs.internal.Held.{plain}
-use Rattle.sqindex.specs.internal.Parts.{GatherRefused, PartRefused}
+use Rattle.sqlite_record.specs.Record.{decode}
+use Rattle.sqindex.specs.Keys.{IsKeyed}
+use Rattle.sqindex.specs.Rules.{width}
+use Rattle.sqindex.specs.internal.Parts.{IsNoEntry, PartRefused}
 use Rattle.sqindex.specs.internal.Reading.{WalkMoves, WalkRefused, AreTaken}
 use Rattle.sqindex.specs.internal.Spans.{AreOfSpan}
 use Rattle.sqindex.proofs.CellsTaken.{none_taken, one_taken, all_taken, unread}
 use Rattle.sqindex.proofs.EntriesRead.{stored_plain}
-use Rattle.sqindex.proofs.EntriesInSpans.{none_gathered, gathered_not}
+use Rattle.sqindex.proofs.EntriesInSpans.{none_gathered, no_entry, gathered_not}
 use Rattle.sqindex.proofs.part.read_part.Goals as goal
 
 pub returns-in-Err-clause-err : goal.returns-in-Err-clause-err
@@ -52,6 +56,23 @@ returns-in-Err-advance-clause-err g c = λ gives.
     subst (ReadRefused d c.args.index limit (NoEntries d c.args.index)) (sym c.of_cell.ensures)
     (unread d c.args.index c.turns.walk.cells limit seen.0 c.in-Err-advance.refusal (NoEntries d c.args.index) (λ none entries has. none entries has.stored) seen.1 here (c.in-Err-advance.ensures.read (i.kept.still_gives gives)))
 
+pub returns-in_err-rowid-clause-err : goal.returns-in_err-rowid-clause-err
+returns-in_err-rowid-clause-err g c = λ gives.
+    let d = g.S.PageSource.pages c.args.source.now in
+    let key = c.args.key.now in
+    let limit = c.args.room.longest in
+    let i = c.turns.invariant in
+    let found = c.in-Ok-Some.found in
+    let walk = c.advance.new.self in
+    let over = subst (λ (d : Database). IsOver d c.turns.walk.cells) (sym i.kept.same_pages) (i.over gives) in
+    let moves = subst (λ (f : Option Found). WalkMoves (g.S.PageSource.pages c.turns.source) c.turns.walk.cells f walk) c.in-Ok-Some.field-0-is (c.in-Ok-Some.ensures.ok (i.kept.still_gives gives) over) in
+    let seen = i.seen gives in
+    let one = one_taken d c.args.index c.turns.walk.cells walk found seen.0 seen.1 (subst (λ (d : Database). WalkMoves d c.turns.walk.cells (Some found) walk) i.kept.same_pages moves) in
+    let e = c.in_err-rowid.field-0.0 in
+    let same : c.deref.result.now ≡ walk.payload.items = c.deref.ensures.value in
+    exits (PartRefused d c.args.index key limit) e c.from_residual.result c.from_residual.ensures.1
+    (no_entry d c.args.index key limit walk.cells seen.0 found walk.payload.items e one (subst (λ (b : List ℕ). IsNoEntry key found b e) same c.in_err-rowid.ensures.err))
+
 pub returns-in_err-gather-clause-err : goal.returns-in_err-gather-clause-err
 returns-in_err-gather-clause-err g c = λ gives.
     let d = g.S.PageSource.pages c.args.source.now in
@@ -64,10 +85,9 @@ returns-in_err-gather-clause-err g c = λ gives.
     let moves = subst (λ (f : Option Found). WalkMoves (g.S.PageSource.pages c.turns.source) c.turns.walk.cells f walk) c.in-Ok-Some.field-0-is (c.in-Ok-Some.ensures.ok (i.kept.still_gives gives) over) in
     let seen = i.seen gives in
     let one = one_taken d c.args.index c.turns.walk.cells walk found seen.0 seen.1 (subst (λ (d : Database). WalkMoves d c.turns.walk.cells (Some found) walk) i.kept.same_pages moves) in
-    let same : c.deref.result.now ≡ walk.payload.items = c.deref.ensures.value in
     let e = c.in_err-gather.field-0.0 in
-    exits (PartRefused d c.args.index key limit) e c.from_residual.result c.from_residual.ensures.1
-    (gathered_not d c.args.index key limit walk.cells seen.0 found walk.payload.items c.turns.part e one seen.2 (subst (λ (b : List ℕ). GatherRefused key c.turns.part found b e) same c.in_err-gather.ensures.err))
+    exits (PartRefused d c.args.index key limit) e c.from_residual-in_err-gather.result c.from_residual-in_err-gather.ensures.1
+    (gathered_not d c.args.index key limit walk.cells seen.0 found walk.payload.items c.turns.part e one seen.2 c.in_err-gather.ensures.err)
 
 pub turns-preserved : goal.turns-preserved
 turns-preserved g c =
@@ -79,6 +99,7 @@ turns-preserved g c =
     let walk = c.advance.new.self in
     let new = c.gather.new.part in
     let gathers = c.in_ok-gather.ensures.ok in
+    let keyed = c.in_ok-rowid.ensures.ok in
     record {
       kept = record {
         still_right = λ right. e.keeps.still_right (i.kept.still_right right);
@@ -89,15 +110,19 @@ turns-preserved g c =
       sized = e.size.0 ∙ i.sized;
       limited = e.size.2 ∙ i.limited;
       over = λ gives. e.size.1 ∙ i.over gives;
-      goes = (gathers.1.0 ∙ i.goes.0, λ was. gathers.1.1 (i.goes.1 was));
+      goes = (gathers.0.0 ∙ i.goes.0, λ was. gathers.0.1 (i.goes.1 was));
       seen = λ gives.
           let over = subst (λ (d : Database). IsOver d c.turns.walk.cells) (sym i.kept.same_pages) (i.over gives) in
           let moves = subst (λ (f : Option Found). WalkMoves (g.S.PageSource.pages c.turns.source) c.turns.walk.cells f walk) c.in-Ok-Some.field-0-is (e.ok (i.kept.still_gives gives) over) in
           let seen = i.seen gives in
           let one = one_taken d c.args.index c.turns.walk.cells walk found seen.0 seen.1 (subst (λ (d : Database). WalkMoves d c.turns.walk.cells (Some found) walk) i.kept.same_pages moves) in
-          let same : c.deref.result.now ≡ walk.payload.items = c.deref.ensures.value in (
+          let same : c.deref.result.now ≡ walk.payload.items = c.deref.ensures.value in
+          let same' : c.deref-in-turns.result.now ≡ walk.payload.items = c.deref-in-turns.ensures.value in
+          let fits : FitsSigned w64 c.in_ok-rowid.rowid = search rules in
+          let number : to_z w64 (of_z w64 c.in_ok-rowid.rowid) ≡ c.in_ok-rowid.rowid = to_z-of_z w64 c.in_ok-rowid.rowid fits in
+          let its = subst (λ (b : List ℕ). IsKeyed (width key) c.in_ok-rowid.rowid (decode b)) (same ∙ sym same') keyed.1 in (
             seen.0 ++ plain found walk.payload.items ∷ [],
-            subst (λ (z : Stored). AreTaken d c.args.index walk.cells (seen.0 ++ z ∷ [])) (stored_plain found walk.payload.items gathers.0) one,
-            subst (λ (b : List ℕ). AreOfSpan key new.span new.entries (seen.0 ++ plain found b ∷ [])) same (gathers.2 seen.0 seen.2),
+            subst (λ (z : Stored). AreTaken d c.args.index walk.cells (seen.0 ++ z ∷ [])) (stored_plain found walk.payload.items keyed.0) one,
+            subst (λ (b : List ℕ). AreOfSpan key new.span new.entries (seen.0 ++ plain found b ∷ [])) same' (gathers.1 key seen.0 (subst (λ (r : ℤ). IsKeyed (width key) r (decode c.deref-in-turns.result.now)) (sym number) its) seen.2),
           );
     }
