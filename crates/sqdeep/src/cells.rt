@@ -2,7 +2,7 @@
 ghost use Rattle.std.specs.Prelude.{◌≡◌, ◌+◌, ◌<◌, ◌≤◌, ℕ, List, Some, IfSome, IfErr, OnOk, length};
 ghost use Rattle.sqval.specs.Database.{Database};
 ghost use Rattle.sqpage.specs.Chain.{payload_size, IsPayload};
-ghost use Rattle.sqpage.specs.Page.{cell_count};
+ghost use Rattle.sqpage.specs.Page.{cell_count, HasPartsOf};
 ghost use Rattle.sqpage.specs.declared.kind.Kind.{Kind};
 ghost use Rattle.sqcheck.specs.Places.{page_as};
 ghost use Rattle.sqdeep.specs.declared.fault.DeepError.TheVariants.{Inner};
@@ -14,7 +14,7 @@ use crate::fault::{DeepError, InnerError, InnerFault};
 use crate::records::judge_record;
 use crate::snapshot::Snapshot;
 use crate::text::Encoding;
-use sqpage::{BtreePage, Cell, PageSource, links_of, payload};
+use sqpage::{BtreePage, Cell, PageSource, Parts, links_of, payload};
 use sqval::MOST_BYTES;
 use std::alloc::Global;
 
@@ -94,15 +94,17 @@ fn judge_cell<V: Snapshot, S: PageSource>(
     }
 }
 
-/// Judges the cells of a page, in the order of their pointers, as `judge_cell` does.
+/// Judges the cells of a page, of which these are the parts, in the order of their pointers, as `judge_cell` does.
 pub(crate) fn judge_cells<V: Snapshot, S: PageSource>(
     alloc: Global,
     source: &mut S,
     encoding: Encoding,
     page: &BtreePage,
+    parts: &[Parts],
     content: &mut Vec<u8>,
 ) -> Result<(), DeepError>
     requires most { length page.now.used ≤ V.size }
+    requires parts { HasPartsOf page.now parts.now }
     requires encoding { V.right → encoding ≡ encoding_of V.pages }
     requires same { SameSource V.pages V.size V.right V.given (S.pages source.old) (S.size source.old)
         (S.reads_right source.old) (S.gives_pages source.old) }
@@ -113,7 +115,7 @@ pub(crate) fn judge_cells<V: Snapshot, S: PageSource>(
         (S.reads_right source.new) (S.gives_pages source.new) }
 {
     'cells: for i in 0..page.len() {
-        let cell = page.cell(i);
+        let cell = page.cell_with(i, &parts[i]);
         judge_cell::<V, S>(alloc, source, encoding, &cell, i, content)?;
     }
     Ok(())

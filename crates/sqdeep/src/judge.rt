@@ -1,5 +1,5 @@
 //! The pages of a well-formed database, one after the other (own).
-ghost use Rattle.std.specs.Prelude.{◌≡◌, ◌↔◌, ◌<◌, ◌≤◌, ℕ, Some, None, IfOk, IfErr, IsTrue, OnOk, length};
+ghost use Rattle.std.specs.Prelude.{◌≡◌, ◌↔◌, ◌*◌, ◌<◌, ◌≤◌, ℕ, Some, None, IfOk, IfErr, IsTrue, OnOk, length};
 ghost use Rattle.sqpage.specs.Freelist.{IsPage, usable_size};
 ghost use Rattle.sqpage.specs.declared.kind.Kind.{Kind};
 ghost use Rattle.sqcheck.specs.Places.{page_as};
@@ -21,7 +21,7 @@ use crate::pages::judge_page;
 use crate::snapshot::{Snapshot, read_page};
 use crate::text::Encoding;
 use crate::trees::{Trees, Use};
-use sqpage::{BtreePage, CheckError, Fault, PageSource};
+use sqpage::{BtreePage, CheckError, Fault, PageSource, Parts};
 use std::alloc::Global;
 use std::marker::PhantomData;
 
@@ -46,10 +46,11 @@ fn refusal(page: u32, fault: Fault) -> DeepError
     DeepError::Check(CheckError { page, fault })
 }
 
-/// What the pages are judged by, and room for one and for a payload.
+/// What the pages are judged by, and room for one, for the parts of its cells and for a payload.
 #[derive(Drop)]
 pub(crate) struct Judge<V: Snapshot> {
     bytes: Vec<u8>,
+    parts: Vec<Parts>,
     content: Vec<u8>,
     usable: u32,
     encoding: Encoding,
@@ -58,6 +59,7 @@ pub(crate) struct Judge<V: Snapshot> {
     ghost sized: { length bytes.items ≡ V.size },
     ghost least: { 480 ≤ usable },
     ghost most: { usable ≤ V.size },
+    ghost room: { usable ≤ 2 * length parts.items },
     ghost used: { V.right → usable ≡ usable_size V.pages },
     ghost named: { V.right → encoding ≡ encoding_of V.pages },
     ghost mapped: { V.right → IsTrue is_auto_vacuum ↔ IsAutoVacuum V.pages },
@@ -83,6 +85,9 @@ impl<V: Snapshot> Judge<V> {
         let Ok(mut bytes) = vec![in alloc; 0u8; size as usize] else {
             return Err(refusal(1, Fault::NoMemory));
         };
+        let Ok(parts) = vec![in alloc; Parts::NONE; size as usize / 2 + 1] else {
+            return Err(refusal(1, Fault::NoMemory));
+        };
         match read_page::<V, S>(source, 1, &mut bytes) {
             Ok(()) => {}
             Err(error) => return Err(DeepError::Check(error)),
@@ -99,6 +104,7 @@ impl<V: Snapshot> Judge<V> {
             encoding: Encoding::named(word_at(&bytes, 56)),
             is_auto_vacuum: word_at(&bytes, 52) != 0,
             bytes,
+            parts,
             content: Vec::new(alloc),
             usable,
             snapshot: PhantomData,
@@ -141,7 +147,7 @@ impl<V: Snapshot> Judge<V> {
             Ok(()) => {}
             Err(error) => return Err(DeepError::Check(error)),
         }
-        let page = match BtreePage::new(&self.bytes, number, self.usable) {
+        let page = match BtreePage::parse(&self.bytes, number, self.usable, &mut self.parts) {
             Ok(page) => page,
             Err(fault) => return Err(refusal(number, fault)),
         };
@@ -149,7 +155,14 @@ impl<V: Snapshot> Judge<V> {
             Ok(()) => {}
             Err(fault) => return Err(at_page(number, fault)),
         }
-        judge_cells::<V, S>(alloc, source, self.encoding, &page, &mut self.content)
+        judge_cells::<V, S>(
+            alloc,
+            source,
+            self.encoding,
+            &page,
+            &self.parts,
+            &mut self.content,
+        )
     }
 
     /// Judges page `number`, where it is one of a tree.

@@ -1,6 +1,5 @@
 -- The entries of an index, judged one after another.
 use Rattle.std.proofs.Common.{◌≡◌, ◌≤◌, ◌+◌, ◌∙◌, ⊎_elim, inl, inr, ◌⊎◌, ℕ, Bool, true, false, cond, List, [], ◌∷◌, ◌++◌, length, slice_get, Option, Some, None, is_some, ℤ, refl, sym, ap, subst, arith, count_by}
-use Rattle.std.specs.Prelude.{Result, Ok, Err, OnOk, is_ok}
 use Rattle.std.proofs.lemmas.List.Elements.{All-push}
 use Rattle.std.proofs.lemmas.List.Sums.{sum_by-append}
 use Rattle.std.proofs.lemmas.Option.{slice_get_within}
@@ -17,12 +16,7 @@ use Rattle.sqindex.specs.Rules.{width, IsSameKey}
 use Rattle.sqindex.specs.Indexes.{EntryRefused}
 use Rattle.sqindex.specs.internal.Judging.{IsBehind, NotBehind, AreSoundEntries}
 use Rattle.sqindex.specs.internal.KeyedScanning.{IsBefore}
-use Rattle.sqindex.specs.declared.error.IndexError.{IndexError}
-use Rattle.sqindex.specs.declared.part.Part.{Part}
-use Rattle.sqindex.specs.declared.walk.Found.{Found}
-use Rattle.sqindex.specs.internal.Held.{plain}
-use Rattle.sqindex.specs.internal.Parts.{Gathers}
-use Rattle.sqindex.specs.internal.Streaming.{IsNext, MayStand, MayNotStand, IsStream, IsStartOf}
+use Rattle.sqindex.specs.internal.Streaming.{IsNext, MayStand, MayNotStand, IsStream}
 use Rattle.sqindex.proofs.Places.{at_once, get_left, get_here, get_push}
 
 module _ (key : IndexKey) where
@@ -97,14 +91,3 @@ module _ (key : IndexKey) where
   pub streamed_sound : (xs : List Stored) (fault : Option EntryError) → is_some fault ≡ false → IsStream key xs fault → AreSoundEntries key xs
   streamed_sound xs None none w = w
   streamed_sound xs (Some e) none w = absurd (cc)
-
-pub not_held : (held : Bool) → held ≡ false → held ≡ true → ⊥
-not_held held is other = cc
-
--- the first range goes on with one more entry
-pub started_on : (key : IndexKey) (old new : Part) (found : Found) (rowid : ℤ) (bytes : List ℕ) (xs : List Stored) (result : Result (Unit {0}) IndexError) (good held : Bool) → good ≡ is_ok result → held ≡ true
-    → IsKeyed (width key) rowid (decode bytes) → OnOk result (Gathers old found rowid bytes new) → IsStartOf key old held xs → IsStartOf key new good (xs ++ plain found bytes ∷ [])
-started_on key old new found rowid bytes xs (Ok x) good held is were keyed h w = λ still.
-    let was = w were in
-    ((h.0.0 ∙ was.0.0, h.0.1 was.0.1), h.1 key xs keyed was.1)
-started_on key old new found rowid bytes xs (Err e) good held is were keyed h w = λ still. absurd (cc)

@@ -3,6 +3,7 @@ pub mod FieldsLeft
 pub mod PayloadsWhole
 pub mod CellsTaken
 pub mod RowidsOfEntries
+pub mod BodiesOfEntries
 pub mod EntriesHeld
 pub mod EntriesRead
 pub mod EntriesJudged
@@ -16,6 +17,7 @@ pub mod IndexesJudged
 pub mod EntriesStreamed
 pub mod RowsGiven
 pub mod RangesMatched
+pub mod RowsInStep
 pub mod RowsScanned
 pub mod KeyedScanned
 pub mod RowsOfKind

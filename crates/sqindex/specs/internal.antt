@@ -1,5 +1,6 @@
 -- What no public clause reaches.
 pub mod Reading
+pub mod Bodies
 pub mod Held
 pub mod Judging
 pub mod Joining
@@ -11,3 +12,4 @@ pub mod Streaming
 pub mod Parts
 pub mod RowsGiven
 pub mod Matching
+pub mod Stepping

@@ -1,9 +1,11 @@
 //! The entries of an index in memory (own).
 ghost use Rattle.std.specs.Prelude.{◌≡◌, ◌≢◌, ◌≤◌, ◌+◌, ◌<◌, ℕ, [], ◌∷◌, ◌++◌, All, IfOk, OnOk, MatchOption, Some};
-ghost use Rattle.std.specs.Prelude.{None, length, take, slice_get, slice_index_or, nat_le, if◌then◌else◌};
+ghost use Rattle.std.specs.Prelude.{None, length, take, drop, slice_get, slice_index_or, nat_le, if◌then◌else◌};
 ghost use Rattle.std.specs.List.Sorted.{IsPermutation, IsSortedByKey};
 ghost use Rattle.std.specs.Ordering.{int_cmp};
+ghost use Rattle.std.specs.Int.{to_le_bytes, from_le_bytes, w32};
 ghost use Rattle.sqindex.specs.declared.entries.Held.{Held as SpecHeld};
+ghost use Rattle.sqindex.specs.internal.Bodies.{start_in, size_in};
 
 use crate::error::EntryError;
 use crate::fault::IndexFault;
@@ -14,17 +16,18 @@ use std::alloc::{AllocError, Global};
 pub(crate) const INSIDE: usize = 16;
 
 /// How many bytes an entry takes beside a payload that lies behind the others.
-pub(crate) const HELD: u64 = 40;
+pub(crate) const HELD: u64 = 32;
 
 /// An entry: its payload, or where that lies, and where the entry stands in the index.
 #[derive(Clone, Copy, Debug)]
 pub(crate) struct Held {
     /// The rowid that it ends with, once it was judged.
     pub(crate) rowid: i64,
-    pub(crate) start: u32,
-    pub(crate) size: u32,
     pub(crate) page: u32,
-    pub(crate) cell: u32,
+    pub(crate) cell: u16,
+    /// How many bytes its payload has, or 17 for more than 16.
+    pub(crate) size: u16,
+    /// The payload; or where it begins behind the others, and how many bytes it has.
     pub(crate) body: [u8; 16],
 }
 
@@ -47,7 +50,8 @@ pub(crate) struct Entries {
     pub(crate) list: Vec<Held>,
     /// The payloads that don't lie in the entries, one behind another.
     pub(crate) bytes: Vec<u8>,
-    ghost within: { All (λ held. 16 < held.size → held.start + held.size ≤ length bytes.items) list.items },
+    ghost within: { All (λ held. 16 < held.size → start_in held.body + size_in held.body ≤ length bytes.items)
+        list.items },
 }
 
 /// A number about halfway from one to a greater one.
@@ -67,6 +71,44 @@ fn body_of(payload: &[u8]) -> [u8; 16]
     body
 }
 
+/// Where a payload begins behind the others, and how many bytes it has.
+fn place_body(start: u32, size: u32) -> [u8; 16]
+    ensures start { take 4 result ≡ to_le_bytes w32 start }
+    ensures size { take 4 (drop 4 result) ≡ to_le_bytes w32 size }
+{
+    let mut body = [0u8; 16];
+    let (first, rest) = body.split_at_mut(4);
+    first.copy_from_slice(&start.to_le_bytes());
+    let (second, _) = rest.split_at_mut(4);
+    second.copy_from_slice(&size.to_le_bytes());
+    body
+}
+
+/// The number in the first four bytes, the lowest first.
+fn word(bytes: &[u8]) -> usize
+    requires { 4 ≤ length bytes.now }
+    ensures { result ≡ from_le_bytes w32 (take 4 bytes.now) }
+{
+    match bytes.first_chunk::<4>() {
+        Some(word) => u32::from_le_bytes(*word) as usize,
+        None => 0,
+    }
+}
+
+/// Where a payload begins that lies behind the others.
+fn start_of(body: &[u8; 16]) -> usize
+    ensures { result ≡ start_in body.now }
+{
+    word(body)
+}
+
+/// How many bytes it has.
+fn size_of(body: &[u8; 16]) -> usize
+    ensures { result ≡ size_in body.now }
+{
+    word(&body[4..])
+}
+
 /// A place or a size. Refused where it takes more than 32 bits.
 fn small(number: usize) -> Result<u32, AllocError>
     ensures { IfOk result (λ same. same ≡ number) }
@@ -74,6 +116,43 @@ fn small(number: usize) -> Result<u32, AllocError>
     match u32::try_from(number) {
         Ok(same) => Ok(same),
         Err(_) => Err(AllocError),
+    }
+}
+
+/// The place of a cell in its page. Refused where it takes more than 16 bits, which none does.
+fn place(number: usize) -> Result<u16, AllocError>
+    ensures { IfOk result (λ same. same ≡ number) }
+{
+    match u16::try_from(number) {
+        Ok(same) => Ok(same),
+        Err(_) => Err(AllocError),
+    }
+}
+
+/// An entry with a payload, which is in it, or begins there behind the others.
+fn held_of(rowid: i64, page: u32, cell: u16, payload: &[u8], start: u32, size: u32) -> Held
+    requires { size ≡ length payload.now }
+    ensures place { (result.rowid ≡ rowid) × (result.page ≡ page) × (result.cell ≡ cell) }
+    ensures few { length payload.now ≤ 16
+        → (result.size ≡ length payload.now) × (take (length payload.now) result.body ≡ payload.now) }
+    ensures many { 16 < length payload.now
+        → (16 < result.size) × (start_in result.body ≡ start) × (size_in result.body ≡ length payload.now) }
+{
+    if payload.len() <= INSIDE {
+        return Held {
+            rowid,
+            page,
+            cell,
+            size: size as u16,
+            body: body_of(payload),
+        };
+    }
+    Held {
+        rowid,
+        page,
+        cell,
+        size: 17,
+        body: place_body(start, size),
     }
 }
 
@@ -120,8 +199,8 @@ impl Entries {
         if size <= INSIDE {
             &held.body[..size]
         } else {
-            let start = held.start as usize;
-            &self.bytes[start..start + size]
+            let start = start_of(&held.body);
+            &self.bytes[start..start + size_of(&held.body)]
         }
     }
 
@@ -149,8 +228,8 @@ impl Entries {
         Some(held.rowid)
     }
 
-    /// Adds one behind the others, with this rowid. Refused where memory runs out, and where its place or its size
-    /// takes more than 32 bits.
+    /// Adds one behind the others, with this rowid. Refused where memory runs out, and where its place behind the
+    /// others or its size takes more than 32 bits, or its place in its page more than 16.
     pub(crate) fn add(&mut self, found: Found, rowid: i64, payload: &[u8]) -> Result<(), AllocError>
         ensures held { OnOk result (held_by self.new ≡ held_by self.old ++ plain found payload.now ∷ []) }
         ensures last { OnOk result ((p : SpecHeld) × (self.new.list.items ≡ self.old.list.items ++ p ∷ [])
@@ -158,16 +237,10 @@ impl Entries {
     {
         let start = small(self.bytes.len())?;
         let size = small(payload.len())?;
-        let cell = small(found.cell)?;
+        let cell = place(found.cell)?;
         keep_behind(&mut self.bytes, payload)?;
-        self.list.push(Held {
-            rowid,
-            start,
-            size,
-            page: found.page,
-            cell,
-            body: body_of(payload),
-        })?;
+        self.list
+            .push(held_of(rowid, found.page, cell, payload, start, size))?;
         Ok(())
     }
 

@@ -5,7 +5,7 @@ ghost use Rattle.sqindex.specs.Rules.{IsIndexOf};
 ghost use Rattle.sqindex.specs.Indexes.{IndexRefused, RefutesIndex};
 
 use crate::error::IndexError;
-use crate::spans::match_spans;
+use crate::spans::{begin, match_spans};
 use crate::stream::order_index;
 use sqkeys::IndexKey;
 use sqpage::PageSource;
@@ -26,7 +26,8 @@ fn judge_any<S: PageSource>(
         → IfErr result (λ e. IndexRefused (S.pages source.old) table index key.now limit e) }
     ensures keeps { KeepsPages S.pages S.size S.reads_right S.gives_pages source.old source.new }
 {
-    let start = order_index(alloc, source, index, key, limit)?;
+    let rows = begin(alloc, source, table)?;
+    let start = order_index(alloc, source, index, key, limit, rows)?;
     let many = start.many;
     match_spans(alloc, source, table, index, key, start)?;
     Ok(many)
@@ -37,10 +38,10 @@ fn judge_any<S: PageSource>(
 /// EntryOrder or KeyTwice stands at; then by RowTwice, and by the first row or entry by rowid that RowWithoutEntry or
 /// EntryOfNoRow stands at; and where a tree can't be read, also as an entry has more than `limit` bytes. It holds one
 /// payload of a row, two of entries, and of the entries at once as many as take 64 MiB and an eighth of the index, or
-/// `limit` bytes in place of 64 MiB where that is less: for each 40 bytes, and one and a half times its payload where
-/// that is longer than 16. An index that takes more is judged by ranges of rowids, for each of which it is read once;
-/// the table is read once for all. Texts are compared by their bytes, so NOCASE and RTRIM serve for databases in UTF-8
-/// alone.
+/// `limit` bytes in place of 64 MiB where that is less: for each 32 bytes, and one and a half times its payload where
+/// that is longer than 16; but none of the first ones, as long as they are those of the first rows, in their order. An
+/// index that takes more is judged by ranges of rowids, for each of which it is read once; the table is read once for
+/// all. Texts are compared by their bytes, so NOCASE and RTRIM serve for databases in UTF-8 alone.
 pub fn judge_index<S: PageSource>(
     alloc: Global,
     source: &mut S,

@@ -5,7 +5,7 @@ ghost use Rattle.sqpage.specs.Source.{KeepsPages};
 ghost use Rattle.sqindex.specs.declared.rows.Ahead.TheVariants.{Unread};
 ghost use Rattle.sqindex.specs.Stored.{Stored};
 ghost use Rattle.sqindex.specs.Indexes.{ReadRefused, NoRows};
-ghost use Rattle.sqindex.specs.internal.RowsGiven.{IsCursor, Gives, GivesTo};
+ghost use Rattle.sqindex.specs.internal.RowsGiven.{IsCursor, Gives, GivesTo, LooksAt};
 ghost use Rattle.sqindex.specs.internal.Matching.{HasRowsInOrder};
 
 use crate::error::ReadError;
@@ -138,6 +138,32 @@ impl Rows {
         }
         self.ahead = Ahead::Row(found);
         Ok(None)
+    }
+
+    /// The next row, whose payload the walk holds then, and which is left for later. None behind the last one. Refused
+    /// as `advance`.
+    pub(crate) fn look<S: PageSource>(&mut self, source: &mut S) -> Result<Option<Found>, ReadError>
+        requires sized { S.size source.old ≡ self.old.walk.cells.size }
+        ensures ok { S.gives_pages source.old → (table : ℕ) (given : List Stored)
+            → IsCursor (S.pages source.old) table self.old given
+            → IfOk result (λ found. LooksAt found self.new.ahead × IsCursor (S.pages source.old) table self.new given) }
+        ensures size { self.new.walk.cells.size ≡ self.old.walk.cells.size }
+        ensures keeps { KeepsPages S.pages S.size S.reads_right S.gives_pages source.old source.new }
+    {
+        let found = match self.advance(source) {
+            Ok(Some(found)) => found,
+            Ok(None) => return Ok(None),
+            Err(refusal) => return Err(refusal),
+        };
+        self.ahead = Ahead::Row(found);
+        Ok(Some(found))
+    }
+
+    /// Gives the row that was left for later.
+    pub(crate) fn pass(&mut self)
+        ensures { self.new ≡ record self.old { ahead = Unread } }
+    {
+        self.ahead = Ahead::Unread;
     }
 
     /// Reads the rows that are left. Refused where they can't be read, or their rowids don't rise.

@@ -10,7 +10,7 @@ pub(crate) struct Span {
 }
 
 /// Whether a rowid comes no later than the last one that was passed.
-fn is_passed(above: Option<i64>, rowid: i64) -> bool
+pub(crate) fn is_passed(above: Option<i64>, rowid: i64) -> bool
     ensures { result ≡ passed above rowid }
 {
     match above {
@@ -38,6 +38,16 @@ impl Span {
     {
         Span {
             above: None,
+            last: None,
+        }
+    }
+
+    /// All behind this one.
+    pub(crate) fn behind(rowid: i64) -> Span
+        ensures { (result.above ≡ Some rowid) × (result.last ≡ None) }
+    {
+        Span {
+            above: Some(rowid),
             last: None,
         }
     }

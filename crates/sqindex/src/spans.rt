@@ -5,56 +5,61 @@ ghost use Rattle.sqindex.specs.Rules.{HasEntries};
 ghost use Rattle.sqindex.specs.Stored.{Stored};
 ghost use Rattle.sqindex.specs.Indexes.{IndexRefused};
 ghost use Rattle.sqindex.specs.internal.Judging.{AreSoundEntries, AreByRowid};
-ghost use Rattle.sqindex.specs.internal.Matching.{IsMatched, MatchesNext};
+ghost use Rattle.sqindex.specs.internal.Matching.{IsMatched, MatchesNext, IsFirstPart, AreFirstRows};
 ghost use Rattle.sqindex.specs.internal.Parts.{IsPart, PartRefused};
 ghost use Rattle.sqindex.specs.internal.RowsGiven.{IsCursor};
-ghost use Rattle.sqindex.specs.internal.Spans.{IsFirst, IsOpen};
-ghost use Rattle.sqindex.specs.internal.Streaming.{StartsIndex};
+ghost use Rattle.sqindex.specs.internal.Spans.{IsOpen};
+ghost use Rattle.sqindex.specs.internal.Stepping.{IsStartOf, StartsIndex};
+ghost use Rattle.sqindex.specs.declared.rows.Rows.{Rows as SpecRows};
 ghost use Rattle.sqkeys.specs.declared.key.IndexKey.{IndexKey as SpecKey};
 
 use crate::error::{IndexError, ReadError};
 use crate::join::match_rows;
 use crate::order::sort_entries;
 use crate::part::{Part, read_part};
+use crate::room::Room;
 use crate::rows::Rows;
 use crate::span::Span;
-use crate::stream::Start;
+use crate::stream::{Stage, Start};
 use sqkeys::IndexKey;
 use sqpage::PageSource;
 use std::alloc::Global;
 
-/// The entries of the first range.
+/// The entries of the first range, which may be held already.
 fn first_part<S: PageSource>(
     alloc: Global,
     source: &mut S,
     index: u32,
     key: &IndexKey,
-    start: Start,
+    part: Part,
+    stage: Stage,
+    room: Room,
 ) -> Result<Part, IndexError>
-    ensures ok { S.gives_pages source.old → StartsIndex (S.pages source.old) index key.now start
-        → IfOk result (λ part. IsPart (S.pages source.old) index key.now part × IsFirst part.span) }
+    ensures ok { S.gives_pages source.old → (table : ℕ) (rows : SpecRows) (xs : List Stored)
+        → HasEntries (S.pages source.old) index xs → IsStartOf (S.pages source.old) table key.now stage part rows xs
+        → IfOk result (λ new. IsPart (S.pages source.old) index key.now new × IsOpen new.span
+        × IsFirstPart stage part new) }
     ensures err { S.gives_pages source.old
-        → IfErr result (PartRefused (S.pages source.old) index key.now start.room.longest) }
+        → IfErr result (PartRefused (S.pages source.old) index key.now room.longest) }
     ensures keeps { KeepsPages S.pages S.size S.reads_right S.gives_pages source.old source.new }
 {
-    if start.held {
-        return Ok(start.part);
+    match stage {
+        Stage::InStep => return Ok(part),
+        Stage::InRange => return Ok(part),
+        Stage::Lost => {}
     }
-    let mut entries = start.part.entries;
+    let mut entries = part.entries;
     entries.clear();
     let span = Span::all();
-    read_part(
-        alloc,
-        source,
-        index,
-        key,
-        Part { entries, span },
-        start.room,
-    )
+    read_part(alloc, source, index, key, Part { entries, span }, room)
 }
 
 /// Begins before the first row of the table.
-fn begin<S: PageSource>(alloc: Global, source: &mut S, table: u32) -> Result<Rows, IndexError>
+pub(crate) fn begin<S: PageSource>(
+    alloc: Global,
+    source: &mut S,
+    table: u32,
+) -> Result<Rows, IndexError>
     ensures ok { S.gives_pages source.old
         → IfOk result (λ rows. IsCursor (S.pages source.old) table rows []) }
     ensures err { S.gives_pages source.old → (index limit : ℕ) (key : SpecKey)
@@ -65,6 +70,25 @@ fn begin<S: PageSource>(alloc: Global, source: &mut S, table: u32) -> Result<Row
     match Rows::new(alloc, source, table) {
         Ok(rows) => Ok(rows),
         Err(refusal) => Err(IndexError::Table(refusal)),
+    }
+}
+
+/// The rows from the first range on, of which some may have been given already.
+fn first_rows<S: PageSource>(
+    alloc: Global,
+    source: &mut S,
+    table: u32,
+    stage: Stage,
+    rows: Rows,
+) -> Result<Rows, IndexError>
+    requires sized { S.size source.old ≡ rows.walk.cells.size }
+    ensures are { S.gives_pages source.old → AreFirstRows (S.pages source.old) table stage rows result }
+    ensures size { IfOk result (λ new. new.walk.cells.size ≡ S.size source.old) }
+    ensures keeps { KeepsPages S.pages S.size S.reads_right S.gives_pages source.old source.new }
+{
+    match stage {
+        Stage::InStep | Stage::InRange => Ok(rows),
+        Stage::Lost => begin(alloc, source, table),
     }
 }
 
@@ -109,17 +133,19 @@ pub(crate) fn match_spans<S: PageSource>(
     key: &IndexKey,
     start: Start,
 ) -> Result<(), IndexError>
-    ensures ok { S.gives_pages source.old → StartsIndex (S.pages source.old) index key.now start
+    requires sized { S.size source.old ≡ start.rows.walk.cells.size }
+    ensures ok { S.gives_pages source.old → StartsIndex (S.pages source.old) table index key.now start
         → (xs : List Stored) → HasEntries (S.pages source.old) index xs
         → AreSoundEntries key.now xs → OnOk result (IsMatched (S.pages source.old) table key.now xs) }
-    ensures err { S.gives_pages source.old → StartsIndex (S.pages source.old) index key.now start
+    ensures err { S.gives_pages source.old → StartsIndex (S.pages source.old) table index key.now start
         → (xs : List Stored) → HasEntries (S.pages source.old) index xs → AreSoundEntries key.now xs
         → IfErr result (IndexRefused (S.pages source.old) table index key.now start.room.longest) }
     ensures keeps { KeepsPages S.pages S.size S.reads_right S.gives_pages source.old source.new }
 {
     let room = start.room;
-    let mut part = first_part(alloc, source, index, key, start)?;
-    let mut matched = begin(alloc, source, table);
+    let stage = start.stage;
+    let mut part = first_part(alloc, source, index, key, start.part, stage, room)?;
+    let mut matched = first_rows(alloc, source, table, stage, start.rows);
     'spans: for _ in 0..u64::MAX {
         sort_entries(&mut part.entries)?;
         matched = match_next(source, key, &part, matched);

@@ -1,14 +1,21 @@
 //! The rules on the entries of an index alone, one after another (fileformat2, 2.4).
-ghost use Rattle.std.specs.Prelude.{◌≡◌, ◌++◌, ◌∷◌, [], List, IfOk, IfErr, OnOk, option_map};
+ghost use Rattle.std.specs.Prelude.{◌≡◌, ◌++◌, ◌∷◌, [], ℕ, List, IfOk, IfErr, OnOk, IsTrue, option_map};
+ghost use Rattle.std.specs.declared.cmp.Ordering.TheVariants.{Equal};
+ghost use Rattle.sqlite_record.specs.Record.{decode};
+ghost use Rattle.sqlite_value.specs.Keys.{entry_cmp};
 ghost use Rattle.sqpage.specs.Source.{KeepsPages};
+ghost use Rattle.sqindex.specs.Keys.{entry_for, rowid_of, IsKeyed};
+ghost use Rattle.sqindex.specs.Rules.{width};
 ghost use Rattle.sqindex.specs.Stored.{Stored};
 ghost use Rattle.sqindex.specs.internal.KeyedScanning.{IsBefore};
 ghost use Rattle.sqindex.specs.internal.Reading.{stored_of};
 ghost use Rattle.sqindex.specs.internal.Streaming.{HasRowid, MayStand, MayNotStand, IsStream, StreamEnds};
-ghost use Rattle.sqindex.specs.internal.Streaming.{IsStartOf, StartsIndex, StreamRefused};
+ghost use Rattle.sqindex.specs.internal.Streaming.{StreamRefused};
+ghost use Rattle.sqindex.specs.internal.Stepping.{StepsOn, HoldsOn, IsStartOf, StartsIndex};
+ghost use Rattle.sqindex.specs.internal.RowsGiven.{IsCursor};
 ghost use Rattle.sqindex.specs.internal.Held.{plain};
-ghost use Rattle.sqkeys.specs.declared.key.IndexKey.{IndexKey as SpecKey};
 
+use crate::compare::compare_entry;
 use crate::entries::Entries;
 use crate::error::{EntryError, IndexError, ReadError};
 use crate::fault::IndexFault;
@@ -17,18 +24,33 @@ use crate::keyed_rows::{held, keep};
 use crate::order::judge_next;
 use crate::part::{Part, gather};
 use crate::room::Room;
-use crate::span::Span;
+use crate::rows::Rows;
+use crate::span::{Span, is_passed};
 use crate::walk::{Found, Walk};
 use sqkeys::IndexKey;
 use sqpage::PageSource;
 use std::alloc::Global;
+use std::cmp::Ordering;
 
-/// How many entries an index has, and those of a range from the first rowid on, as far as they are held.
+/// What is known of the entries of an index so far beside the rows of its table.
+#[derive(Clone, Copy, Debug)]
+pub(crate) enum Stage {
+    /// They are those of the first rows, in their order.
+    InStep,
+    /// The first of them are those of the first rows, and of the others those of a range behind are held.
+    InRange,
+    /// Nothing.
+    Lost,
+}
+
+/// How many entries an index has, those of a range as far as they are held, and the rows of the table behind those
+/// whose entries were found before.
 #[derive(Drop)]
 pub(crate) struct Start {
     pub(crate) many: u64,
     pub(crate) part: Part,
-    pub(crate) held: bool,
+    pub(crate) rows: Rows,
+    pub(crate) stage: Stage,
     /// What there is room for in the ranges behind.
     pub(crate) room: Room,
 }
@@ -80,21 +102,116 @@ fn see(
     }
 }
 
-/// Goes on with the entries of the first range, where those before are held, and this one has a rowid.
-fn gather_first(alloc: Global, start: &mut Start, found: Found, rowid: Option<i64>, entry: &[u8])
-    ensures starts { (key : SpecKey) (xs : List Stored) → HasRowid key entry.now rowid
-        → IsStartOf key start.old.part start.old.held xs
-        → IsStartOf key start.new.part start.new.held (xs ++ plain found entry.now ∷ []) }
-    ensures room { start.new.room ≡ start.old.room }
+/// Whether an entry that has this rowid is that of a row.
+fn is_of(key: &IndexKey, found: Found, row: &[u8], rowid: i64, entry: &[u8]) -> bool
+    ensures { IsTrue result → (rowid_of (stored_of found row.now) ≡ rowid) × (entry_cmp key.now.order
+        (entry_for key.now.columns.items rowid (decode row.now)) (decode entry.now) ≡ Equal) }
 {
-    if !start.held {
-        return;
+    found.rowid == Some(rowid) && compare_entry(key, rowid, row, entry) == Ordering::Equal
+}
+
+/// Goes on by one row, where it is the one of an entry that has this rowid. InRange where it isn't, and the row is left
+/// for later; Lost where no row can be read.
+fn step<S: PageSource>(
+    source: &mut S,
+    key: &IndexKey,
+    rows: &mut Rows,
+    rowid: i64,
+    entry: &[u8],
+) -> Stage
+    requires sized { S.size source.old ≡ rows.old.walk.cells.size }
+    ensures goes { S.gives_pages source.old → (table : ℕ) (given : List Stored)
+        → IsCursor (S.pages source.old) table rows.old given
+        → StepsOn (S.pages source.old) table key.now rowid entry.now given rows.new result }
+    ensures size { rows.new.walk.cells.size ≡ rows.old.walk.cells.size }
+    ensures keeps { KeepsPages S.pages S.size S.reads_right S.gives_pages source.old source.new }
+{
+    let found = match rows.look(source) {
+        Ok(Some(found)) => found,
+        Ok(None) => return Stage::InRange,
+        Err(_) => return Stage::Lost,
+    };
+    if !is_of(key, found, &rows.walk.payload, rowid, entry) {
+        return Stage::InRange;
     }
+    rows.pass();
+    Stage::InStep
+}
+
+/// Goes on with the entries of a range, where those before are held. Lost where this one isn't behind what was passed,
+/// or isn't held.
+fn hold(alloc: Global, part: &mut Part, found: Found, rowid: i64, entry: &[u8], held: u64) -> Stage
+    ensures { HoldsOn part.old found rowid entry.now part.new result }
+{
+    if is_passed(part.span.above, rowid) {
+        return Stage::Lost;
+    }
+    match gather(alloc, part, found, rowid, entry, held) {
+        Ok(()) => Stage::InRange,
+        Err(_) => Stage::Lost,
+    }
+}
+
+/// Goes on with an entry that has this rowid.
+fn go_on<S: PageSource>(
+    source: &mut S,
+    key: &IndexKey,
+    start: &mut Start,
+    found: Found,
+    rowid: i64,
+    entry: &[u8],
+) -> Stage
+    requires sized { S.size source.old ≡ start.old.rows.walk.cells.size }
+    requires keyed { IsKeyed (width key.now) rowid (decode entry.now) }
+    ensures starts { S.gives_pages source.old → (table : ℕ) (xs : List Stored)
+        → IsStartOf (S.pages source.old) table key.now start.old.stage start.old.part start.old.rows xs
+        → IsStartOf (S.pages source.old) table key.now result start.new.part start.new.rows
+        (xs ++ plain found entry.now ∷ []) }
+    ensures room { start.new.room ≡ start.old.room }
+    ensures size { start.new.rows.walk.cells.size ≡ start.old.rows.walk.cells.size }
+    ensures keeps { KeepsPages S.pages S.size S.reads_right S.gives_pages source.old source.new }
+{
+    let alloc = start.rows.walk.alloc;
+    let held = start.room.held;
+    match start.stage {
+        Stage::Lost => Stage::Lost,
+        Stage::InRange => hold(alloc, &mut start.part, found, rowid, entry, held),
+        Stage::InStep => match step(source, key, &mut start.rows, rowid, entry) {
+            Stage::Lost => Stage::Lost,
+            Stage::InRange => hold(alloc, &mut start.part, found, rowid, entry, held),
+            Stage::InStep => {
+                start.part.span = Span::behind(rowid);
+                Stage::InStep
+            }
+        },
+    }
+}
+
+/// Goes on with an entry that has this rowid, or none.
+fn take<S: PageSource>(
+    source: &mut S,
+    key: &IndexKey,
+    start: &mut Start,
+    found: Found,
+    rowid: Option<i64>,
+    entry: &[u8],
+)
+    requires sized { S.size source.old ≡ start.old.rows.walk.cells.size }
+    requires keyed { HasRowid key.now entry.now rowid }
+    ensures starts { S.gives_pages source.old → (table : ℕ) (xs : List Stored)
+        → IsStartOf (S.pages source.old) table key.now start.old.stage start.old.part start.old.rows xs
+        → IsStartOf (S.pages source.old) table key.now start.new.stage start.new.part start.new.rows
+        (xs ++ plain found entry.now ∷ []) }
+    ensures room { start.new.room ≡ start.old.room }
+    ensures size { start.new.rows.walk.cells.size ≡ start.old.rows.walk.cells.size }
+    ensures keeps { KeepsPages S.pages S.size S.reads_right S.gives_pages source.old source.new }
+{
     let Some(rowid) = rowid else {
-        start.held = false;
+        start.stage = Stage::Lost;
         return;
     };
-    start.held = gather(alloc, &mut start.part, found, rowid, entry, start.room.held).is_ok();
+    let stage = go_on(source, key, start, found, rowid, entry);
+    start.stage = stage;
 }
 
 /// What is told behind the last entry: the first fault, or how many there are, whose payloads have so many bytes.
@@ -114,19 +231,23 @@ fn end(
     Ok(start)
 }
 
-/// Judges the entries of an index by themselves, counts them, and holds those of a range, as many as there is room for.
-/// Refused by the first one, in the index's order, that EntryForm, EntryOrder or KeyTwice stands at, and where they
-/// can't be read. It holds the payloads of two beside.
+/// Judges the entries of an index by themselves, counts them, and goes along the rows of the table, of which none was
+/// given yet, as long as the entries are theirs. Behind these it holds the entries of a range, as many as there is room
+/// for. Refused by the first one, in the index's order, that EntryForm, EntryOrder or KeyTwice stands at, and where
+/// they can't be read. It holds the payloads of two beside.
 pub(crate) fn order_index<S: PageSource>(
     alloc: Global,
     source: &mut S,
     index: u32,
     key: &IndexKey,
     limit: u64,
+    rows: Rows,
 ) -> Result<Start, IndexError>
-    ensures ok { S.gives_pages source.old
-        → IfOk result (StartsIndex (S.pages source.old) index key.now) }
-    ensures room { IfOk result (λ start. start.room.longest ≡ limit) }
+    requires sized { S.size source.old ≡ rows.walk.cells.size }
+    ensures ok { S.gives_pages source.old → (table : ℕ) → IsCursor (S.pages source.old) table rows []
+        → IfOk result (StartsIndex (S.pages source.old) table index key.now) }
+    ensures room { IfOk result (λ start. (start.room.longest ≡ limit)
+        × (start.rows.walk.cells.size ≡ S.size source.old)) }
     ensures err { S.gives_pages source.old
         → IfErr result (StreamRefused (S.pages source.old) index key.now limit) }
     ensures keeps { KeepsPages S.pages S.size S.reads_right S.gives_pages source.old source.new }
@@ -137,7 +258,8 @@ pub(crate) fn order_index<S: PageSource>(
     let mut start = Start {
         many: 0,
         part: Part { entries, span },
-        held: true,
+        rows,
+        stage: Stage::InStep,
         room,
     };
     let mut fault = None;
@@ -159,7 +281,7 @@ pub(crate) fn order_index<S: PageSource>(
         }
         let rowid = rowid_in(&walk.payload, key.columns.len());
         fault = see(key, fault, held(some, &before), found, rowid, &walk.payload);
-        gather_first(alloc, &mut start, found, rowid, &walk.payload);
+        take(source, key, &mut start, found, rowid, &walk.payload);
         bytes = bytes.saturating_add(walk.payload.len() as u64);
         some = true;
         keep(&mut before, &mut walk);

@@ -4,10 +4,11 @@ use Rattle.sqindex.specs.declared.entries.Held.{Held}
 use Rattle.sqindex.specs.declared.entries.Entries.{Entries}
 use Rattle.sqindex.specs.declared.walk.Found.{Found}
 use Rattle.sqindex.specs.Stored.{Stored}
+use Rattle.sqindex.specs.internal.Bodies.{start_in, size_in}
 
 -- the payload of an entry: one of at most 16 bytes lies in it, others in these bytes
 abbrev pub payload_in : List ℕ → Held → List ℕ
-payload_in bytes held = (if nat_le held.size 16 then take held.size held.body else take held.size (drop held.start bytes))
+payload_in bytes held = (if nat_le held.size 16 then take held.size held.body else take (size_in held.body) (drop (start_in held.body) bytes))
 
 -- an entry whose payload lies there
 abbrev pub held_in : List ℕ → Held → Stored

@@ -10,13 +10,15 @@ use Rattle.sqindex.specs.declared.error.IndexError.TheVariants as errors
 use Rattle.sqindex.specs.declared.join.Join.{Join}
 use Rattle.sqindex.specs.declared.part.Part.{Part}
 use Rattle.sqindex.specs.declared.rows.Rows.{Rows}
+use Rattle.sqindex.specs.declared.stream.Stage.{Stage}
+use Rattle.sqindex.specs.declared.stream.Stage.TheVariants.{Lost}
 use Rattle.sqindex.specs.Stored.{Stored}
 use Rattle.sqindex.specs.Rules.{Rise, HasKeyedRows, Match}
 use Rattle.sqindex.specs.Indexes.{ReadRefused, NoRows, IndexRefused}
 use Rattle.sqindex.specs.internal.Held.{held_by}
 use Rattle.sqindex.specs.internal.Judging.{AreByRowid}
 use Rattle.sqindex.specs.internal.Joining.{IsJoined, EndTells, BothRefused}
-use Rattle.sqindex.specs.internal.RowsGiven.{IsReadTo}
+use Rattle.sqindex.specs.internal.RowsGiven.{IsCursor, IsReadTo}
 use Rattle.sqindex.specs.internal.Spans.{rows_in, rows_to, entries_to}
 
 -- It was so of the rows of the range before a row, and is so with it.
@@ -54,12 +56,27 @@ abbrev pub MatchesNext : Database → (table : ℕ) → IndexKey → Part → (o
 MatchesNext d table key part (Ok rows) new = IsReadTo d table part.span.above rows → MatchResult new (IsMatchedTo d table key part) (MatchRefusedIn d table key part)
 MatchesNext d table key part (Err e) new = new ≡ Err e
 
--- The entries up to this rowid are those of the table's rows, which were given so far; or this was found.
-abbrev pub AreMatchedTo : Database → (table index : ℕ) → IndexKey → (limit : ℕ) → (above : Option ℤ) → (xs : List Stored) → Result Rows IndexError → Type 0
-AreMatchedTo d table index key limit above xs (Ok cursor) =
+-- The entries up to this rowid are those of the table's rows, which were given so far.
+abbrev pub AreMatchedBy : Database → (table : ℕ) → IndexKey → (above : Option ℤ) → (xs : List Stored) → Rows → Type 0
+AreMatchedBy d table key above xs cursor =
     IsReadTo d table above cursor × ((rows : List Stored) → HasKeyedRows d table rows → Match key (rows_to above rows) (entries_to key above xs))
+
+-- The same; or this was found.
+abbrev pub AreMatchedTo : Database → (table index : ℕ) → IndexKey → (limit : ℕ) → (above : Option ℤ) → (xs : List Stored) → Result Rows IndexError → Type 0
+AreMatchedTo d table index key limit above xs (Ok cursor) = AreMatchedBy d table key above xs cursor
 AreMatchedTo d table index key limit above xs (Err e) = IndexRefused d table index key limit e
 
 -- The entries are those of the rows of the table.
 abbrev pub IsMatched : Database → (table : ℕ) → IndexKey → List Stored → Type 0
 IsMatched d table key xs = (rows : List Stored) × HasKeyedRows d table rows × Match key rows xs
+
+-- The first range: what was held, or a new one from the first rowid on.
+abbrev pub IsFirstPart : Stage → (old new : Part) → Type 0
+IsFirstPart Lost old new = new.span.above ≡ None
+IsFirstPart _ old new = new ≡ old
+
+-- The rows from the first range on: what is left of them, or all.
+abbrev pub AreFirstRows : Database → (table : ℕ) → Stage → (old : Rows) → (new : Result Rows IndexError) → Type 0
+AreFirstRows d table Lost old new =
+    MatchResult new (λ rows. IsCursor d table rows []) (λ e. (index limit : ℕ) (key : IndexKey) → IndexRefused d table index key limit e)
+AreFirstRows d table _ old new = new ≡ Ok old

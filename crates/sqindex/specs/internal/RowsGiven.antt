@@ -47,3 +47,8 @@ GivesTo d table last new given (Some found) =
 -- The cursor has given rows of the table up to this rowid.
 abbrev pub IsReadTo : Database → (table : ℕ) → (above : Option ℤ) → Rows → Type 0
 IsReadTo d table above rows = (given : List Stored) × IsCursor d table rows given × ((i : ℕ) (row : Stored) → slice_get given i ≡ Some row → passed above (rowid_of row) ≡ true)
+
+-- The row that comes next was left for later.
+abbrev pub LooksAt : Option Found → Ahead → Type 0
+LooksAt None ahead = Unit {0}
+LooksAt (Some found) ahead = ahead ≡ Row found

@@ -70,10 +70,6 @@ KeepsTo last old new = (key : IndexKey) → AllZip (IsNumberOf key) old.list.ite
 abbrev pub IsOpen : Span → Type 0
 IsOpen span = (b : ℤ) → span.last ≡ Some b → passed span.above b ≡ false
 
--- The first range: nothing was passed.
-abbrev pub IsFirst : Span → Type 0
-IsFirst span = (span.above ≡ None) × IsOpen span
-
 -- A range that begins where another one does, and ends where that does or sooner.
 abbrev pub GoesOn : (old new : Span) → Type 0
 GoesOn old new = (new.above ≡ old.above) × (IsOpen old → IsOpen new)

@@ -1,5 +1,5 @@
 -- Words of the function that takes the entries of an index one after another (own). No public contract cites them.
-use Rattle.std.specs.Prelude.{◌≡◌, ◌⊎◌, ℕ, Bool, true, List, length, slice_get, Option, Some, None, Result, MatchOption, MatchResult, ℤ}
+use Rattle.std.specs.Prelude.{◌≡◌, ◌⊎◌, ℕ, true, List, length, slice_get, Option, Some, None, Result, MatchOption, MatchResult, ℤ}
 use Rattle.sqval.specs.Database.{Database}
 use Rattle.sqlite_record.specs.Record.{decode}
 use Rattle.sqkeys.specs.declared.key.IndexKey.{IndexKey}
@@ -8,14 +8,12 @@ use Rattle.sqindex.specs.declared.error.IndexError.{IndexError}
 use Rattle.sqindex.specs.declared.error.IndexError.TheVariants as errors
 use Rattle.sqindex.specs.declared.fault.IndexFault.{IndexFault}
 use Rattle.sqindex.specs.declared.fault.IndexFault.TheVariants as faults
-use Rattle.sqindex.specs.declared.part.Part.{Part}
 use Rattle.sqindex.specs.declared.stream.Start.{Start}
 use Rattle.sqindex.specs.Stored.{Stored}
 use Rattle.sqindex.specs.Keys.{IsKeyed}
 use Rattle.sqindex.specs.Rules.{width, HasEntries}
 use Rattle.sqindex.specs.Indexes.{EntryRefused, ReadRefused, NoEntries}
 use Rattle.sqindex.specs.internal.Judging.{IsBehind, NotBehind, AreSoundEntries}
-use Rattle.sqindex.specs.internal.Spans.{IsFirst, AreOfSpan}
 
 -- It is keyed by this rowid, or by none.
 abbrev pub HasRowid : IndexKey → (entry : List ℕ) → (rowid : Option ℤ) → Type 0
@@ -52,16 +50,8 @@ StreamRefused d index key limit (errors.Index e) = ReadRefused d index limit (No
 StreamRefused d index key limit (errors.Entry e) = (xs : List Stored) × HasEntries d index xs × StandsAmong key xs e
 StreamRefused d index key limit _ = ⊥
 
--- Of these entries those of the first range are held, if any are.
-abbrev pub IsStartOf : IndexKey → Part → (held : Bool) → List Stored → Type 0
-IsStartOf key part held xs = held ≡ true → IsFirst part.span × AreOfSpan key part.span part.entries xs
-
--- The index has so many entries, they are sound by themselves, and those of the first range are held, if any are.
-abbrev pub StartsIndex : Database → (index : ℕ) → IndexKey → Start → Type 0
-StartsIndex d index key start = (xs : List Stored) × HasEntries d index xs × AreSoundEntries key xs × (length xs ≡ start.many) × IsStartOf key start.part start.held xs
-
 -- what is told behind the last entry
 abbrev pub StreamEnds : Option EntryError → Start → (many : ℕ) → Result Start IndexError → Type 0
 StreamEnds fault old many result = MatchResult result
-    (λ new. (fault ≡ None) × (new.many ≡ many) × (new.part ≡ old.part) × (new.held ≡ old.held) × (new.room.longest ≡ old.room.longest))
+    (λ new. (fault ≡ None) × (new.many ≡ many) × (new.part ≡ old.part) × (new.rows ≡ old.rows) × (new.stage ≡ old.stage) × (new.room.longest ≡ old.room.longest))
     (λ e. (f : EntryError) × (fault ≡ Some f) × (e ≡ errors.Entry f))

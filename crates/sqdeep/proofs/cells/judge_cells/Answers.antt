@@ -13,9 +13,9 @@ cells-init g c = record { sound = λ right i cell lt at. absurd (omega (arith, l
 
 pub judge_cell-requires-clause-cell : goal.judge_cell-requires-clause-cell
 judge_cell-requires-clause-cell g c = record {
-  least = c.cell-cell.ensures.least;
-  most = (let u = c.cell-cell.ensures.cell.usable in omega (arith, u, c.requires.most));
-  part = c.cell-cell.ensures.part;
+  least = c.cell_with-cell.ensures.least;
+  most = (let u = c.cell_with-cell.ensures.cell.usable in omega (arith, u, c.requires.most));
+  part = c.cell_with-cell.ensures.part;
 }
 
 pub cells-preserved : goal.cells-preserved
@@ -24,8 +24,8 @@ cells-preserved g c =
     record {
       sound = λ right.
           let lt : c.cells.i < cell_count c.args.page.now = omega (arith, c.len-i-end.ensures, c.cells-test.true) in
-          cells_more d c.args.page.now c.cells.i c.cell-cell.result (c.cells.invariant.sound right) (lt, c.cell-cell.ensures.cell)
-          (subst (λ (n : Encoding). IsSoundCell n d c.cell-cell.result) (c.requires.encoding right) (c.in_ok-judge_cell.ensures.ok right));
+          cells_more d c.args.page.now c.cells.i c.cell_with-cell.result (c.cells.invariant.sound right) (lt, c.cell_with-cell.ensures.cell)
+          (subst (λ (n : Encoding). IsSoundCell n d c.cell_with-cell.result) (c.requires.encoding right) (c.in_ok-judge_cell.ensures.ok right));
       same = c.judge_cell.ensures.same;
     }
 
@@ -38,10 +38,10 @@ pub returns-in_err-judge_cell-clause-err : goal.returns-in_err-judge_cell-clause
 returns-in_err-judge_cell-clause-err g c = λ right kind root e w.
     let d = g.V.Snapshot.pages in
     let p : ℕ = c.args.page.now.number in
-    let cell = c.cell-cell.result in
+    let cell = c.cell_with-cell.result in
     let fault = c.in_err-judge_cell.field-0.0 in
     let lt : c.cells.i < cell_count c.args.page.now = omega (arith, c.len-i-end.ensures, c.cells-test.true) in
-    let is : IsCellAt (page_as d kind p) c.cells.i cell = subst (λ b. IsCellAt b c.cells.i cell) e (lt, c.cell-cell.ensures.cell) in
+    let is : IsCellAt (page_as d kind p) c.cells.i cell = subst (λ b. IsCellAt b c.cells.i cell) e (lt, c.cell_with-cell.ensures.cell) in
     let has = w.payloads c.cells.i cell is in
     exits (Tells g.V.Snapshot.given d) fault c.from_residual.result c.from_residual.ensures.1
     (cell_told g.V.Snapshot.given d kind root p c.cells.i cell fault w.of_tree is

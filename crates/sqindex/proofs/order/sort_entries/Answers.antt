@@ -20,7 +20,7 @@ returns-in-Some-clause-err c = λ key each.
     let moved = sorted_same key old new c.sort.ensures.bytes c.sort.ensures.same each in
     let ps = new.list.items in
     let i = c.in-Some.i in
-    let none : Held = record { rowid = pos 0; start = 0; size = 0; page = 0; cell = 0; body = [] } in
+    let none : Held = record { rowid = pos 0; page = 0; cell = 0; size = 0; body = [] } in
     let tie = subst (λ (z : List Held). IsTie z i) c.deref.ensures.value c.in-Some.ensures in
     let p = get_or ps i none in
     let q = get_or ps (i + 1) none in

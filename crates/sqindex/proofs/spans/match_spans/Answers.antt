@@ -7,23 +7,26 @@ use Rattle.sqcheck.proofs.checks.ResultsOfCalls.{exits}
 use Rattle.sqindex.specs.Stored.{Stored}
 use Rattle.sqindex.specs.Rules.{HasEntries}
 use Rattle.sqindex.specs.Indexes.{IndexRefused}
-use Rattle.sqindex.specs.internal.Matching.{MatchesNext, AreMatchedTo}
+use Rattle.sqindex.specs.internal.Matching.{MatchesNext, AreMatchedTo, AreFirstRows}
 use Rattle.sqindex.specs.internal.Parts.{IsPart, PartRefused}
-use Rattle.sqindex.specs.internal.RowsGiven.{IsCursor}
-use Rattle.sqindex.specs.internal.Spans.{passed, IsOpen}
-use Rattle.sqindex.specs.internal.Streaming.{StartsIndex}
+use Rattle.sqindex.specs.internal.Stepping.{IsStartOf}
+use Rattle.sqindex.proofs.CellsTaken.{has_once}
 use Rattle.sqindex.proofs.EntriesInSpans.{each_numbered, twice_of_all}
-use Rattle.sqindex.proofs.RangesMatched.{part_refused, begun, span_matched, next_matched, all_matched, end_refused}
+use Rattle.sqindex.proofs.RowsInStep.{begun_at}
+use Rattle.sqindex.proofs.RangesMatched.{part_refused, span_matched, next_matched, all_matched, end_refused}
 use Rattle.sqindex.proofs.spans.match_spans.Goals as goal
 
 if_ok : {P Q : Rows → Type 0} (r : Result Rows IndexError) → IfOk r P → ((new : Rows) → P new → Q new) → IfOk r Q
 if_ok (Ok x) h f = f x h
 if_ok (Err e) h f = tt
 
+pub first_rows-matched-requires : goal.first_rows-matched-requires
+first_rows-matched-requires g c = record { sized = c.in_ok-part.ensures.keeps.same_size ∙ c.requires.sized }
+
 pub spans-init : goal.spans-init
 spans-init g c =
     let first = c.in_ok-part.ensures in
-    let b = c.begin-matched.ensures in
+    let b = c.first_rows-matched.ensures in
     record {
       kept = record {
         still_right = λ right. b.keeps.still_right (first.keeps.still_right right);
@@ -31,18 +34,19 @@ spans-init g c =
         same_pages = b.keeps.same_pages ∙ first.keeps.same_pages;
         same_size = b.keeps.same_size ∙ first.keeps.same_size;
       };
-      sized = if_ok c.begin-matched.result b.size (λ new is. is ∙ first.keeps.same_size);
+      sized = if_ok c.first_rows-matched.result b.size (λ new is. is ∙ first.keeps.same_size);
       to = λ gives starts.
           let d = g.S.PageSource.pages c.args.source.now in
+          let key = c.args.key.now in
           let part = c.in_ok-part.part in
-          let limit = c.args.start.room.longest in
-          let p = first.ok gives starts in
-          let still = first.keeps.still_gives gives in (
+          let start = c.args.start in
+          let p = first.ok gives c.args.table start.rows starts.0 starts.1 starts.4 in
+          let rows = subst (λ (d : Database). AreFirstRows d c.args.table start.stage start.rows c.first_rows-matched.result) first.keeps.same_pages (b.are (first.keeps.still_gives gives)) in (
             p.0,
-            p.1.1,
-            λ xs has sound. begun d c.args.table c.args.index c.args.key.now limit xs has part.span.above c.begin-matched.result p.1.0
-                (subst (λ (d : Database). IfOk c.begin-matched.result (λ rows. IsCursor d c.args.table rows [])) first.keeps.same_pages (b.ok still))
-                (subst (λ (d : Database). IfErr c.begin-matched.result (IndexRefused d c.args.table c.args.index c.args.key.now limit)) first.keeps.same_pages (b.err still c.args.index limit c.args.key.now)),
+            p.1,
+            λ xs has sound.
+                let mine = subst (IsStartOf d c.args.table key start.stage start.part start.rows) (sym (has_once d c.args.index starts.0 xs starts.1.stored has.stored)) starts.4 in
+                begun_at d c.args.table c.args.index key start.room.longest xs has start.part part start.rows c.first_rows-matched.result start.stage mine p.2 rows,
           );
     }
 

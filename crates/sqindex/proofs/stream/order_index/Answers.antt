@@ -11,7 +11,9 @@ use Rattle.sqindex.specs.declared.error.EntryError.{EntryError}
 use Rattle.sqindex.specs.declared.error.IndexError.{IndexError}
 use Rattle.sqindex.specs.declared.error.IndexError.TheVariants as errors
 use Rattle.sqindex.specs.declared.part.Part.{Part}
+use Rattle.sqindex.specs.declared.rows.Rows.{Rows}
 use Rattle.sqindex.specs.declared.room.Room.{Room}
+use Rattle.sqindex.specs.declared.stream.Stage.{Stage}
 use Rattle.sqindex.specs.declared.stream.Start.{Start}
 use Rattle.sqindex.specs.declared.walk.Found.{Found}
 use Rattle.sqindex.specs.Stored.{Stored}
@@ -19,13 +21,14 @@ use Rattle.sqindex.specs.Rules.{HasEntries}
 use Rattle.sqindex.specs.Indexes.{ReadRefused, NoEntries}
 use Rattle.sqindex.specs.internal.Reading.{stored_of, WalkMoves, WalkRefused}
 use Rattle.sqindex.specs.internal.KeyedScanning.{IsBefore, ArePlain}
+use Rattle.sqindex.specs.internal.RowsGiven.{IsCursor}
 use Rattle.sqindex.specs.internal.Held.{plain}
-use Rattle.sqindex.specs.internal.Spans.{passed}
-use Rattle.sqindex.specs.internal.Streaming.{HasRowid, IsStream, StreamEnds, IsStartOf, StartsIndex, StreamRefused}
+use Rattle.sqindex.specs.internal.Stepping.{IsStartOf, StartsIndex}
+use Rattle.sqindex.specs.internal.Streaming.{HasRowid, IsStream, StreamEnds, StreamRefused}
 use Rattle.sqindex.proofs.CellsTaken.{none_taken, one_taken, unread}
 use Rattle.sqindex.proofs.EntriesRead.{stored_plain, other_kind}
-use Rattle.sqindex.proofs.EntriesInSpans.{none_gathered}
 use Rattle.sqindex.proofs.EntriesStreamed.{none_streamed}
+use Rattle.sqindex.proofs.RowsInStep.{none_in_step}
 use Rattle.sqindex.proofs.Places.{get_here}
 use Rattle.sqindex.proofs.KeyedScanned.{none_plain, one_plain, all_plain}
 use Rattle.sqindex.proofs.stream.order_index.Goals as goal
@@ -45,15 +48,22 @@ keyed_as key n rowid entry same many is h =
     subst (λ (b : List ℕ). HasRowid key b rowid) is (subst (λ (n : ℕ). MatchOption rowid ((r : ℤ) → ¬ IsKeyed n r (decode entry)) (λ r. IsKeyed n r (decode entry))) many h)
 
 -- what is told behind the last entry
-ended_ok : (d : Database) (index : ℕ) (key : IndexKey) (xs : List Stored) (fault : Option EntryError) (old : Start) (many : ℕ) (result : Result Start IndexError) → HasEntries d index xs → IsStream key xs fault → length xs ≡ many
-    → IsStartOf key old.part old.held xs → StreamEnds fault old many result → IfOk result (StartsIndex d index key)
-ended_ok d index key xs fault old many (Ok start) has w long s h =
-    (xs, has, subst (IsStream key xs) h.0 w, long ∙ sym h.1, subst (λ (b : Bool). IsStartOf key start.part b xs) (sym h.3) (subst (λ (p : Part). IsStartOf key p old.held xs) (sym h.2) s))
-ended_ok d index key xs fault old many (Err e) has w long s h = tt
+ended_ok : (d : Database) (table index : ℕ) (key : IndexKey) (xs : List Stored) (fault : Option EntryError) (old : Start) (many : ℕ) (result : Result Start IndexError) → HasEntries d index xs → IsStream key xs fault → length xs ≡ many
+    → IsStartOf d table key old.stage old.part old.rows xs → StreamEnds fault old many result → IfOk result (StartsIndex d table index key)
+ended_ok d table index key xs fault old many (Ok start) has w long s h = (
+  xs,
+  has,
+  subst (IsStream key xs) h.0 w,
+  long ∙ sym h.1,
+  subst (λ (b : Stage). IsStartOf d table key b start.part start.rows xs) (sym h.4)
+      (subst (λ (r : Rows). IsStartOf d table key old.stage start.part r xs) (sym h.3) (subst (λ (p : Part). IsStartOf d table key old.stage p old.rows xs) (sym h.2) s)),
+)
+ended_ok d table index key xs fault old many (Err e) has w long s h = tt
 
-ended_room : (limit : ℕ) (fault : Option EntryError) (old : Start) (many : ℕ) (result : Result Start IndexError) → old.room.longest ≡ limit → StreamEnds fault old many result → IfOk result (λ start. start.room.longest ≡ limit)
-ended_room limit fault old many (Ok start) is h = h.4 ∙ is
-ended_room limit fault old many (Err e) is h = tt
+ended_room : (limit size : ℕ) (fault : Option EntryError) (old : Start) (many : ℕ) (result : Result Start IndexError) → old.room.longest ≡ limit → old.rows.walk.cells.size ≡ size → StreamEnds fault old many result
+    → IfOk result (λ start. (start.room.longest ≡ limit) × (start.rows.walk.cells.size ≡ size))
+ended_room limit size fault old many (Ok start) is sized h = (h.5 ∙ is, ap (λ (r : Rows). r.walk.cells.size) h.3 ∙ sized)
+ended_room limit size fault old many (Err e) is sized h = tt
 
 ended_err : (d : Database) (index : ℕ) (key : IndexKey) (limit : ℕ) (xs : List Stored) (fault : Option EntryError) (old : Start) (many : ℕ) (result : Result Start IndexError) → HasEntries d index xs → IsStream key xs fault
     → StreamEnds fault old many result → IfErr result (StreamRefused d index key limit)
@@ -72,6 +82,7 @@ turns-init g c =
       sized = e.size.0;
       limited = e.size.1;
       roomy = c.of-room.ensures;
+      beside = sym c.requires.sized;
       over = λ gives. (e.ok gives).0;
       seen = λ gives. (
         [],
@@ -79,25 +90,23 @@ turns-init g c =
         none_streamed c.args.key.now,
         refl,
         refl,
-        λ held. (
-          (c.all-span.ensures.0, λ b is. ap (λ (a : Option ℤ). passed a b) c.all-span.ensures.0),
-          none_gathered c.args.key.now c.all-span.result c.new-entries.result c.new-entries.ensures,
-        ),
+        λ table cursor. none_in_step d table c.args.key.now (record { entries = c.new-entries.result; span = c.all-span.result }) c.args.rows cursor c.new-entries.ensures c.all-span.ensures.0 c.all-span.ensures.1,
       );
     }
 
 pub returns-in-Ok-None-clause-ok : goal.returns-in-Ok-None-clause-ok
-returns-in-Ok-None-clause-ok g c = λ gives.
+returns-in-Ok-None-clause-ok g c = λ gives table cursor.
     let d = g.S.PageSource.pages c.args.source.now in
     let i = c.turns.invariant in
     let over = subst (λ (d : Database). IsOver d c.turns.walk.cells) (sym i.kept.same_pages) (i.over gives) in
     let moves = subst (λ (f : Option Found). WalkMoves (g.S.PageSource.pages c.turns.source) c.turns.walk.cells f c.advance.new.self) c.in-Ok-None.field-0-is (c.in-Ok-None.ensures.ok (i.kept.still_gives gives) over) in
     let seen = i.seen gives in
     let has = all_plain d c.args.index c.turns.walk.cells c.advance.new.self seen.0 seen.1 (subst (λ (d : Database). WalkMoves d c.turns.walk.cells None c.advance.new.self) i.kept.same_pages moves) in
-    ended_ok d c.args.index c.args.key.now seen.0 c.turns.fault c.turns.start c.turns.i c.end.result has seen.2 seen.4 seen.5 c.end.ensures
+    ended_ok d table c.args.index c.args.key.now seen.0 c.turns.fault c.turns.start c.turns.i c.end.result has seen.2 seen.4 (seen.5 table cursor) c.end.ensures
 
 pub returns-in-Ok-None-clause-room : goal.returns-in-Ok-None-clause-room
-returns-in-Ok-None-clause-room g c = ended_room c.args.limit c.turns.fault c.turns.start c.turns.i c.end.result c.turns.invariant.roomy c.end.ensures
+returns-in-Ok-None-clause-room g c =
+    ended_room c.args.limit (g.S.PageSource.size c.args.source.now) c.turns.fault c.turns.start c.turns.i c.end.result c.turns.invariant.roomy c.turns.invariant.beside c.end.ensures
 
 pub returns-in-Ok-None-clause-err : goal.returns-in-Ok-None-clause-err
 returns-in-Ok-None-clause-err g c = λ gives.
@@ -137,6 +146,14 @@ see-fault-requires g c =
     let many : c.len.result ≡ length c.args.key.now.columns.items = grind (arith, common_steps) in
     keyed_as c.args.key.now c.len.result c.rowid_in-rowid.result c.deref.result.now c.deref-in-turns-2.result.now many (c.deref.ensures.value ∙ sym c.deref-in-turns-2.ensures.value) c.rowid_in-rowid.ensures
 
+pub take-requires-clause-sized : goal.take-requires-clause-sized
+take-requires-clause-sized g c = let i = c.turns.invariant in c.in-Ok-Some.ensures.keeps.same_size ∙ i.kept.same_size ∙ sym i.beside
+
+pub take-requires-clause-keyed : goal.take-requires-clause-keyed
+take-requires-clause-keyed g c =
+    let many : c.len.result ≡ length c.args.key.now.columns.items = grind (arith, common_steps) in
+    keyed_as c.args.key.now c.len.result c.rowid_in-rowid.result c.deref.result.now c.deref-in-turns-3.result.now many (c.deref.ensures.value ∙ sym c.deref-in-turns-3.ensures.value) c.rowid_in-rowid.ensures
+
 pub turns-preserved : goal.turns-preserved
 turns-preserved g c =
     let d = g.S.PageSource.pages c.args.source.now in
@@ -144,17 +161,19 @@ turns-preserved g c =
     let e = c.in-Ok-Some.ensures in
     let found = c.in-Ok-Some.found in
     let walk = c.advance.new.self in
+    let t = c.take.ensures in
     let k = c.keep.ensures in
     record {
       kept = record {
-        still_right = λ right. e.keeps.still_right (i.kept.still_right right);
-        still_gives = λ gives. e.keeps.still_gives (i.kept.still_gives gives);
-        same_pages = e.keeps.same_pages ∙ i.kept.same_pages;
-        same_size = e.keeps.same_size ∙ i.kept.same_size;
+        still_right = λ right. t.keeps.still_right (e.keeps.still_right (i.kept.still_right right));
+        still_gives = λ gives. t.keeps.still_gives (e.keeps.still_gives (i.kept.still_gives gives));
+        same_pages = t.keeps.same_pages ∙ e.keeps.same_pages ∙ i.kept.same_pages;
+        same_size = t.keeps.same_size ∙ e.keeps.same_size ∙ i.kept.same_size;
       };
       sized = ap (λ (z : Cells). z.size) k.same.0 ∙ e.size.0 ∙ i.sized;
       limited = k.same.1 ∙ e.size.2 ∙ i.limited;
-      roomy = ap (λ (r : Room). r.longest) c.gather_first.ensures.room ∙ i.roomy;
+      roomy = ap (λ (r : Room). r.longest) t.room ∙ i.roomy;
+      beside = t.size ∙ i.beside;
       over = λ gives. ap (λ (z : Cells). z.usable) k.same.0 ∙ e.size.1 ∙ i.over gives;
       seen = λ gives.
           let over = subst (λ (d : Database). IsOver d c.turns.walk.cells) (sym i.kept.same_pages) (i.over gives) in
@@ -166,10 +185,15 @@ turns-preserved g c =
           let held : c.deref-in-turns.result.now ≡ c.turns.before.items = c.deref-in-turns.ensures.value in
           let same : c.deref-in-turns-2.result.now ≡ walk.payload.items = c.deref-in-turns-2.ensures.value in
           let same' : c.deref-in-turns-3.result.now ≡ walk.payload.items = c.deref-in-turns-3.ensures.value in
-          let many : c.len.result ≡ length c.args.key.now.columns.items = grind (arith, common_steps) in
-          let keyed = keyed_as c.args.key.now c.len.result c.rowid_in-rowid.result c.deref.result.now c.deref-in-turns-3.result.now many (c.deref.ensures.value ∙ sym same') c.rowid_in-rowid.ensures in
           let plain' : stored_of found walk.payload.items ≡ plain found walk.payload.items = stored_plain found walk.payload.items (none_of found.rowid (sym c.is_some.ensures ∙ c.if-is_some.false)) in
-          let starts = subst (λ (b : List ℕ). IsStartOf c.args.key.now c.gather_first.new.start.part c.gather_first.new.start.held (xs ++ plain found b ∷ [])) same' (c.gather_first.ensures.starts c.args.key.now xs keyed seen.5) in
+          let pages = e.keeps.same_pages ∙ i.kept.same_pages in
+          let new = c.take.new.start in
+          let starts : (table : ℕ) → IsCursor d table c.args.rows [] → IsStartOf d table c.args.key.now new.stage new.part new.rows (xs ++ x ∷ []) = λ table cursor.
+          let old = c.turns.start in
+          let was = subst (λ (d : Database). IsStartOf d table c.args.key.now old.stage old.part old.rows xs) (sym pages) (seen.5 table cursor) in
+          let now = subst (λ (d : Database). IsStartOf d table c.args.key.now new.stage new.part new.rows (xs ++ plain found c.deref-in-turns-3.result.now ∷ [])) pages (t.starts (e.keeps.still_gives (i.kept.still_gives gives)) table xs was) in
+          subst (λ (z : Stored). IsStartOf d table c.args.key.now new.stage new.part new.rows (xs ++ z ∷ [])) (sym plain')
+          (subst (λ (b : List ℕ). IsStartOf d table c.args.key.now new.stage new.part new.rows (xs ++ plain found b ∷ [])) same' now) in
           let before = subst (IsBefore xs) (sym (c.held.ensures ∙ ap (λ (b : List ℕ). cond c.turns.some (Some b) None) held)) seen.3 in
           let streamed = c.see-fault.ensures xs before seen.2 in
           let long = seen.4 in
@@ -179,6 +203,6 @@ turns-preserved g c =
             subst (λ (b : List ℕ). IsStream c.args.key.now (xs ++ stored_of found b ∷ []) c.see-fault.result) same streamed,
             (length xs, x, grow, get_here xs x [], sym k.held),
             omega (arith, grow, long),
-            subst (λ (z : Stored). IsStartOf c.args.key.now c.gather_first.new.start.part c.gather_first.new.start.held (xs ++ z ∷ [])) (sym plain') starts,
+            starts,
           );
     }

@@ -10,18 +10,18 @@ use Rattle.sqdeep.specs.internal.Judging.{Tells, IsOfSoundTree, IsSoundPage}
 use Rattle.sqdeep.proofs.SoundTrees.{not_refused, page_same}
 use Rattle.sqdeep.proofs.judge.Judge.judge_page.Goals as goal
 
-pub returns-in-Err-new-clause-err : goal.returns-in-Err-new-clause-err
-returns-in-Err-new-clause-err g c = λ right kind root w said.
+pub returns-in-Err-parse-clause-err : goal.returns-in-Err-parse-clause-err
+returns-in-Err-parse-clause-err g c = λ right kind root w said.
     let d = g.V.Snapshot.pages in
     let n : ℕ = c.args.number in
     let read = c.read.new.self in
     let used : used_in d n ≡ take read.usable c.deref.result.now = used_read d n read.usable c.deref.result.now (c.deref.ensures.value ∙ c.in-Ok.ensures.read right) (read.used right) in
-    absurd (not_refused d kind n c.in-Err-new.fault w.page_is (subst (λ l. NoPage c.in-Err-new.fault l n) (sym used) c.in-Err-new.ensures.err))
+    absurd (not_refused d kind n c.in-Err-parse.fault w.page_is (subst (λ l. NoPage c.in-Err-parse.fault l n) (sym used) c.in-Err-parse.ensures.err))
 
 pub judge_cells-requires-clause-most : goal.judge_cells-requires-clause-most
 judge_cells-requires-clause-most g c =
     let read = c.read.new.self in
-    let len = ap length c.in-Ok-new.ensures.ok.used_are ∙ length-take read.usable c.deref.result.now in
+    let len = ap length c.in-Ok-parse.ensures.ok.used_are ∙ length-take read.usable c.deref.result.now in
     omega (arith, len, read.most)
 
 pub returns-in-Err-judge_page-clause-err : goal.returns-in-Err-judge_page-clause-err
@@ -29,8 +29,8 @@ returns-in-Err-judge_page-clause-err g c = λ right kind root w said.
     let d = g.V.Snapshot.pages in
     let n : ℕ = c.args.number in
     let read = c.read.new.self in
-    let ok = c.in-Ok-new.ensures.ok in
-    let b : Page = c.in-Ok-new.page in
+    let ok = c.in-Ok-parse.ensures.ok in
+    let b : Page = c.in-Ok-parse.page in
     let used : used_in d n ≡ take read.usable c.deref.result.now = used_read d n read.usable c.deref.result.now (c.deref.ensures.value ∙ c.in-Ok.ensures.read right) (read.used right) in
     let same : b ≡ page_as d kind n = page_same d n (take read.usable c.deref.result.now) b kind used ok.used_are ok.numbered ok.btree w.page_is in
     let has : HasFreeblocks b w.laid_out.blocks = subst (λ b. HasFreeblocks b w.laid_out.blocks) (sym same) w.laid_out.freeblocks in
@@ -42,8 +42,8 @@ returns-clause-ok g c = λ right kind root w said.
     let d = g.V.Snapshot.pages in
     let n : ℕ = c.args.number in
     let read = c.read.new.self in
-    let ok = c.in-Ok-new.ensures.ok in
-    let b : Page = c.in-Ok-new.page in
+    let ok = c.in-Ok-parse.ensures.ok in
+    let b : Page = c.in-Ok-parse.page in
     let used : used_in d n ≡ take read.usable c.deref.result.now = used_read d n read.usable c.deref.result.now (c.deref.ensures.value ∙ c.in-Ok.ensures.read right) (read.used right) in
     let same : b ≡ page_as d kind n = page_same d n (take read.usable c.deref.result.now) b kind used ok.used_are ok.numbered ok.btree w.page_is in
     let has : HasFreeblocks b w.laid_out.blocks = subst (λ b. HasFreeblocks b w.laid_out.blocks) (sym same) w.laid_out.freeblocks in
@@ -55,8 +55,8 @@ returns-clause-err g c = λ right kind root w said.
     let d = g.V.Snapshot.pages in
     let n : ℕ = c.args.number in
     let read = c.read.new.self in
-    let ok = c.in-Ok-new.ensures.ok in
-    let b : Page = c.in-Ok-new.page in
+    let ok = c.in-Ok-parse.ensures.ok in
+    let b : Page = c.in-Ok-parse.page in
     let used : used_in d n ≡ take read.usable c.deref.result.now = used_read d n read.usable c.deref.result.now (c.deref.ensures.value ∙ c.in-Ok.ensures.read right) (read.used right) in
     let same : b ≡ page_as d kind n = page_same d n (take read.usable c.deref.result.now) b kind used ok.used_are ok.numbered ok.btree w.page_is in
     c.judge_cells.ensures.err right kind root (same ∙ ap (page_as d kind) (sym ok.numbered)) (subst (IsOfSoundTree d kind root) (sym ok.numbered) w)
