@@ -1,1 +1,3 @@
+pub mod PagesWhole
+pub mod ReportsOfFiles
 pub mod ScriptsOfFound

@@ -1,1 +1,5 @@
+pub mod Pages
+pub mod Reports
 pub mod Salvages
+pub mod Shown
+pub mod internal

@@ -1,19 +1,37 @@
 //! A page of HTML that shows a database and its log.
+ghost use Rattle.std.specs.Prelude.{◌≡◌, ◌≢◌, ℕ, codes, map, IfErr, IfOk, MatchResult, OnOk, Some, true};
+ghost use Rattle.std.specs.Io.KnownBytes.{Appends};
+ghost use Rattle.cli_facts.specs.Runs.{expanded};
+ghost use Rattle.cli_files.specs.Files.{opened_bytes};
+ghost use Rattle.cli_files.specs.NewFiles.{IsBegunFile};
+ghost use Rattle.cli_files.specs.Refusals.{IsFromSystem, IsFromWatch};
+ghost use Rattle.cli_job.specs.Opened.{GivesBytes};
+ghost use Rattle.cli_show.specs.Contents.{AreGiven, contents_of};
+ghost use Rattle.cli_show.specs.Errors.{IfRefused};
+ghost use Rattle.cli_show.specs.Limits.{limits_named};
+ghost use Rattle.cli_show.specs.Logs.{IsUnreadLog};
+ghost use Rattle.cli_show.specs.Reports.{OnlyReads, roles_in};
+ghost use Rattle.cli_show.specs.Verdicts.{verdict_text};
+ghost use Rattle.cli_report.specs.Pages.{IsBegun, PrintsPage, PrintsVerdict};
+ghost use Rattle.cli_report.specs.Reports.{IsUnreported, ReportsTo};
+ghost use Rattle.cli_report.specs.Shown.{AreChangesIn, AreChangesOf, AreFactsOf, IsLogIn, IsLogOf, IsShownOf};
+ghost use Rattle.cli_report.specs.internal.Pages.{AppendsPage};
+
+use crate::pages::{Page, Shown, Template, WRITTEN, made_whole, write_html};
 use cli_dump::{CHANGES_HEAD, CHANGES_TAIL, Kept, keep_history};
 use cli_facts::{Front, NoteWriter, Notes, Refusal, SystemFile};
-use cli_files::{Beside, Count, NewFile, begin_file, look_at, open_logs, told};
+use cli_files::{Beside, Count, NewFile, OpenedFile, begin_file, look_at, open_logs, told};
 use cli_history::Files as Lent;
-use cli_job::{Answer, Counted, Job, Wants, judge_name, kept, named, open_all, wait_for};
+use cli_job::{Answer, Counted, Job, Wants, judge_name, kept, open_all, wait_for};
 use cli_show::{
-    LogFound, ReportFacts, ShowError, asked_of, facts_of, limits_of, log_of, survey_files,
-    write_report_facts, write_verdict,
+    Contents, Found, LogFound, ReportFacts, ShowError, asked_of, facts_of, limits_of, log_of,
+    survey_files, write_verdict,
 };
 use cli_text::{HEAD, TAIL};
-use cli_words::Style;
+use cli_words::{Options, Style};
 use sqview::FileBytes;
 use std::alloc::Global;
-use std::fs::OpenFile;
-use std::io::{self, BufWriter, Seek, Write};
+use std::io::{self, BufWriter, Write};
 use std::os::unix::fs::MetadataExt;
 use std::rt::Files;
 use std::thread;
@@ -22,52 +40,95 @@ use std::time::Clock;
 /// The program and its version, as `--version` prints it, and a page names them.
 pub const VERSION: &str = "sqrescue 0.1.0";
 
-/// How many bytes are written at once.
-const WRITTEN: usize = 65_536;
-
 /// How many bytes of changes a page holds.
 const CHANGES_HELD: usize = 4_194_304;
 
-/// What a page shows: the facts, and the changes of each commit where they are asked for.
-#[derive(Drop)]
-struct Shown<F> {
-    facts: ReportFacts<F>,
-    changes: Option<Kept>,
+/// What is the same in each page.
+fn template() -> Template<'static> {
+    Template {
+        version: VERSION,
+        head: HEAD,
+        tail: TAIL,
+        changes_head: CHANGES_HEAD,
+        changes_tail: CHANGES_TAIL,
+    }
 }
 
 /// What a page shows of real files.
 type ShownOf<'a, F, M> = Shown<Counted<'a, F, M>>;
 
-/// The log that counts of files as they are now. No note is written of it.
-fn log_now<R: Files + AllocGlobal, M>(job: &Job<'_, R, M>) -> Result<LogFound, Refusal>
-where
-    R::File: SystemFile,
+/// The log that counts of these; at commit 0, where two do, none.
+fn log_in<F: FileBytes>(
+    alloc: Global,
+    options: Options,
+    wal: &mut F,
+    journal: &mut F,
+) -> Result<LogFound, Refusal>
+    ensures { F.gives_bytes wal.old → F.gives_bytes journal.old → MatchResult result
+        (IsLogIn (limits_named options.large) options.at (F.bytes wal.old) (F.bytes journal.old))
+        (IsUnreadLog (limits_named options.large) (F.bytes wal.old) (F.bytes journal.old)) }
 {
-    let (paths, options) = (&job.source.paths, job.source.options);
-    let nowhere = NoteWriter::new(io::sink());
-    let mut unheard = Notes::new(&nowhere, false, false);
-    let Beside {
-        mut wal,
-        mut journal,
-        ..
-    } = open_logs(
-        job.rt,
-        paths,
-        options.super_journal,
-        options.at,
-        &mut unheard,
-    )?;
-    match log_of(job.rt.alloc(), limits_of(options), &mut wal, &mut journal) {
+    match log_of(alloc, limits_of(options), wal, journal) {
         // The database is shown without either.
         Err(Refusal::TwoLogs) if options.at == Some(0) => Ok(LogFound::None),
         answer => answer,
     }
 }
 
+/// The log that counts of files as they are now. No note is written of it.
+fn log_now<R: Files + AllocGlobal, M>(job: &Job<'_, R, M>) -> Result<LogFound, Refusal>
+where
+    R::File: SystemFile,
+    ensures shown { IfOk result (IsLogOf (opened_bytes R.File.bytes)
+        (GivesBytes R.File.bytes R.File.keeps_word R.File.never_fails) job.entry.now.source.now) }
+    ensures refused { IfErr result (IsUnreported (opened_bytes R.File.bytes)
+        (GivesBytes R.File.bytes R.File.keeps_word R.File.never_fails) job.entry.now.source.now) }
+{
+    let (paths, options) = (&job.source.paths, job.source.options);
+    let nowhere = NoteWriter::new(io::sink());
+    let mut unheard = Notes::new(&nowhere, false, false);
+    let logs = open_logs(
+        job.rt,
+        paths,
+        options.super_journal,
+        options.at,
+        &mut unheard,
+    )?;
+    let Beside {
+        mut wal,
+        mut journal,
+        ..
+    } = logs;
+    log_in(job.rt.alloc(), options, &mut wal, &mut journal)
+}
+
+/// What the commits of the log of these files changed, as far as a page holds it.
+fn changes_in<F: SystemFile>(
+    alloc: Global,
+    options: Options,
+    files: &Contents<OpenedFile<'_, F>>,
+) -> Result<Kept, Refusal>
+    ensures kept { AreGiven (GivesBytes F.bytes F.keeps_word F.never_fails) files.now → IfOk result
+        (AreChangesIn options (contents_of (opened_bytes F.bytes) files.now)) }
+    ensures refused { AreGiven (GivesBytes F.bytes F.keeps_word F.never_fails) files.now → IfErr result (IsUnreadLog
+        (limits_named options.large) (opened_bytes F.bytes files.now.wal) (opened_bytes F.bytes files.now.journal)) }
+{
+    let lent = Lent {
+        db: &files.db,
+        wal: &files.wal,
+        journal: &files.journal,
+    };
+    keep_history(alloc, lent, options, &[], CHANGES_HELD)
+}
+
 /// What the commits of the log changed of files as they are now. No note is written of it.
 fn changes_now<R: Files + AllocGlobal, M>(job: &Job<'_, R, M>) -> Result<Kept, Refusal>
 where
     R::File: SystemFile,
+    ensures kept { IfOk result (λ kept. AreChangesOf (opened_bytes R.File.bytes)
+        (GivesBytes R.File.bytes R.File.keeps_word R.File.never_fails) job.entry.now.source.now true (Some kept)) }
+    ensures refused { IfErr result (IsUnreported (opened_bytes R.File.bytes)
+        (GivesBytes R.File.bytes R.File.keeps_word R.File.never_fails) job.entry.now.source.now) }
 {
     let (paths, options) = (&job.source.paths, job.source.options);
     let nowhere = NoteWriter::new(io::sink());
@@ -79,15 +140,7 @@ where
         options.at,
         &mut unheard,
     ) {
-        Ok(files) => {
-            let lent = Lent {
-                db: &files.db,
-                wal: &files.wal,
-                journal: &files.journal,
-            };
-            let each: Vec<&str> = Vec::new(job.rt.alloc());
-            keep_history(job.rt.alloc(), lent, options, &each, CHANGES_HELD)
-        }
+        Ok(files) => changes_in(job.rt.alloc(), options, &files),
         Err(refusal) => Err(refusal),
     }
 }
@@ -99,13 +152,35 @@ fn facts_now<'a, R: Files + AllocGlobal + Clock, M: Count, E: Write>(
 ) -> Result<ReportFacts<Counted<'a, R::File, M>>, Refusal>
 where
     R::File: SystemFile,
+    ensures facts { IfOk result (AreFactsOf (opened_bytes R.File.bytes)
+        (GivesBytes R.File.bytes R.File.keeps_word R.File.never_fails) job.entry.now.source.now) }
+    ensures refused { IfErr result (IsUnreported (opened_bytes R.File.bytes)
+        (GivesBytes R.File.bytes R.File.keeps_word R.File.never_fails) job.entry.now.source.now) }
 {
     let asked = asked_of(job.source.options);
     let log = log_now(job)?;
     let files = job.opened(Wants::PAGES, notes)?;
     match survey_files(job.rt.alloc(), asked, files) {
-        Ok(found) => facts_of(job.rt.alloc(), found, log),
+        Ok(found) => facts_in(job.rt.alloc(), found, log),
         Err(refusal) => Err(refusal),
+    }
+}
+
+/// The facts of what was found. Refused by `NoMemory`, and by `FileFailed` where a page can't be read.
+fn facts_in<F: FileBytes + Drop>(
+    alloc: Global,
+    found: Found<F>,
+    log: LogFound,
+) -> Result<ReportFacts<F>, Refusal>
+    ensures found { IfOk result (λ facts. OnlyReads found facts.found) }
+    ensures log { IfOk result (λ facts. facts.log ≡ log) }
+    ensures runs { IfOk result (λ facts. map (λ used. used.role) (expanded facts.runs.items) ≡ roles_in found) }
+    ensures refused { IfErr result IsFromSystem }
+{
+    match facts_of(alloc, found, log) {
+        Ok(facts) => Ok(facts),
+        Err(Refusal::NoMemory) => Err(Refusal::NoMemory),
+        Err(_) => Err(Refusal::FileFailed),
     }
 }
 
@@ -117,6 +192,10 @@ fn shown_now<'a, R: Files + AllocGlobal + Clock, M: Count, E: Write>(
 ) -> Result<ShownOf<'a, R::File, M>, Refusal>
 where
     R::File: SystemFile,
+    ensures shown { IfOk result (IsShownOf (opened_bytes R.File.bytes)
+        (GivesBytes R.File.bytes R.File.keeps_word R.File.never_fails) job.entry.now.source.now with_changes) }
+    ensures refused { IfErr result (IsUnreported (opened_bytes R.File.bytes)
+        (GivesBytes R.File.bytes R.File.keeps_word R.File.never_fails) job.entry.now.source.now) }
 {
     let facts = facts_now(job, notes)?;
     if !with_changes {
@@ -142,6 +221,10 @@ fn settled<'a, R: Files + AllocGlobal + Clock, M: Count, E: Write>(
 ) -> Result<ShownOf<'a, R::File, M>, Refusal>
 where
     R::File: SystemFile,
+    ensures shown { IfOk result (IsShownOf (opened_bytes R.File.bytes)
+        (GivesBytes R.File.bytes R.File.keeps_word R.File.never_fails) job.entry.now.source.now with_changes) }
+    ensures refused { IfErr result (IsUnreported (opened_bytes R.File.bytes)
+        (GivesBytes R.File.bytes R.File.keeps_word R.File.never_fails) job.entry.now.source.now) }
 {
     let before = job.before(false, notes)?;
     thread::sleep(job.rt, wait_for(job.rt, &before));
@@ -158,51 +241,6 @@ fn front_of<F: FileBytes>(shown: &Result<Shown<F>, Refusal>) -> Option<Front> {
     }
 }
 
-/// The page, with what it shows.
-fn write_html<W: Write, F: FileBytes>(out: &mut W, file: &str, shown: &Shown<F>) -> io::Result<()> {
-    out.write_all(HEAD.as_bytes())?;
-    write_report_facts(out, VERSION, file, &shown.facts)?;
-    if let Some(kept) = &shown.changes {
-        out.write_all(CHANGES_HEAD.as_bytes())?;
-        kept.write_element(out)?;
-        out.write_all(CHANGES_TAIL.as_bytes())?;
-    }
-    out.write_all(TAIL.as_bytes())?;
-    out.flush()
-}
-
-/// Prints a report.
-fn print_page<O: Write, F: FileBytes>(
-    alloc: Global,
-    out: &mut O,
-    file: &str,
-    shown: &Shown<F>,
-) -> Result<Answer, ShowError> {
-    match BufWriter::with_capacity(alloc, WRITTEN, out) {
-        Ok(mut out) => {
-            write_html(&mut out, file, shown)?;
-            Ok(Answer::Done)
-        }
-        Err(_) => Err(ShowError::Refused(Refusal::NoMemory)),
-    }
-}
-
-/// Writes a report to a new file, and finishes that.
-fn fill<O: Write + Seek + OpenFile, F: FileBytes>(
-    alloc: Global,
-    made: &mut NewFile<'_, O>,
-    file: &str,
-    shown: &Shown<F>,
-) -> io::Result<()> {
-    let mut out = BufWriter::with_capacity(alloc, WRITTEN, &mut *made)?;
-    let written = write_html(&mut out, file, shown);
-    drop(out);
-    match written {
-        Ok(()) => made.finish(),
-        Err(error) => Err(error),
-    }
-}
-
 /// Makes a page of HTML that reports on a database file as its log has it, which and whose logs are only read, and if
 /// that is asked for on what each commit of the log changed; prints what `check` prints. The page is synced, and so is
 /// its folder where that can be. To `-`: prints the page instead. Refused as `check` is, by `FileFailed` where a file
@@ -216,16 +254,89 @@ pub fn report_to<R: Files + AllocGlobal + Clock, M: Count, O: Write, E: Write>(
 ) -> Result<Answer, ShowError>
 where
     R::File: SystemFile,
+    ensures { ReportsTo (opened_bytes R.File.bytes)
+        (GivesBytes R.File.bytes R.File.keeps_word R.File.never_fails) job.entry.now.source.now result }
 {
-    let ((to, with_changes), alloc, source) = (of, job.rt.alloc(), job.source);
-    match settled(job, with_changes, notes) {
-        Ok(shown) if to == "-" => print_page(alloc, out, source.file, &shown),
-        Ok(shown) => match make_page(job, to, &shown, notes) {
-            Ok(()) => kept(job, to, printed(out, source.options.style, &shown), notes),
-            Err(refusal) => Err(ShowError::Refused(refusal)),
-        },
-        Err(refusal) => Err(ShowError::Refused(source.paths.told(notes, refusal))),
+    match BufWriter::with_capacity(job.rt.alloc(), WRITTEN, out) {
+        Ok(mut lines) => write_report(job, &template(), of, &mut lines, notes),
+        Err(_) => Err(ShowError::Refused(Refusal::NoMemory)),
     }
+}
+
+/// The same, a page of this template, to a writer that keeps lines back.
+pub fn write_report<R: Files + AllocGlobal + Clock, M: Count, W: Write, E: Write>(
+    job: &Job<'_, R, M>,
+    template: &Template<'_>,
+    of: (&str, bool),
+    out: &mut W,
+    notes: &mut Notes<'_, E>,
+) -> Result<Answer, ShowError>
+where
+    R::File: SystemFile,
+    ensures answers { ReportsTo (opened_bytes R.File.bytes)
+        (GivesBytes R.File.bytes R.File.keeps_word R.File.never_fails) job.entry.now.source.now result }
+    ensures page { of.entry.0.now ≡ codes "-" → OnOk result (PrintsPage (opened_bytes R.File.bytes)
+        (GivesBytes R.File.bytes R.File.keeps_word R.File.never_fails) template.entry.now job.entry.now of.entry.1
+        (W.contents out.old) (W.contents out.new)) }
+    ensures verdict { of.entry.0.now ≢ codes "-" → OnOk result (PrintsVerdict (opened_bytes R.File.bytes)
+        (GivesBytes R.File.bytes R.File.keeps_word R.File.never_fails) job.entry.now
+        (W.contents out.old) (W.contents out.new)) }
+    ensures begun { of.entry.0.now ≢ codes "-" → OnOk result (IsBegun (opened_bytes R.File.bytes) of.entry.0.now) }
+{
+    match settled(job, of.1, notes) {
+        Ok(shown) => shown_to(job, template, (of.0, &shown), out, notes),
+        Err(refusal) => Err(ShowError::Refused(job.source.paths.told(notes, refusal))),
+    }
+}
+
+/// Makes the page of what it shows, and prints the verdict; or prints the page.
+fn shown_to<R: Files + AllocGlobal + Clock, M: Count, F: FileBytes, W: Write, E: Write>(
+    job: &Job<'_, R, M>,
+    template: &Template<'_>,
+    of: (&str, &Shown<F>),
+    out: &mut W,
+    notes: &mut Notes<'_, E>,
+) -> Result<Answer, ShowError>
+where
+    R::File: SystemFile,
+    ensures done { IfOk result (λ answer. answer ≡ Answer.Done) }
+    ensures refused { IfErr result (IfRefused IsFromWatch) }
+    ensures page { of.entry.0.now ≡ codes "-" → OnOk result (AppendsPage template.entry.now
+        job.entry.now.source.now.file.now of.entry.1.now (W.contents out.old) (W.contents out.new)) }
+    ensures verdict { of.entry.0.now ≢ codes "-" → OnOk result (Appends (W.contents out.old) (W.contents out.new)
+        (verdict_text job.entry.now.source.now.options.style of.entry.1.now.facts.found)) }
+    ensures begun { of.entry.0.now ≢ codes "-" → OnOk result (IsBegun (opened_bytes R.File.bytes) of.entry.0.now) }
+{
+    let (to, shown) = of;
+    if to == "-" {
+        return print_page(out, template, job.source.file, shown);
+    }
+    match make_page(job, template, (to, shown), notes) {
+        Ok(()) => kept(
+            job,
+            to,
+            print_verdict(out, job.source.options.style, shown),
+            notes,
+        ),
+        Err(refusal) => Err(ShowError::Refused(refusal)),
+    }
+}
+
+/// Prints the page.
+fn print_page<W: Write, F: FileBytes>(
+    out: &mut W,
+    template: &Template<'_>,
+    file: &str,
+    shown: &Shown<F>,
+) -> Result<Answer, ShowError>
+    ensures done { IfOk result (λ answer. answer ≡ Answer.Done) }
+    ensures refused { IfErr result (λ error. error ≡ ShowError.Unwritten) }
+    ensures page { OnOk result (AppendsPage template.entry.now file.now shown.now
+        (W.contents out.old) (W.contents out.new)) }
+{
+    write_html(out, template, file, shown)?;
+    out.flush()?;
+    Ok(Answer::Done)
 }
 
 /// A new file for the page.
@@ -236,6 +347,8 @@ pub(crate) fn new_page<'a, R: Files + AllocGlobal + Clock, M: Count, E: Write>(
 ) -> Result<NewFile<'a, R::File>, Refusal>
 where
     R::File: SystemFile,
+    ensures begun { IfOk result (λ made. (mode : ℕ) × IsBegunFile to.entry.now mode made) }
+    ensures refused { IfErr result IsFromSystem }
 {
     judge_name(job, to, notes)?;
     let paths = &job.source.paths;
@@ -249,27 +362,31 @@ where
 /// Makes the page. Where it fails nothing has the page's name.
 fn make_page<R: Files + AllocGlobal + Clock, M: Count, F: FileBytes, E: Write>(
     job: &Job<'_, R, M>,
-    to: &str,
-    shown: &Shown<F>,
+    template: &Template<'_>,
+    of: (&str, &Shown<F>),
     notes: &mut Notes<'_, E>,
 ) -> Result<(), Refusal>
 where
     R::File: SystemFile,
+    ensures begun { OnOk result (IsBegun (opened_bytes R.File.bytes) of.entry.0.now) }
+    ensures refused { IfErr result IsFromWatch }
 {
-    let mut made = new_page(job, to, notes)?;
-    let filled = match fill(job.rt.alloc(), &mut made, job.source.file, shown) {
-        Ok(()) => Ok(()),
-        Err(error) => Err(told(notes, made.path(), error).refusal),
-    };
-    named(job, made, filled, notes)
+    let ((to, shown), rt) = (of, job.rt);
+    let made = new_page(job, to, notes)?;
+    let page = Page { rt, made };
+    made_whole(rt.alloc(), page, template, job.source.file, shown, notes)
 }
 
 /// Prints the verdict.
-fn printed<F: FileBytes, O: Write>(
-    out: &mut O,
+fn print_verdict<F: FileBytes, W: Write>(
+    out: &mut W,
     style: Style,
     shown: &Shown<F>,
-) -> Result<(), ShowError> {
+) -> Result<(), ShowError>
+    ensures verdict { OnOk result (Appends (W.contents out.old) (W.contents out.new)
+        (verdict_text style shown.now.facts.found)) }
+    ensures refused { IfErr result (λ error. error ≡ ShowError.Unwritten) }
+{
     write_verdict(out, style, &shown.facts.found)?;
     out.flush()?;
     Ok(())
