@@ -44,6 +44,8 @@ complete -c sqrescue -n '__fish_seen_subcommand_from rows' -l no-lock -d 'Takes 
 complete -c sqrescue -n '__fish_seen_subcommand_from rows' -l table -x -d 'Prints the rows of this table alone, as SQLite compares names'
 complete -c sqrescue -n '__fish_seen_subcommand_from rows' -l csv -d 'Prints comma-separated values, a line a row, which is what it does where no form is named'
 complete -c sqrescue -n '__fish_seen_subcommand_from rows' -l sql -d 'Prints SQL that makes the same rows'
+complete -c sqrescue -n '__fish_seen_subcommand_from rows' -l places -d 'Prints where each row stands: its page, its cell there, and the log\'s frame with that page'
+complete -c sqrescue -n '__fish_seen_subcommand_from rows' -l deleted -d 'Prints what still stands of deleted rows, page by page'
 complete -c sqrescue -n '__fish_seen_subcommand_from rows' -s h -l help -d 'Print help'
 complete -c sqrescue -n '__fish_seen_subcommand_from diff' -s v -l verbose -d 'Says on standard error which files are read, which log counts, and why a command is refused'
 complete -c sqrescue -n '__fish_seen_subcommand_from diff' -l json -d 'Prints a JSON object a line'

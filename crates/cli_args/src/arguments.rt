@@ -286,6 +286,21 @@ pub(crate) fn sql_arg<'a>(alloc: Global) -> Made<Arg<'a>> {
     without(Ok(flag(alloc, "sql", help)), "json")
 }
 
+/// Whether places are printed for rows.
+pub(crate) fn cells_arg<'a>(alloc: Global) -> Made<Arg<'a>> {
+    let help =
+        "Prints where each row stands: its page, its cell there, and the log's frame with that page";
+    without(without(Ok(flag(alloc, "places", help)), "csv"), "sql")
+}
+
+/// Whether deleted rows are printed.
+pub(crate) fn deleted_arg<'a>(alloc: Global) -> Made<Arg<'a>> {
+    let help =
+        "Prints what still stands of deleted rows, page by page; it may never have been a row";
+    let arg = without(without(Ok(flag(alloc, "deleted", help)), "csv"), "sql");
+    without(without(arg, "places"), "table")
+}
+
 pub(crate) fn version_arg<'a>(alloc: Global) -> Arg<'a> {
     flag(alloc, "version", "Prints the version").short('V')
 }

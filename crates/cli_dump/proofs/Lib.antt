@@ -1,1 +1,2 @@
 mod CommitsKept
+pub mod PlacesShown

@@ -2,16 +2,20 @@
 #![tactic(auto)]
 
 mod changes;
+mod deleted;
 mod history;
 mod kept;
 mod kept_element;
 mod kept_page;
+mod places;
 mod rows;
 mod salvage;
 
 pub use changes::show_changes;
+pub use deleted::show_deleted;
 pub use history::show_history;
 pub use kept::{Ended, Kept, keep_history};
 pub use kept_page::{CHANGES_HEAD, CHANGES_TAIL};
+pub use places::show_places;
 pub use rows::{Printed, Wanted, show_rows};
 pub use salvage::{Salvaged, show_salvage};

@@ -14,6 +14,7 @@ pub fn wanted<'a>(request: &Request<'a>) -> Option<(Want, &'a str)>
         Request::Show { file, .. }
         | Request::Check { file, .. }
         | Request::Rows { file, .. }
+        | Request::Cells { file, .. }
         | Request::Diff { file, .. }
         | Request::Report { file, .. }
         | Request::Salvage { file, .. } => Some((Want::Read, *file)),

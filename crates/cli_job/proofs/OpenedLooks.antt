@@ -12,7 +12,7 @@ use Rattle.cli_show.specs.declared.contents.Contents.{Contents}
 use Rattle.cli_job.specs.Commands.{Finds, IsDamage}
 use Rattle.cli_job.specs.Opened.{AreFresh, AreOpenedFor, Counted, FindsOpened, Looks, Settles, all_opened, opened_of, reads_logs}
 use Rattle.cli_job.specs.declared.commands.Command.{Command}
-use Rattle.cli_job.specs.declared.commands.Command.TheVariants.{Check, Pages, Show, Rows}
+use Rattle.cli_job.specs.declared.commands.Command.TheVariants.{Check, Pages, Show, Rows, Places, Deleted}
 use Rattle.cli_job.specs.declared.commands.Finding.{Finding}
 use Rattle.cli_job.specs.declared.commands.Finding.TheVariants.{Checked, Surveyed, Shown, Printed}
 use Rattle.cli_job.specs.declared.sources.Source.{Source}
@@ -30,6 +30,14 @@ damage_prints_nothing bytes gives (Rows wanted) options files (Checked found) be
 damage_prints_nothing bytes gives (Rows wanted) options files (Surveyed found) before after finds damage = absurd finds
 damage_prints_nothing bytes gives (Rows wanted) options files (Shown shown) before after finds damage = absurd damage
 damage_prints_nothing bytes gives (Rows wanted) options files (Printed printed) before after finds damage = absurd damage
+damage_prints_nothing bytes gives (Places table) options files (Checked found) before after finds damage = absurd finds
+damage_prints_nothing bytes gives (Places table) options files (Surveyed found) before after finds damage = absurd finds
+damage_prints_nothing bytes gives (Places table) options files (Shown shown) before after finds damage = absurd damage
+damage_prints_nothing bytes gives (Places table) options files (Printed printed) before after finds damage = absurd damage
+damage_prints_nothing bytes gives Deleted options files (Checked found) before after finds damage = absurd finds
+damage_prints_nothing bytes gives Deleted options files (Surveyed found) before after finds damage = absurd finds
+damage_prints_nothing bytes gives Deleted options files (Shown shown) before after finds damage = absurd damage
+damage_prints_nothing bytes gives Deleted options files (Printed printed) before after finds damage = absurd damage
 
 module _ {F : Type 0} (bytes : F → List ℕ) (gives given : F → Type 0) (files : Contents F) (give : AreGiven given files → AreGiven gives files) where
   checks : (command : Command) (options : Options) (answer : Result (Finding F) Refusal) (before after : Option (List ℕ))
@@ -54,6 +62,16 @@ module _ {F : Type 0} (bytes : F → List ℕ) (gives given : F → Type 0) (fil
   checks (Rows wanted) options (Ok (Shown found)) before after finds = finds
   checks (Rows wanted) options (Ok (Printed found)) before after finds = λ g. finds (give g)
   checks (Rows wanted) options (Err refusal) before after finds = λ g. finds (give g)
+  checks (Places table) options (Ok (Checked found)) before after finds = finds
+  checks (Places table) options (Ok (Surveyed found)) before after finds = finds
+  checks (Places table) options (Ok (Shown found)) before after finds = finds
+  checks (Places table) options (Ok (Printed found)) before after finds = λ g. finds (give g)
+  checks (Places table) options (Err refusal) before after finds = λ g. finds (give g)
+  checks Deleted options (Ok (Checked found)) before after finds = finds
+  checks Deleted options (Ok (Surveyed found)) before after finds = finds
+  checks Deleted options (Ok (Shown found)) before after finds = finds
+  checks Deleted options (Ok (Printed found)) before after finds = λ g. finds (give g)
+  checks Deleted options (Err refusal) before after finds = λ g. finds (give g)
 
 -- what is found of files that give their bytes while nothing else is asked of them than that the opened ones do
 pub found_of_given : {F : Type 0} (bytes : F → List ℕ) (gives given : F → Type 0) (files : Contents F) → (AreGiven given files → AreGiven gives files)

@@ -1,5 +1,6 @@
 -- What each command finds of the files of a database.
 use Rattle.std.specs.Prelude.{◌≡◌, ℕ, Bool, true, false, List, Option, None, Result, Ok, Err, IfErr, IsSome, IsTrue, OnOk}
+use Rattle.std.specs.Borrow.{Bor}
 use Rattle.std.specs.Io.KnownBytes.{Appends}
 use Rattle.cli_facts.specs.declared.fronts.Front.{Front}
 use Rattle.cli_facts.specs.declared.outcome.Refusal.{Refusal}
@@ -17,12 +18,15 @@ use Rattle.cli_show.specs.Shown.{IsHeaderText, IsHeaderUnshown, IsPageUnshown, S
 use Rattle.cli_show.specs.Views.{IsNotFound, IsUnasked}
 use Rattle.cli_show.specs.declared.contents.Contents.{Contents}
 use Rattle.cli_show.specs.declared.views.Asked.{Asked}
+use Rattle.cli_dump.specs.Deleted.{AreDeletedShown}
+use Rattle.cli_dump.specs.Places.{ArePlacesShown}
 use Rattle.cli_dump.specs.Rows.{AreRowsShown}
 use Rattle.cli_dump.specs.declared.rows.Wanted.{Wanted}
+use Rattle.cli_show_places.specs.Places.{name_of}
 use Rattle.cli_show_deep.specs.Found.{IsFoundAs}
 use Rattle.sqdeepjudge.specs.Verdicts.{is_damaged}
 use Rattle.cli_job.specs.declared.commands.Command.{Command}
-use Rattle.cli_job.specs.declared.commands.Command.TheVariants.{Check, Pages, Show, Rows}
+use Rattle.cli_job.specs.declared.commands.Command.TheVariants.{Check, Pages, Show, Rows, Places, Deleted}
 use Rattle.cli_job.specs.declared.commands.Finding.{Finding}
 use Rattle.cli_job.specs.declared.commands.Finding.TheVariants.{Checked, Surveyed, Shown, Printed}
 
@@ -77,6 +81,24 @@ PrintsRows bytes gives wanted options files (Ok _) before after = ⊥
 PrintsRows bytes gives wanted options files (Err refusal) before after = AreGiven gives files
     → IsUnasked options (bytes files.db) (bytes files.wal) (bytes files.journal) refusal
 
+-- of which rows it is printed where they stand: of the table of this name, or of each, or why of none
+abbrev pub PrintsPlaces : {F : Type 0} → (bytes : F → List ℕ) → (gives : F → Type 0) → (table : Option (Bor (List ℕ))) → Options → Contents F → Result (Finding F) Refusal
+    → (before after : Option (List ℕ)) → Type 0
+PrintsPlaces bytes gives table options files (Ok (Printed printed)) before after = AreGiven gives files
+    → ArePlacesShown options (name_of table) (bytes files.db) (bytes files.wal) (bytes files.journal) before after printed.ended
+PrintsPlaces bytes gives table options files (Ok _) before after = ⊥
+PrintsPlaces bytes gives table options files (Err refusal) before after = AreGiven gives files
+    → IsUnasked options (bytes files.db) (bytes files.wal) (bytes files.journal) refusal
+
+-- what was printed of deleted rows, or why of none
+abbrev pub PrintsDeleted : {F : Type 0} → (bytes : F → List ℕ) → (gives : F → Type 0) → Options → Contents F → Result (Finding F) Refusal
+    → (before after : Option (List ℕ)) → Type 0
+PrintsDeleted bytes gives options files (Ok (Printed printed)) before after = AreGiven gives files
+    → AreDeletedShown options (bytes files.db) (bytes files.wal) (bytes files.journal) before after printed.ended
+PrintsDeleted bytes gives options files (Ok _) before after = ⊥
+PrintsDeleted bytes gives options files (Err refusal) before after = AreGiven gives files
+    → IsUnasked options (bytes files.db) (bytes files.wal) (bytes files.journal) refusal
+
 -- What a command finds of files, and prints meanwhile; a check and a survey print nothing.
 abbrev pub Finds : {F : Type 0} → (bytes : F → List ℕ) → (gives : F → Type 0) → Command → Options → Contents F → Result (Finding F) Refusal
     → (before after : Option (List ℕ)) → Type 0
@@ -84,6 +106,8 @@ Finds bytes gives (Check asked deep) options files answer before after = ChecksF
 Finds bytes gives (Pages asked) options files answer before after = SurveysFiles bytes gives asked files answer × (after ≡ before)
 Finds bytes gives (Show part) options files answer before after = ShowsPart bytes gives part options files answer before after
 Finds bytes gives (Rows wanted) options files answer before after = PrintsRows bytes gives wanted options files answer before after
+Finds bytes gives (Places table) options files answer before after = PrintsPlaces bytes gives table options files answer before after
+Finds bytes gives Deleted options files answer before after = PrintsDeleted bytes gives options files answer before after
 
 -- damage that a further look may find to be none
 abbrev pub IsDamage : {F : Type 0} → Finding F → Type 0
@@ -96,6 +120,8 @@ IsDamage (Printed printed) = ⊥
 abbrev pub prints_meanwhile : Command → Bool
 prints_meanwhile (Show part) = true
 prints_meanwhile (Rows wanted) = true
+prints_meanwhile (Places table) = true
+prints_meanwhile Deleted = true
 prints_meanwhile _ = false
 
 -- the front of the log at which a command found this, none where a part isn't shown

@@ -3,10 +3,10 @@ ghost use Rattle.std.specs.Prelude.{◌≡◌, ◌↔◌, IfErr, IsTrue, OnOk};
 ghost use Rattle.cli_show.specs.Contents.{AreGiven, contents_of};
 ghost use Rattle.cli_show.specs.Errors.{IfRefused};
 ghost use Rattle.cli_job.specs.Commands.{ChecksFiles, Finds, IsDamage, IsPartShown, IsPartUnshown, PrintsRows};
-ghost use Rattle.cli_job.specs.Commands.{IsFoundAt, SurveysFiles, prints_meanwhile};
+ghost use Rattle.cli_job.specs.Commands.{IsFoundAt, PrintsDeleted, PrintsPlaces, SurveysFiles, prints_meanwhile};
 ghost use Rattle.cli_job.specs.Opened.{reads_logs};
 
-use cli_dump::{Printed, Wanted, show_rows};
+use cli_dump::{Printed, Wanted, show_deleted, show_places, show_rows};
 use cli_facts::{Front, Refusal};
 use cli_show::{
     Asked, Contents, Found, ShowError, show_commits, show_header, show_log, show_page,
@@ -31,6 +31,10 @@ pub enum Command<'a> {
     /// Another part.
     Show(Part),
     Rows(Wanted<'a>),
+    /// Where rows stand: those of the table of this name. None: of each table.
+    Places(Option<&'a str>),
+    /// What still stands of deleted rows.
+    Deleted,
 }
 
 /// How files are read for a command.
@@ -80,7 +84,8 @@ impl Command<'_> {
                 ahead: 0,
                 is_counted: false,
             },
-            Command::Rows(_) => Wants::UNCOUNTED,
+            Command::Rows(_) | Command::Places(_) => Wants::UNCOUNTED,
+            Command::Deleted => Wants::PAGES,
         }
     }
 
@@ -89,7 +94,10 @@ impl Command<'_> {
     pub fn prints_meanwhile(&self) -> bool
         ensures { result ≡ prints_meanwhile self.entry.now }
     {
-        matches!(self, Command::Show(_) | Command::Rows(_))
+        matches!(
+            self,
+            Command::Show(_) | Command::Rows(_) | Command::Places(_) | Command::Deleted
+        )
     }
 }
 
@@ -135,6 +143,8 @@ pub(crate) fn find<F: FileBytes + Drop, W: Write>(
         Command::Pages(asked) => surveyed(alloc, *asked, files),
         Command::Show(part) => Ok(Finding::Shown(shown(alloc, *part, options, files, out))),
         Command::Rows(wanted) => printed(alloc, *wanted, options, files, out),
+        Command::Places(table) => placed(alloc, *table, options, files, out),
+        Command::Deleted => deleted(alloc, options, files, out),
     }
 }
 
@@ -207,6 +217,38 @@ fn printed<F: FileBytes + Drop, W: Write>(
         (W.contents out.new) }
 {
     match show_rows(alloc, files, options, wanted, out) {
+        Ok(printed) => Ok(Finding::Printed(printed)),
+        Err(refusal) => Err(refusal),
+    }
+}
+
+/// Prints where rows stand.
+fn placed<F: FileBytes + Drop, W: Write>(
+    alloc: Global,
+    table: Option<&str>,
+    options: Options,
+    files: Contents<F>,
+    out: &mut W,
+) -> Result<Finding<F>, Refusal>
+    ensures { PrintsPlaces F.bytes F.gives_bytes table.entry options files result (W.contents out.old)
+        (W.contents out.new) }
+{
+    match show_places(alloc, files, options, table, out) {
+        Ok(printed) => Ok(Finding::Printed(printed)),
+        Err(refusal) => Err(refusal),
+    }
+}
+
+/// Prints what still stands of deleted rows.
+fn deleted<F: FileBytes + Drop, W: Write>(
+    alloc: Global,
+    options: Options,
+    files: Contents<F>,
+    out: &mut W,
+) -> Result<Finding<F>, Refusal>
+    ensures { PrintsDeleted F.bytes F.gives_bytes options files result (W.contents out.old) (W.contents out.new) }
+{
+    match show_deleted(alloc, files, options, out) {
         Ok(printed) => Ok(Finding::Printed(printed)),
         Err(refusal) => Err(refusal),
     }

@@ -4,9 +4,10 @@ use Rattle.std.specs.Prelude.{true, false, Option, None, Some, is_some, codes, n
 use Rattle.std.specs.Cmp.Lexicographic.{bytes_decides, pointwise}
 use Rattle.std.proofs.lemmas.Option.{none-some}
 use Rattle.cli_words.specs.Line.{AreAmiss, AreNoDiff, AreNoReport, AreNoRows, AreNoSalvage, AreOptions, Asks, AsksAt, AsksBesides, AsksNoPart, AsksNothing}
-use Rattle.cli_words.specs.Line.{AsksText}
+use Rattle.cli_words.specs.Line.{AreKnown, AsksNoCells, AsksNoForm, AsksText}
+use Rattle.cli_words.specs.declared.words.Own.TheVariants.{Prints}
 use Rattle.cli_words.specs.Line.{HasNoText, HasText, IsFile, NamesOfLog}
-use Rattle.cli_words.specs.internal.Line.{AskNoDiff, AskNoRows, AskNoSalvage, IsDiff, IsReport, IsRows, IsSalvage}
+use Rattle.cli_words.specs.internal.Line.{AskNoDiff, AskNoRows, AskNoSalvage, IsDiff, IsFormed, IsPlaced, IsReport, IsRows, IsSalvage}
 use Rattle.cli_words.specs.declared.requests.Options.{Options}
 use Rattle.cli_words.specs.declared.requests.Request.{Request}
 
@@ -131,6 +132,14 @@ rows_amiss command options is none = (
   (λ show. absurd (not_rows command show is)),
 )
 
+-- what options that are all those of `rows` are told of, as what its options ask for
+pub rows_told : (options : List (List ℕ)) (file : Bor (List ℕ)) (o : Options) (r : Option Request)
+    → AreKnown Prints options → o.pointer_maps ≡ false
+    → MatchOption r (AsksNoForm options ⊎ AsksNoCells options) (λ request. IsFormed options file o request ⊎ IsPlaced options file o request)
+    → MatchOption r (AskNoRows options o) (IsRows options file o)
+rows_told options file o None known plain none = inr (inr none)
+rows_told options file o (Some request) known plain is = (known, plain, is)
+
 -- the same of the options of `rows`
 pub rows_asks : (words : List (List ℕ)) (command : List ℕ) (file : Bor (List ℕ)) (options : List (List ℕ)) (o : Options)
     (r : Option Request) → command ≡ codes "rows" → slice_get words 1 ≡ Some command → IsFile words file.now
@@ -147,9 +156,12 @@ rows_asks words command file options o None is second named are besides none =
         | inr (inr form) ↦ inr (inr form)
       ])),
     )
-rows_asks words command file options o (Some request) is second named are besides (known, plain, (table, form, of, asks, same)) =
+rows_asks words command file options o (Some request) is second named are besides (known, plain, inl (table, form, of, asks, none, same)) =
     let P : Request → Type 0 = λ r. Asks words r in
-    subst P (sym same) (second ∙ ap Some is, named, (options, are, known, besides, of, asks, plain))
+    subst P (sym same) (second ∙ ap Some is, named, (options, are, known, besides, of, asks, none, plain))
+rows_asks words command file options o (Some request) is second named are besides (known, plain, inr (cells, asks, same)) =
+    let P : Request → Type 0 = λ r. Asks words r in
+    subst P (sym same) (second ∙ ap Some is, named, (options, are, known, besides, asks, plain))
 
 pub diff_amiss : (command : List ℕ) (options : List (List ℕ)) → command ≡ codes "diff" → AreNoDiff options
     → AreAmiss command options

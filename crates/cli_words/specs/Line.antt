@@ -12,12 +12,14 @@ use Rattle.cli_words.specs.declared.requests.Style.{Style}
 use Rattle.cli_words.specs.declared.requests.Style.TheVariants.{Lines, Json}
 use Rattle.cli_words.specs.declared.requests.RowForm.{RowForm}
 use Rattle.cli_words.specs.declared.requests.RowForm.TheVariants.{Json as AsJson, Csv, Sql}
+use Rattle.cli_words.specs.declared.requests.Cells.{Cells}
+use Rattle.cli_words.specs.declared.requests.Cells.TheVariants.{Places, Deleted}
 use Rattle.cli_words.specs.declared.requests.ChangeForm.{ChangeForm}
 use Rattle.cli_words.specs.declared.requests.ChangeForm.TheVariants as changes
 use Rattle.cli_words.specs.declared.requests.Compared.{Compared}
 use Rattle.cli_words.specs.declared.requests.Options.{Options}
 use Rattle.cli_words.specs.declared.requests.Request.{Request}
-use Rattle.cli_words.specs.declared.requests.Request.TheVariants.{Show, Check, Rows, Diff, Recover, Report, Salvage, Version}
+use Rattle.cli_words.specs.declared.requests.Request.TheVariants.{Show, Check, Rows, Cells as TellsCells, Diff, Recover, Report, Salvage, Version}
 use Rattle.cli_words.specs.declared.words.Own.{Own}
 use Rattle.cli_words.specs.declared.words.Own.TheVariants.{Checks, Recovers, Reports, Prints, Compares, Salvages}
 
@@ -110,7 +112,8 @@ abbrev pub IsOwn : Own → (word : List ℕ) → Type 0
 IsOwn Checks word = word ≡ codes "--deep"
 IsOwn Recovers word = (word ≡ codes "--force") ⊎ IsNamed (codes "--to") word
 IsOwn Reports word = (word ≡ codes "--changes") ⊎ IsNamed (codes "--to") word
-IsOwn Prints word = (word ≡ codes "--csv") ⊎ (word ≡ codes "--sql") ⊎ IsNamed (codes "--table") word
+IsOwn Prints word = (word ≡ codes "--csv") ⊎ (word ≡ codes "--sql") ⊎ (word ≡ codes "--places") ⊎ (word ≡ codes "--deleted")
+    ⊎ IsNamed (codes "--table") word
 IsOwn Salvages word = (word ≡ codes "--places") ⊎ IsNamed (codes "--to") word
 IsOwn Compares word = (word ≡ codes "--sql") ⊎ (word ≡ codes "--commits") ⊎ IsNamed (codes "--table") word
     ⊎ IsNamed (codes "--from") word ⊎ IsNamed (codes "--to") word
@@ -189,9 +192,29 @@ AsksNoForm options = (Contains options (codes "--json") × Contains options (cod
     ⊎ (Contains options (codes "--json") × Contains options (codes "--sql"))
     ⊎ (Contains options (codes "--csv") × Contains options (codes "--sql"))
 
--- they can't be those of `rows`: another one is among them, or pointer maps, or two forms
+-- they ask for no places of cells
+abbrev pub AsksNoPlaces : (options : List (List ℕ)) → Type 0
+AsksNoPlaces options = (¬ Contains options (codes "--places")) × (¬ Contains options (codes "--deleted"))
+
+-- which cells they ask for the places of
+abbrev pub AsksCells : (options : List (List ℕ)) → Cells → Type 0
+AsksCells options (Places table) = Contains options (codes "--places") × (¬ Contains options (codes "--deleted"))
+    × (¬ Contains options (codes "--csv")) × (¬ Contains options (codes "--sql")) × AsksText (codes "--table") options table
+AsksCells options Deleted = (¬ Contains options (codes "--places")) × Contains options (codes "--deleted")
+    × (¬ Contains options (codes "--csv")) × (¬ Contains options (codes "--sql")) × HasNoText (codes "--table") options
+
+-- they ask for places, and in another form than lines and objects, or for those of deleted cells and of others, or of a table
+abbrev pub AsksNoCells : (options : List (List ℕ)) → Type 0
+AsksNoCells options =
+    ((Contains options (codes "--places") ⊎ Contains options (codes "--deleted"))
+    × (Contains options (codes "--csv") ⊎ Contains options (codes "--sql")))
+    ⊎ (Contains options (codes "--deleted")
+    × (Contains options (codes "--places") ⊎ ((text : List ℕ) × HasText (codes "--table") options text)))
+
+-- they can't be those of `rows`: another one is among them, or pointer maps, or two forms, or places of no cells
 abbrev pub AreNoRows : (options : List (List ℕ)) → Type 0
-AreNoRows options = (¬ AreKnown Prints options) ⊎ Contains options (codes "--pointer-maps") ⊎ AsksNoForm options
+AreNoRows options =
+    (¬ AreKnown Prints options) ⊎ Contains options (codes "--pointer-maps") ⊎ AsksNoForm options ⊎ AsksNoCells options
 
 -- how they ask for changes of rows
 abbrev pub AsksChangeForm : (options : List (List ℕ)) → ChangeForm → Type 0
@@ -269,7 +292,11 @@ Asks words (Check file deep o) =
 Asks words (Rows file table form o) =
     (slice_get words 1 ≡ Some (codes "rows")) × IsFile words file.now
     × ((options : List (List ℕ)) × AreOptions words options × AreKnown Prints options × AsksBesides options o
-    × AsksText (codes "--table") options table × AsksForm options form × (o.pointer_maps ≡ false))
+    × AsksText (codes "--table") options table × AsksForm options form × AsksNoPlaces options × (o.pointer_maps ≡ false))
+Asks words (TellsCells file cells o) =
+    (slice_get words 1 ≡ Some (codes "rows")) × IsFile words file.now
+    × ((options : List (List ℕ)) × AreOptions words options × AreKnown Prints options × AsksBesides options o
+    × AsksCells options cells × (o.pointer_maps ≡ false))
 Asks words (Diff file compared o) =
     (slice_get words 1 ≡ Some (codes "diff")) × IsFile words file.now
     × ((options : List (List ℕ)) × AreOptions words options × AreKnown Compares options × AsksBesides options o

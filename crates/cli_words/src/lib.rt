@@ -5,6 +5,8 @@ mod requests;
 mod tables;
 mod words;
 
-pub use requests::{ChangeForm, Compared, Options, Part, Request, RowForm, Style, SuperJournal};
+pub use requests::{
+    Cells, ChangeForm, Compared, Options, Part, Request, RowForm, Style, SuperJournal,
+};
 pub use tables::Tables;
 pub use words::{asked, asks_version};

@@ -45,6 +45,15 @@ pub enum RowForm {
     Sql,
 }
 
+/// Which cells of rows are told of, by their places.
+#[derive(Clone, Copy, Debug, PartialEq, Eq)]
+pub enum Cells<'a> {
+    /// Those of the rows of the table of this name. None: of each table.
+    Places(Option<&'a str>),
+    /// Those of deleted rows, as far as they still stand in the pages.
+    Deleted,
+}
+
 /// How changes of rows are printed.
 #[derive(Clone, Copy, Debug, PartialEq, Eq)]
 pub enum ChangeForm {
@@ -107,6 +116,12 @@ pub enum Request<'a> {
         file: &'a str,
         table: Option<&'a str>,
         form: RowForm,
+        options: Options,
+    },
+    /// To print where rows of this database file stand as its log has them, or what still stands of deleted ones.
+    Cells {
+        file: &'a str,
+        cells: Cells<'a>,
         options: Options,
     },
     /// To print which rows of this database file changed between two commits of its log.

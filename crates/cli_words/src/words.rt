@@ -4,10 +4,11 @@ ghost use Rattle.std.specs.Prelude.{◌↔◌, IfSome, IsTrue, MatchOption, true
 ghost use Rattle.std.specs.List.{Contains};
 ghost use Rattle.cli_words.specs.Line.{AreKnown, AreNoReport, AreOptions, Asks, AsksBesides, AsksBoth};
 ghost use Rattle.cli_words.specs.Line.{AsksNoPart};
-ghost use Rattle.cli_words.specs.Line.{AsksForm, AsksNoForm, IsOwn};
+ghost use Rattle.cli_words.specs.Line.{AsksCells, AsksForm, AsksNoCells, AsksNoForm, AsksNoPlaces, IsOwn};
 ghost use Rattle.cli_words.specs.Line.{AsksChangeForm, AsksCompared, AsksFrame, AsksNoChangeForm};
 ghost use Rattle.cli_words.specs.Line.{AsksNothingCompared};
-ghost use Rattle.cli_words.specs.internal.Line.{AskNoDiff, AskNoRows, AskNoSalvage, IsDiff, IsReport, IsRows};
+ghost use Rattle.cli_words.specs.internal.Line.{AskNoDiff, AskNoRows, AskNoSalvage, IsDiff, IsFormed, IsPlaced};
+ghost use Rattle.cli_words.specs.internal.Line.{IsReport, IsRows};
 ghost use Rattle.cli_words.specs.internal.Line.{IsSalvage};
 ghost use Rattle.cli_words.specs.declared.words.Own.{Own};
 ghost use Rattle.cli_words.specs.Line.{AsksNoneBesides, AsksNothing, AsksOf, AsksPart, AsksStyle, AsksVersion};
@@ -16,7 +17,9 @@ ghost use Rattle.cli_words.specs.Line.{IsFrameNumber, IsNamed};
 ghost use Rattle.cli_words.specs.Line.{IsPlain, MayBeAt, NamesNoFrame, NamesOfLog, StandsFree, TakesValue};
 ghost use Rattle.cli_words.specs.Line.{IsPageNumber, IsVersion};
 
-use crate::requests::{ChangeForm, Compared, Options, Part, Request, RowForm, Style, SuperJournal};
+use crate::requests::{
+    Cells, ChangeForm, Compared, Options, Part, Request, RowForm, Style, SuperJournal,
+};
 use crate::tables::Tables;
 
 /// Whether a word is this text.
@@ -109,7 +112,13 @@ fn is_own(word: &str, own: Own) -> bool
         Own::Checks => word == "--deep",
         Own::Recovers => word == "--force" || is_named(word, "--to"),
         Own::Reports => word == "--changes" || is_named(word, "--to"),
-        Own::Prints => word == "--csv" || word == "--sql" || is_named(word, "--table"),
+        Own::Prints => {
+            word == "--csv"
+                || word == "--sql"
+                || word == "--places"
+                || word == "--deleted"
+                || is_named(word, "--table")
+        }
         Own::Salvages => word == "--places" || is_named(word, "--to"),
         Own::Compares => {
             word == "--sql"
@@ -417,14 +426,12 @@ fn form_of(options: &[&str]) -> Option<RowForm>
     Some(if sql { RowForm::Sql } else { RowForm::Csv })
 }
 
-/// What the options of `rows` ask for. None where they don't say so.
-fn rows_asked<'a>(given: &'a [&'a str], file: &'a str, options: Options) -> Option<Request<'a>>
-    ensures { MatchOption result (AskNoRows (map (λ w. w.now) given.entry.now) options)
-        (IsRows (map (λ w. w.now) given.entry.now) file.entry options) }
+/// What the options of `rows` that ask for no places ask for. None where they ask for two forms.
+fn formed<'a>(given: &'a [&'a str], file: &'a str, options: Options) -> Option<Request<'a>>
+    requires plain { AsksNoPlaces (map (λ w. w.now) given.now) }
+    ensures { MatchOption result (AsksNoForm (map (λ w. w.now) given.entry.now))
+        (IsFormed (map (λ w. w.now) given.entry.now) file.entry options) }
 {
-    if options.pointer_maps || !are_known(given, Own::Prints) {
-        return None;
-    }
     let form = form_of(given)?;
     let table = text_of(given, "--table");
     Some(Request::Rows {
@@ -433,6 +440,66 @@ fn rows_asked<'a>(given: &'a [&'a str], file: &'a str, options: Options) -> Opti
         form,
         options,
     })
+}
+
+/// Which cells they ask for the places of, where they ask for places; deleted: of deleted ones. None where they ask for
+/// no such places.
+fn cells_of<'a>(given: &'a [&'a str], places: bool, deleted: bool) -> Option<Cells<'a>>
+    requires places { IsTrue places ↔ Contains (map (λ w. w.now) given.now) (codes "--places") }
+    requires deleted { IsTrue deleted ↔ Contains (map (λ w. w.now) given.now) (codes "--deleted") }
+    requires some { IsTrue places ⊎ IsTrue deleted }
+    ensures { MatchOption result (AsksNoCells (map (λ w. w.now) given.entry.now))
+        (AsksCells (map (λ w. w.now) given.entry.now)) }
+{
+    if stands_in(given, "--csv") {
+        return None;
+    }
+    if stands_in(given, "--sql") {
+        return None;
+    }
+    if !deleted {
+        return Some(Cells::Places(text_of(given, "--table")));
+    }
+    if places {
+        return None;
+    }
+    match text_of(given, "--table") {
+        Some(_) => None,
+        None => Some(Cells::Deleted),
+    }
+}
+
+/// What the options of `rows` ask for that are all known. None where they don't say so.
+fn rows_or_cells<'a>(given: &'a [&'a str], file: &'a str, options: Options) -> Option<Request<'a>>
+    ensures { MatchOption result
+        (AsksNoForm (map (λ w. w.now) given.entry.now) ⊎ AsksNoCells (map (λ w. w.now) given.entry.now))
+        (λ request. IsFormed (map (λ w. w.now) given.entry.now) file.entry options request
+        ⊎ IsPlaced (map (λ w. w.now) given.entry.now) file.entry options request) }
+{
+    let places = stands_in(given, "--places");
+    let deleted = stands_in(given, "--deleted");
+    if !places && !deleted {
+        return formed(given, file, options);
+    }
+    match cells_of(given, places, deleted) {
+        Some(cells) => Some(Request::Cells {
+            file,
+            cells,
+            options,
+        }),
+        None => None,
+    }
+}
+
+/// What the options of `rows` ask for. None where they don't say so.
+fn rows_asked<'a>(given: &'a [&'a str], file: &'a str, options: Options) -> Option<Request<'a>>
+    ensures { MatchOption result (AskNoRows (map (λ w. w.now) given.entry.now) options)
+        (IsRows (map (λ w. w.now) given.entry.now) file.entry options) }
+{
+    if options.pointer_maps || !are_known(given, Own::Prints) {
+        return None;
+    }
+    rows_or_cells(given, file, options)
 }
 
 /// The form of changes that they ask for. None where they ask for two, or for a script of each commit.

@@ -6,7 +6,7 @@ use Rattle.sqpage.specs.declared.cell.Parts.{Parts}
 use Rattle.sqpage.specs.declared.kind.Kind.TheVariants.{TableLeaf}
 use Rattle.sqpage.specs.Page.{HasParts, FourBytes}
 use Rattle.sqpage.proofs.btree.PartsOfCells.{varint_size, FindsParts}
-use Rattle.sqdeleted.specs.Deleted.{BeginsRecord, StandsBetween}
+use Rattle.sqdeleted.specs.Deleted.{BeginsRecord, IsShort, StandsBetween}
 
 ends_behind : (b : Bool) (used : List ℕ) (from end n : ℕ) → FourBytes b used from end n → from ≤ end
 ends_behind true used from end n h = let e : end ≡ from + 4 = h.0 in omega (arith, e)
@@ -25,7 +25,7 @@ cell_takes used at c h =
 
 -- the same cell between other places
 pub between : (used : List ℕ) (from to other end at : ℕ) (c : Parts) → other ≤ at → c.end ≤ end → StandsBetween used from to at c → StandsBetween used other end at c
-between used from to other end at c after before s = record { after = after; before = before; has = s.has; begins = s.begins }
+between used from to other end at c after before s = record { after = after; before = before; has = s.has; begins = s.begins; short = s.short }
 
 pub moved : (used : List ℕ) (from to at place : ℕ) (c : Parts) → place ≡ at → StandsBetween used from to place c → StandsBetween used at to at c
 moved used from to at place c e s =
@@ -63,6 +63,7 @@ too_long found used at to parts is finds long c s =
     omega (arith, same, long, within)
 
 pub no_record : (found : Option Parts) (used : List ℕ) (at to : ℕ) (parts : Parts) → found ≡ Some parts → FindsParts found TableLeaf used at
-    → ¬ BeginsRecord parts.payload (part used parts.body parts.local) → (c : Parts) → ¬ StandsBetween used at to at c
+    → ((b : BeginsRecord parts.payload (part used parts.body parts.local)) → ¬ IsShort b) → (c : Parts) → ¬ StandsBetween used at to at c
 no_record found used at to parts is finds none c s =
-    none (subst (λ (p : Parts). BeginsRecord p.payload (part used p.body p.local)) (sym (only_parts found used at parts c is finds s.has)) s.begins)
+    let w = subst (λ (p : Parts). (b : BeginsRecord p.payload (part used p.body p.local)) × IsShort b) (sym (only_parts found used at parts c is finds s.has)) (s.begins, s.short) in
+    none w.0 w.1

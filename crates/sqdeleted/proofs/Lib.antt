@@ -1,5 +1,7 @@
 -- When bytes begin a record.
 pub mod BeginsOfRecords
+-- The first values of a record, one more at the end.
+pub mod FirstValues
 -- Freeblocks, one behind the other.
 pub mod LinkedFreeblocks
 -- The cells of a gap, place by place.

@@ -1,10 +1,13 @@
 -- Cells of leaves of tables that were deleted, as far as their bytes still stand in a page (fileformat2, 1.6; which of them are
 -- told is own). All places count from the page's first byte, and `used` is its usable part.
-use Rattle.std.specs.Prelude.{◌≡◌, ◌≢◌, ◌⊎◌, ℕ, ◌+◌, ◌≤◌, List, [], ◌∷◌, ◌++◌, take, drop, sum_by}
+use Rattle.std.specs.Prelude.{◌≡◌, ◌≢◌, ◌⊎◌, ℕ, ◌+◌, ◌<◌, ◌≤◌, List, [], ◌∷◌, ◌++◌, length, take, drop, sum_by}
 use Rattle.std.specs.Int.{cast_signed, w64}
 use Rattle.sqval.specs.Bytes.{part}
 use Rattle.sqval.specs.Serial.{body_size}
-use Rattle.sqval.specs.Record.{HasHeader, Lead}
+use Rattle.sqval.specs.Varint.{Begins}
+use Rattle.sqval.specs.Datum.{Datum}
+use Rattle.sqval.specs.Record.{HasHeader, Lead, Hold, Reads}
+use Rattle.sqval.specs.Shortest.{varint_size}
 use Rattle.sqpage.specs.declared.cell.Parts.{Parts}
 use Rattle.sqpage.specs.declared.kind.Kind.{Kind}
 use Rattle.sqpage.specs.declared.kind.Kind.TheVariants.{TableLeaf}
@@ -24,13 +27,27 @@ pub record BeginsRecord (total : ℕ) (bytes : List ℕ) : Type 0 where
   pub some : types ≢ []
   pub fills : header + sum_by body_size types ≡ total
 
+-- Each type in its header stands in the fewest bytes, as SQLite writes it.
+abbrev pub IsShort : {total : ℕ} {bytes : List ℕ} → BeginsRecord total bytes → Type 0
+IsShort begins = begins.header ≡ begins.size + sum_by varint_size begins.types
+
+-- These values stand whole in bytes that begin a record: those of its first columns, up to one whose body ends behind the bytes.
+pub record StandWhole (bytes : List ℕ) (values : List Datum) : Type 0 where
+  pub types : List ℕ
+  pub rest : List ℕ
+  pub bodies : List ℕ
+  pub reads : Reads types rest bodies bytes
+  pub holds : Hold types values (take (sum_by body_size types) bodies)
+  pub last : (serial size : ℕ) → Begins serial size rest → length bodies < sum_by body_size types + body_size serial
+
 -- A cell of a leaf of a table, of these parts, begins at this place and lies whole from one place to another; what of its payload
--- lies in it begins a record.
+-- lies in it begins a record, whose types stand as SQLite writes them.
 pub record StandsBetween (used : List ℕ) (from to at : ℕ) (c : Parts) : Type 0 where
   pub after : from ≤ at
   pub before : c.end ≤ to
   pub has : HasParts TableLeaf used at c
   pub begins : BeginsRecord c.payload (part used c.body c.local)
+  pub short : IsShort begins
 
 -- The first freeblock is at `at`, and these lead on: each is sound, lies behind the end of the one before, the first at `least` or
 -- later, and names the next one in its first two bytes.

@@ -7,6 +7,7 @@ mod cell;
 mod cursor;
 mod freeblock;
 mod header;
+mod values;
 mod walk;
 
 pub use cell::DeletedCell;

@@ -16,7 +16,7 @@ use Rattle.cli_job.specs.Commands.{Finds}
 use Rattle.cli_job.specs.Opened.{Counted, FindsOpened, Settles, all_opened, opened_of}
 use Rattle.cli_job.specs.declared.answers.Answer.{Answer}
 use Rattle.cli_job.specs.declared.commands.Command.{Command}
-use Rattle.cli_job.specs.declared.commands.Command.TheVariants.{Check, Pages, Show, Rows}
+use Rattle.cli_job.specs.declared.commands.Command.TheVariants.{Check, Pages, Show, Rows, Places, Deleted}
 use Rattle.cli_job.specs.declared.commands.Finding.{Finding}
 use Rattle.cli_job.specs.declared.commands.Finding.TheVariants.{Checked, Surveyed, Shown, Printed}
 use Rattle.cli_job.specs.declared.sources.Source.{Source}
@@ -42,6 +42,14 @@ module _ {F : Type 0} (bytes : F → List ℕ) (gives : F → Type 0) (options :
   answers_found (Rows wanted) (Surveyed found) finds given = absurd finds
   answers_found (Rows wanted) (Shown found) finds given = absurd finds
   answers_found (Rows wanted) (Printed found) finds given = inl (found.ended, (before, after, finds given), inl refl)
+  answers_found (Places table) (Checked found) finds given = absurd finds
+  answers_found (Places table) (Surveyed found) finds given = absurd finds
+  answers_found (Places table) (Shown found) finds given = absurd finds
+  answers_found (Places table) (Printed found) finds given = inl (found.ended, (before, after, finds given), inl refl)
+  answers_found Deleted (Checked found) finds given = absurd finds
+  answers_found Deleted (Surveyed found) finds given = absurd finds
+  answers_found Deleted (Shown found) finds given = absurd finds
+  answers_found Deleted (Printed found) finds given = inl (found.ended, (before, after, finds given), inl refl)
 
   answers_refused : (command : Command) (refusal : Refusal) → Finds bytes gives command options files (Err refusal) before after → AreGiven gives files
       → Answers command options (contents_of bytes files) (Err (Refused refusal))
@@ -49,6 +57,8 @@ module _ {F : Type 0} (bytes : F → List ℕ) (gives : F → Type 0) (options :
   answers_refused (Pages asked) refusal finds given = finds.0 given
   answers_refused (Show part) refusal finds given = absurd finds
   answers_refused (Rows wanted) refusal finds given = inr (finds given)
+  answers_refused (Places table) refusal finds given = inr (finds given)
+  answers_refused Deleted refusal finds given = inr (finds given)
 
 -- a line couldn't be written
 untold : {F : Type 0} (bytes : OpenedFile F → List ℕ) (gives : OpenedFile F → Type 0) (source : Source) (command : Command) (answer : Result Answer ShowError)

@@ -1,5 +1,6 @@
 -- What a command comes to, by the bytes of the files that were opened for it (own).
 use Rattle.std.specs.Prelude.{◌≡◌, ◌⊎◌, ℕ, Bool, List, Option, Result, Ok, Err, IsErrAnd}
+use Rattle.std.specs.Borrow.{Bor}
 use Rattle.sqpage.specs.declared.fault.CheckError.{CheckError}
 use Rattle.cli_facts.specs.declared.outcome.Refusal.{Refusal}
 use Rattle.cli_words.specs.declared.requests.Options.{Options}
@@ -15,8 +16,11 @@ use Rattle.cli_show.specs.declared.contents.Contents.{Contents}
 use Rattle.cli_show.specs.declared.error.ShowError.{ShowError}
 use Rattle.cli_show.specs.declared.views.Asked.{Asked}
 use Rattle.cli_show_deep.specs.Found.{IsFoundAs}
+use Rattle.cli_show_places.specs.Places.{name_of}
 use Rattle.sqdeepjudge.specs.Verdicts.{is_damaged}
 use Rattle.sqdeepjudge.specs.declared.verdict.DeepVerdict.{DeepVerdict}
+use Rattle.cli_dump.specs.Deleted.{AreDeletedShown}
+use Rattle.cli_dump.specs.Places.{ArePlacesShown}
 use Rattle.cli_dump.specs.Rows.{AreRowsShown}
 use Rattle.cli_dump.specs.declared.rows.Wanted.{Wanted}
 use Rattle.cli_job.specs.Answers.{Tells, answer_named, answer_of_fault, answer_of_rows}
@@ -26,7 +30,7 @@ use Rattle.cli_job.specs.Opened.{AreOpenedFor, IsUnopenedFor, reads_logs}
 use Rattle.cli_job.specs.declared.answers.Answer.{Answer}
 use Rattle.cli_job.specs.declared.answers.Answer.TheVariants.{Done}
 use Rattle.cli_job.specs.declared.commands.Command.{Command}
-use Rattle.cli_job.specs.declared.commands.Command.TheVariants.{Check, Pages, Show, Rows}
+use Rattle.cli_job.specs.declared.commands.Command.TheVariants.{Check, Pages, Show, Rows, Places, Deleted}
 use Rattle.cli_job.specs.declared.sources.Source.{Source}
 
 -- a check answers by its verdict
@@ -53,12 +57,28 @@ AnswersRows wanted options files answer =
     × Tells (answer_of_rows ended) answer)
     ⊎ IsErrAnd answer (λ error. IfRefused (IsUnasked options files.db files.wal files.journal) error)
 
+-- and so does what prints where they stand
+abbrev pub AnswersPlaces : (table : Option (Bor (List ℕ))) → Options → (files : Contents (List ℕ)) → Result Answer ShowError → Type 0
+AnswersPlaces table options files answer =
+    ((ended : Result (Unit {0}) Stop) × ((before after : Option (List ℕ)) × ArePlacesShown options (name_of table) files.db files.wal files.journal before after ended)
+    × Tells (answer_of_rows ended) answer)
+    ⊎ IsErrAnd answer (λ error. IfRefused (IsUnasked options files.db files.wal files.journal) error)
+
+-- and what prints deleted ones
+abbrev pub AnswersDeleted : Options → (files : Contents (List ℕ)) → Result Answer ShowError → Type 0
+AnswersDeleted options files answer =
+    ((ended : Result (Unit {0}) Stop) × ((before after : Option (List ℕ)) × AreDeletedShown options files.db files.wal files.journal before after ended)
+    × Tells (answer_of_rows ended) answer)
+    ⊎ IsErrAnd answer (λ error. IfRefused (IsUnasked options files.db files.wal files.journal) error)
+
 -- What a command answers of files with these bytes.
 abbrev pub Answers : Command → Options → (files : Contents (List ℕ)) → Result Answer ShowError → Type 0
 Answers (Check asked deep) options files answer = AnswersCheck asked deep files answer
 Answers (Pages asked) options files answer = AnswersSurvey asked files answer
 Answers (Show part) options files answer = AnswersPart part options files answer
 Answers (Rows wanted) options files answer = AnswersRows wanted options files answer
+Answers (Places table) options files answer = AnswersPlaces table options files answer
+Answers Deleted options files answer = AnswersDeleted options files answer
 
 -- It answers so of files that were opened for its source, once they give their bytes.
 pub record AnswersOpened {F : Type 0} (bytes : OpenedFile F → List ℕ) (gives : OpenedFile F → Type 0) (source : Source) (command : Command)

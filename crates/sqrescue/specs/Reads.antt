@@ -13,7 +13,7 @@ use Rattle.cli_job.specs.Answers.{IsDoneOr}
 use Rattle.cli_job.specs.Sources.{IsAloneOf, IsSourceOf, IsUnsourced}
 use Rattle.cli_job.specs.declared.answers.Answer.{Answer}
 use Rattle.cli_job.specs.declared.commands.Command.{Command}
-use Rattle.cli_job.specs.declared.commands.Command.TheVariants.{Check, Pages, Show, Rows}
+use Rattle.cli_job.specs.declared.commands.Command.TheVariants.{Check, Pages, Show, Rows, Places, Deleted}
 use Rattle.sqrescue.specs.declared.readings.Look.{Look}
 use Rattle.sqrescue.specs.declared.readings.Look.TheVariants as looks
 use Rattle.sqrescue.specs.declared.readings.Reading.{Reading}
@@ -32,6 +32,8 @@ command_of (looks.Part parts.Pages) options = Pages (asked_named options false)
 command_of (looks.Part part) options = Show part
 command_of (looks.Damage deep) options = Check (asked_named options deep) deep
 command_of (looks.Rows wanted) options = Rows wanted
+command_of (looks.Places table) options = Places table
+command_of looks.Deleted options = Deleted
 
 -- What a reading of these files comes to: a look as its command does, a salvage as its script ended, a copy is made or
 -- refused.

@@ -13,6 +13,7 @@ use Rattle.cli_show.specs.declared.error.ShowError.{ShowError}
 use Rattle.cli_show.specs.declared.error.ShowError.TheVariants as errors
 use Rattle.cli_words.specs.Line.{Asks}
 use Rattle.cli_words.specs.declared.requests.Options.{Options}
+use Rattle.cli_words.specs.declared.requests.Cells.TheVariants as cells
 use Rattle.cli_words.specs.declared.requests.Request.{Request}
 use Rattle.cli_words.specs.declared.requests.Request.TheVariants as requests
 use Rattle.cli_job.specs.Answers.{status_named, IsDoneOr}
@@ -21,7 +22,7 @@ use Rattle.sqrescue.specs.Reads.{IsRead}
 use Rattle.cli_job.specs.declared.answers.Answer.{Answer}
 use Rattle.sqrescue.specs.declared.program.Under.{Under}
 use Rattle.sqrescue.specs.declared.program.Under.TheVariants as under
-use Rattle.sqrescue.specs.declared.readings.Look.TheVariants.{Part, Damage, Rows}
+use Rattle.sqrescue.specs.declared.readings.Look.TheVariants.{Part, Damage, Rows, Places, Deleted}
 use Rattle.sqrescue.specs.declared.readings.Read.{Read}
 use Rattle.sqrescue.specs.declared.readings.Reading.{Reading}
 use Rattle.sqrescue.specs.declared.readings.Reading.TheVariants.{Look, Diff, Copy, Report, Salvage}
@@ -35,6 +36,8 @@ abbrev pub read_for : Request → Option Read
 read_for (requests.Show file part options) = Some (read_named (Look (Part part)) file options)
 read_for (requests.Check file deep options) = Some (read_named (Look (Damage deep)) file options)
 read_for (requests.Rows file table form options) = Some (read_named (Look (Rows (record { table = table; form = form }))) file options)
+read_for (requests.Cells file (cells.Places table) options) = Some (read_named (Look (Places table)) file options)
+read_for (requests.Cells file cells.Deleted options) = Some (read_named (Look Deleted) file options)
 read_for (requests.Diff file compared options) = Some (read_named (Diff compared) file (record options { at = compared.to }))
 read_for (requests.Recover file (Some to) force options) = Some (read_named (Copy to) file options)
 read_for (requests.Recover file None force options) = None

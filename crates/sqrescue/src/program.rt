@@ -157,6 +157,7 @@ fn options_of(request: &Request<'_>) -> Option<Options> {
         Request::Show { options, .. }
         | Request::Check { options, .. }
         | Request::Rows { options, .. }
+        | Request::Cells { options, .. }
         | Request::Diff { options, .. }
         | Request::Recover { options, .. }
         | Request::Report { options, .. }

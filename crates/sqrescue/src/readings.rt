@@ -6,7 +6,7 @@ ghost use Rattle.sqrescue.specs.Runs.{read_for, read_named};
 use cli_dump::Wanted;
 use cli_job::Command;
 use cli_show::{Asked, limits_of};
-use cli_words::{Compared, Options, Part, Request};
+use cli_words::{Cells, Compared, Options, Part, Request};
 use sqcheck::Options as Maps;
 
 /// What is looked for in the files.
@@ -16,6 +16,10 @@ pub(crate) enum Look<'a> {
     /// Whether also in what the pages hold.
     Damage(bool),
     Rows(Wanted<'a>),
+    /// Where they stand.
+    Places(Option<&'a str>),
+    /// What still stands of deleted ones.
+    Deleted,
 }
 
 /// What is done with them.
@@ -65,6 +69,8 @@ impl<'a> Look<'a> {
                 deep,
             },
             Look::Rows(wanted) => Command::Rows(wanted),
+            Look::Places(table) => Command::Places(table),
+            Look::Deleted => Command::Deleted,
         }
     }
 }
@@ -76,7 +82,9 @@ impl<'a> Reading<'a> {
     {
         match self {
             Reading::Look(Look::Part(part)) => matches!(part, Part::Log { .. } | Part::Commits),
-            Reading::Look(Look::Damage(_) | Look::Rows(_)) => false,
+            Reading::Look(Look::Damage(_) | Look::Rows(_) | Look::Places(_) | Look::Deleted) => {
+                false
+            }
             Reading::Diff(_)
             | Reading::Copy(_)
             | Reading::Report { .. }
@@ -117,6 +125,16 @@ pub(crate) fn read_for<'a>(request: Request<'a>) -> Option<Read<'a>>
             form,
             options,
         } => Reading::Look(Look::Rows(Wanted { table, form })).of(file, options),
+        Request::Cells {
+            file,
+            cells: Cells::Places(table),
+            options,
+        } => Reading::Look(Look::Places(table)).of(file, options),
+        Request::Cells {
+            file,
+            cells: Cells::Deleted,
+            options,
+        } => Reading::Look(Look::Deleted).of(file, options),
         Request::Diff {
             file,
             compared,

@@ -3,13 +3,15 @@ use Rattle.std.specs.Prelude.{◌≡◌, ◌≢◌, ◌⊎◌, ◌↔◌, Bool, 
 use Rattle.std.specs.Prelude.{List, codes}
 use Rattle.std.specs.Borrow.{Bor}
 use Rattle.std.specs.List.{Contains}
+use Rattle.cli_words.specs.declared.requests.Cells.{Cells}
 use Rattle.cli_words.specs.declared.requests.Compared.{Compared}
 use Rattle.cli_words.specs.declared.requests.Options.{Options}
 use Rattle.cli_words.specs.declared.requests.Request.{Request}
-use Rattle.cli_words.specs.declared.requests.Request.TheVariants.{Report, Rows, Diff, Salvage}
+use Rattle.cli_words.specs.declared.requests.Request.TheVariants.{Report, Rows, Cells as TellsCells, Diff, Salvage}
 use Rattle.cli_words.specs.declared.requests.RowForm.{RowForm}
 use Rattle.cli_words.specs.declared.words.Own.TheVariants.{Reports, Prints, Compares, Salvages}
-use Rattle.cli_words.specs.Line.{HasNoText, HasText, AreKnown, AsksCompared, AsksForm, AsksNoForm, AsksNothingCompared, AsksText}
+use Rattle.cli_words.specs.Line.{HasNoText, HasText, AreKnown, AsksCells, AsksCompared, AsksForm, AsksNoCells, AsksNoForm, AsksNoPlaces}
+use Rattle.cli_words.specs.Line.{AsksNothingCompared, AsksText}
 
 -- the options of a report say this: the file that it makes, whether it has changes of rows, and what else is asked
 abbrev pub IsReport : (options : List (List ℕ)) → (file : Bor (List ℕ)) → Options → Request → Type 0
@@ -17,15 +19,23 @@ IsReport options file o request = AreKnown Reports options
     × ((to : Bor (List ℕ)) × (changes : Bool) × HasText (codes "--to") options to.now
     × (IsTrue changes ↔ Contains options (codes "--changes")) × (request ≡ Report file to changes o))
 
--- the options of `rows` say this: the table, the form, and what else is asked
+-- the options of `rows` ask for rows: of which table, and in which form
+abbrev pub IsFormed : (options : List (List ℕ)) → (file : Bor (List ℕ)) → Options → Request → Type 0
+IsFormed options file o request = (table : Option (Bor (List ℕ))) × (form : RowForm) × AsksText (codes "--table") options table
+    × AsksForm options form × AsksNoPlaces options × (request ≡ Rows file table form o)
+
+-- they ask for places of cells
+abbrev pub IsPlaced : (options : List (List ℕ)) → (file : Bor (List ℕ)) → Options → Request → Type 0
+IsPlaced options file o request = (cells : Cells) × AsksCells options cells × (request ≡ TellsCells file cells o)
+
+-- the options of `rows` say this: which rows or cells, and what else is asked
 abbrev pub IsRows : (options : List (List ℕ)) → (file : Bor (List ℕ)) → Options → Request → Type 0
-IsRows options file o request = AreKnown Prints options × (o.pointer_maps ≡ false)
-    × ((table : Option (Bor (List ℕ))) × (form : RowForm) × AsksText (codes "--table") options table × AsksForm options form
-    × (request ≡ Rows file table form o))
+IsRows options file o request =
+    AreKnown Prints options × (o.pointer_maps ≡ false) × (IsFormed options file o request ⊎ IsPlaced options file o request)
 
 -- they don't
 abbrev pub AskNoRows : (options : List (List ℕ)) → Options → Type 0
-AskNoRows options o = (¬ AreKnown Prints options) ⊎ IsTrue o.pointer_maps ⊎ AsksNoForm options
+AskNoRows options o = (¬ AreKnown Prints options) ⊎ IsTrue o.pointer_maps ⊎ AsksNoForm options ⊎ AsksNoCells options
 
 -- the options of `diff` say this: what is compared, and what else is asked
 abbrev pub IsDiff : (options : List (List ℕ)) → (file : Bor (List ℕ)) → Options → Request → Type 0

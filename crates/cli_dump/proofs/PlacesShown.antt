@@ -1,0 +1,37 @@
+-- Where rows stand, of the files that are asked for.
+use Rattle.std.proofs.Common.{◌≡◌, ◌≤◌, ℕ, List, Option, Some, None, Result, Ok, Err, OnOk, length, sym, subst}
+use Rattle.std.specs.Prelude.{IfErr, MatchResult}
+use Rattle.sqval.specs.Database.{Database}
+use Rattle.sqval.specs.Limits.{Bounds}
+use Rattle.sqview.specs.LogView.{pages_of}
+use Rattle.sqview.specs.Origins.{AreFramePlaces}
+use Rattle.sqview.specs.declared.view.View.{View}
+use Rattle.sqview.proofs.openings.PagesOfView.{length_laid}
+use Rattle.cli_show.specs.Views.{AskedAnswer, AskedShows}
+use Rattle.cli_show_places.specs.Frames.{AreFrames, ArePlacesFramed, IsFramed}
+use Rattle.cli_dump.specs.Places.{AskedStands}
+
+-- the frame at which the view stands that is asked for, and its frames
+pub stands_asked : {F : Type 0} (limits : Bounds) (bytes : F → List ℕ) (at : Option ℕ) (db wal journal : List ℕ) (v : View F)
+    → AskedAnswer limits bytes at db wal journal (Ok v) → AskedStands at wal journal v.front
+stands_asked limits bytes None db wal journal v shown = shown.stands
+stands_asked limits bytes (Some m) db wal journal v shown = shown.stands
+
+pub framed_asked : {F : Type 0} (limits : Bounds) (bytes : F → List ℕ) (at : Option ℕ) (db wal journal : List ℕ) (v : View F)
+    → AskedAnswer limits bytes at db wal journal (Ok v) → IsFramed wal v
+framed_asked limits bytes None db wal journal v shown = shown.framed
+framed_asked limits bytes (Some m) db wal journal v shown =
+    subst (λ (n : ℕ). 1 ≤ n → AreFramePlaces v.page_size wal n v.count v.places.items) (sym shown.stands) shown.framed
+
+-- the frames of the pages that a view has
+pub frames_shown : {F : Type 0} (bytes : F → List ℕ) (wal : List ℕ) (v : View F) (frames : ℕ → Option ℕ) → AreFrames v.page_size wal v.front v.count frames
+    → AreFrames v.page_size wal v.front (length (pages_of bytes v)) frames
+frames_shown bytes wal v frames are =
+    subst (λ (n : ℕ). AreFrames v.page_size wal v.front n frames) (sym (length_laid v.page_size v.count (bytes v.db) (bytes v.log) v.places.items)) are
+
+-- what was printed, to its end or not, with the frames by which it was
+pub ended_framed : {F : Type 0} {E : Type 0} (wal : List ℕ) (v : View F) (ended : Result (Unit {0}) E) (P : (ℕ → Option ℕ) → Type 0) (R : (ℕ → Option ℕ) → E → Type 0)
+    → OnOk ended (ArePlacesFramed wal v P) → IfErr ended (λ stop. ArePlacesFramed wal v (λ frames. R frames stop))
+    → (frames : ℕ → Option ℕ) × AreFrames v.page_size wal v.front v.count frames × MatchResult ended (λ _. P frames) (λ stop. R frames stop)
+ended_framed wal v (Ok done) P R ok err = ok
+ended_framed wal v (Err stop) P R ok err = err

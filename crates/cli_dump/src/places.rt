@@ -1,0 +1,54 @@
+//! Where the rows of a database stand as its log has it.
+ghost use Rattle.std.specs.Prelude.{◌≡◌, IfErr, IfOk};
+ghost use Rattle.cli_show.specs.Contents.{AreGiven};
+ghost use Rattle.cli_show.specs.Fronts.{IsAskedFront};
+ghost use Rattle.cli_show.specs.Views.{IsUnasked};
+ghost use Rattle.cli_show_places.specs.Places.{name_of};
+ghost use Rattle.cli_dump.specs.Places.{ArePlacesShown};
+
+use crate::rows::Printed;
+use cli_facts::{Front, Refusal};
+use cli_show::{Contents, limits_of, view_of};
+use cli_show_places::print_places;
+use cli_words::Options;
+use sqview::FileBytes;
+use std::alloc::Global;
+use std::io::Write;
+
+/// The bytes of a name, if there is one.
+fn bytes_of<'a>(table: Option<&'a str>) -> Option<&'a [u8]>
+    ensures { name_of result ≡ name_of table.entry }
+{
+    match table {
+        Some(name) => Some(name.as_bytes()),
+        None => None,
+    }
+}
+
+/// Prints where the rows of a database stand as its log has them: those of the table of this name, or of each table.
+/// Refused as the view is; where they aren't printed to their end, those before stand.
+pub fn show_places<F: FileBytes + Drop, W: Write>(
+    alloc: Global,
+    files: Contents<F>,
+    options: Options,
+    table: Option<&str>,
+    out: &mut W,
+) -> Result<Printed, Refusal>
+    ensures front { AreGiven F.gives_bytes files → IfOk result (λ printed.
+        IsAskedFront options.at (F.bytes files.wal) (F.bytes files.journal) printed.front) }
+    ensures shown { AreGiven F.gives_bytes files → IfOk result (λ printed. ArePlacesShown options
+        (name_of table.entry) (F.bytes files.db) (F.bytes files.wal) (F.bytes files.journal) (W.contents out.old)
+        (W.contents out.new) printed.ended) }
+    ensures refused { AreGiven F.gives_bytes files → IfErr result
+        (IsUnasked options (F.bytes files.db) (F.bytes files.wal) (F.bytes files.journal)) }
+{
+    let Contents { db, wal, journal } = files;
+    match view_of(alloc, limits_of(options), db, wal, journal, options.at) {
+        Ok(view) => {
+            let front = Front::of_view(&view);
+            let ended = print_places(alloc, view, bytes_of(table), options.style, out);
+            Ok(Printed { front, ended })
+        }
+        Err(error) => Err(Refusal::from(error)),
+    }
+}

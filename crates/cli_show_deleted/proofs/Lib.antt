@@ -1,0 +1,8 @@
+-- What a source keeps over no step, and over two.
+pub mod Kept
+-- Cells of a page, one more at the end.
+pub mod CellsTold
+-- What a page of a role holds.
+pub mod RolesOfPages
+-- Pages, one more at the end.
+pub mod PagesPrinted

@@ -1,0 +1,4 @@
+pub mod Cells
+pub mod Lines
+pub mod Printed
+pub mod internal

@@ -1,0 +1,3 @@
+pub mod FramesOfView
+pub mod CellsWalked
+pub mod TurnsPlaced
