@@ -3,4 +3,5 @@ pub mod Names
 pub mod Stores
 pub mod Left
 pub mod Torn
+pub mod Differing
 pub mod internal

@@ -1,8 +1,7 @@
 -- What the records of a trace do to a set of files (own).
-use Rattle.std.specs.Prelude.{◌≡◌, ◌≢◌, ◌⊎◌, ℕ, ◌+◌, ◌-◌, ◌<◌, Bool, true, false, cond, not, ◌&&◌, ◌||◌, nat_eq, nat_lt, List, [], ◌∷◌, ◌++◌, length, map, set, Option, Some, None, slice_get}
+use Rattle.std.specs.Prelude.{◌≡◌, ◌≢◌, ℕ, ◌+◌, ◌-◌, ◌<◌, Bool, false, cond, not, ◌&&◌, ◌||◌, nat_eq, nat_lt, List, [], ◌∷◌, ◌++◌, length, map, set, Option, Some, None, slice_get}
 use Rattle.rig_play.specs.Names.{has_lengths}
 use Rattle.rig_play.specs.Plays.{Files, files_of, no_files, Step, StepRefused}
-use Rattle.rig_play.specs.declared.error.PlayError.{PlayError}
 use Rattle.rig_play.specs.declared.meta.Meta.{Meta}
 use Rattle.rig_play.specs.declared.trace.Kind.TheVariants as kinds
 use Rattle.rig_play.specs.declared.trace.Record.{Record}

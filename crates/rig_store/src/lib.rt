@@ -2,14 +2,17 @@
 #![tactic(auto)]
 
 mod call;
+mod differing;
 mod error;
 mod image;
+mod ranges;
 mod resized;
 mod store;
 mod table;
 mod torn;
 
 pub use call::{Action, Call, Trace};
+pub use differing::{Difference, differences};
 pub use error::StoreError;
 pub use image::{Image, draw, present};
 pub use store::Store;

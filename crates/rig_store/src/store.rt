@@ -1,5 +1,5 @@
 //! A trace of a set of files is played over modelled disks (own).
-ghost use Rattle.std.specs.Prelude.{◌≤◌, IsTrue, length};
+ghost use Rattle.std.specs.Prelude.{◌<◌, ◌≤◌, IsTrue, length};
 ghost use Rattle.crashdisk.specs.Solid.{is_sector_size};
 
 use crate::call::{Action, Call};
@@ -55,6 +55,14 @@ impl Store {
             log: Vec::new(alloc),
             durable: 0,
         }
+    }
+
+    /// The size of a disk's sectors in bytes.
+    pub fn sector(&self) -> u64
+        ensures same { result ≡ (store_of self.now).sector }
+        ensures some { 0 < result }
+    {
+        self.sector as u64
     }
 
     /// How names and truncations become durable.

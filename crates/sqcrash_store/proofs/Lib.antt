@@ -1,6 +1,8 @@
-pub mod NamedStates
 pub mod AppendedBytes
-pub mod SurveyedImages
-pub mod PlayedRecords
+pub mod KeptImages
+pub mod MembersWritten
+pub mod NamedStates
 pub mod NamesTold
+pub mod PlayedRecords
+pub mod SurveyedImages
 pub mod WordsAsked

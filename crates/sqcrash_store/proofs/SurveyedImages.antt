@@ -6,18 +6,21 @@ use Rattle.std.proofs.lemmas.Bool.{cases_lt}
 use Rattle.std.proofs.lemmas.Bool.Decides.{nat_tests}
 use Rattle.std.proofs.lemmas.List.{map-append, append-nil, drop-append-le, drop_all}
 use Rattle.std.proofs.lemmas.List.Elements.{All-append, filter-append}
-use Rattle.std.proofs.lemmas.Grind.{flat_map-append}
 use Rattle.std.proofs.lemmas.List.Folds.{list_any-append}
+use Rattle.std.proofs.lemmas.Grind.{flat_map-append}
 use Rattle.std.proofs.lemmas.List.Sums.{fold-append}
 use Rattle.rig_store.specs.Left.{MayLeave}
 use Rattle.rig_store.specs.Stores.{StoreState}
 use Rattle.rig_store.specs.Torn.{IsTornIfAny}
 use Rattle.sqcrash_store.specs.Keys.{key_of}
+use Rattle.sqcrash_store.specs.Judged.{Judged, kept_of, kept_among}
 use Rattle.sqcrash_store.specs.Points.{is_asked}
-use Rattle.sqcrash_store.specs.Surveys.{Judging, Judged, IsJudged, firsts, numbered, asked_among, with_number, with_images, line_of, lines_from}
+use Rattle.sqcrash_store.specs.Printed.{lines_of}
+use Rattle.sqcrash_store.specs.Surveys.{Judging, IsJudged, firsts, numbered, asked_among, with_number, with_images, lines_from}
 use Rattle.sqcrash_store.specs.Tallies.{with_image}
 use Rattle.sqcrash_store.specs.internal.Surveys.{IsSurveyed, has_key}
-use Rattle.sqcrash_store.specs.declared.lines.Place.{Place}
+use Rattle.sqcrash_store.specs.declared.crash.Crash.{Crash}
+use Rattle.sqcrash_store.specs.declared.plan.Plan.{Plan}
 use Rattle.sqcrash_store.specs.declared.tally.Tally.{Tally}
 use Rattle.sqcrash_store.specs.declared.verdict.Answer.{Answer}
 
@@ -105,14 +108,22 @@ asked_more asked images x =
     ∙ filter-append (λ (y : ℕ × List (Option (List ℕ))). is_asked asked y.0) (numbered 0 images) ((length images, x) ∷ [])
 
 -- the lines of one more
-pub lines_more : (at : Place) (judged : List Judged) (x : Judged) → lines_from at (judged ++ x ∷ []) ≡ lines_from at judged ++ line_of (record at { image = x.number }) x
-lines_more at judged x =
-    let line : Judged → List ℕ = λ y. line_of (record at { image = y.number }) y in
-    flat_map-append line judged (x ∷ []) ∙ ap (λ (l : List ℕ). lines_from at judged ++ l) (append-nil (line x))
+pub lines_more : (j : Judging) (t : Tally) (judged : List Judged) (x : Judged) → lines_from j t (judged ++ x ∷ []) ≡ lines_from j t judged ++ lines_of j.plan j.names (with_images t judged).wrong x.found
+lines_more j t [] x = append-nil (lines_of j.plan j.names t.wrong x.found)
+lines_more j t (first ∷ judged) x =
+    let next : Tally = with_image t first.found.verdict in
+    let line = lines_of j.plan j.names t.wrong first.found in
+    ap (λ (l : List ℕ). line ++ l) (lines_more j next judged x)
+    ∙ sym (append_assoc line (lines_from j next judged) (lines_of j.plan j.names (with_images next judged).wrong x.found))
 
 -- and its count
-pub images_more : (t : Tally) (judged : List Judged) (x : Judged) → with_images t (judged ++ x ∷ []) ≡ with_image (with_images t judged) x.verdict
-images_more t judged x = fold-append (λ (s : Tally) (y : Judged). with_image s y.verdict) t judged (x ∷ [])
+pub images_more : (t : Tally) (judged : List Judged) (x : Judged) → with_images t (judged ++ x ∷ []) ≡ with_image (with_images t judged) x.found.verdict
+images_more t judged x = fold-append (λ (s : Tally) (y : Judged). with_image s y.found.verdict) t judged (x ∷ [])
+
+-- and whether it is kept
+pub kept_more : (plan : Plan) (judged : List Judged) (x : Judged) → kept_among plan (judged ++ x ∷ []) ≡ kept_among plan judged ++ kept_of plan x
+kept_more plan judged x =
+    flat_map-append (kept_of plan) judged (x ∷ []) ∙ ap (λ (l : List Judged). kept_among plan judged ++ l) (append-nil (kept_of plan x))
 
 -- what holds of one holds of all of it alone, and anything of all of none
 all_one : {X : Type 0} (P : X → Type 0) (x : X) → P x → All P (x ∷ [])
@@ -129,9 +140,9 @@ all_from P m xs x all one = elim (cases_lt (length xs) m) [
   | inr behind ↦ subst (λ l. All P l) (sym (drop-append-le m xs (x ∷ []) behind)) (All-append P (drop m xs) (x ∷ []) all (all_one P x (one behind)))
 ]
 
-module _ (Says : List (Option (List ℕ)) → Answer → Type 0) (j : Judging) (s : StoreState) (known : ℕ) where
+module _ (Says : List (Option (List ℕ)) → Answer → Type 0) (j : Judging) (s : StoreState) (crash : Crash) where
   -- none was drawn yet
-  pub surveyed_none : (has : ℕ → Bool) → ((q : ℕ) → has q ≡ false) → IsSurveyed Says j s known 0 0 has []
+  pub surveyed_none : (has : ℕ → Bool) → ((q : ℕ) → has q ≡ false) → IsSurveyed Says j s crash 0 0 has []
   surveyed_none has none = record {
     drawn = [];
     number = refl;
@@ -139,12 +150,12 @@ module _ (Says : List (Option (List ℕ)) → Answer → Type 0) (j : Judging) (
     torn = subst (λ l. All (IsTornIfAny s) l) (sym (drop_all j.plan.images [] (omega arith))) (all_none (IsTornIfAny s));
     next_is = refl;
     once = refl;
-    each = all_none (IsJudged Says j.states known);
+    each = all_none (IsJudged Says j.states s crash);
     keyed = none;
   }
 
   -- one more is drawn, whose key wasn't there, and judged where it is asked for
-  module _ (n next : ℕ) (has has_then : ℕ → Bool) (judged : List Judged) (image : List (Option (List ℕ))) (so_far : IsSurveyed Says j s known n next has judged)
+  module _ (n next : ℕ) (has has_then : ℕ → Bool) (judged : List Judged) (image : List (Option (List ℕ))) (so_far : IsSurveyed Says j s crash n next has judged)
       (left : MayLeave s image) (torn : j.plan.images ≤ n → IsTornIfAny s image) (new : has (key_of image) ≡ false)
       (adds : (q : ℕ) → has_then q ≡ cond (nat_eq (key_of image) q) true (has q)) where
     more : firsts (so_far.drawn ++ image ∷ []) ≡ firsts so_far.drawn ++ image ∷ []
@@ -162,7 +173,7 @@ module _ (Says : List (Option (List ℕ)) → Answer → Type 0) (j : Judging) (
         both false false = refl
 
     surveyed_with : (all : List Judged) → map with_number all ≡ map with_number judged ++ if_asked (is_asked j.plan.image next) (next, image)
-        → All (IsJudged Says j.states known) all → IsSurveyed Says j s known (n + 1) (next + 1) has_then all
+        → All (IsJudged Says j.states s crash) all → IsSurveyed Says j s crash (n + 1) (next + 1) has_then all
     surveyed_with all once each =
         let drawn = so_far.drawn in
         record {
@@ -184,25 +195,25 @@ module _ (Says : List (Option (List ℕ)) → Answer → Type 0) (j : Judging) (
               ∙ ap (λ (l : List (List (Option (List ℕ)))). has_key q l) (sym more);
         }
 
-    pub surveyed_new : (x : Judged) → is_asked j.plan.image next ≡ true → x.image ≡ image → x.number ≡ next → IsJudged Says j.states known x
-        → IsSurveyed Says j s known (n + 1) (next + 1) has_then (judged ++ x ∷ [])
+    pub surveyed_new : (x : Judged) → is_asked j.plan.image next ≡ true → x.image ≡ image → x.found.number ≡ next → IsJudged Says j.states s crash x
+        → IsSurveyed Says j s crash (n + 1) (next + 1) has_then (judged ++ x ∷ [])
     surveyed_new x asked is number one =
         surveyed_with (judged ++ x ∷ [])
         (map-append with_number judged (x ∷ [])
         ∙ ap (λ (k : ℕ). map with_number judged ++ (k, x.image) ∷ []) number
         ∙ ap (λ (y : List (Option (List ℕ))). map with_number judged ++ (next, y) ∷ []) is
         ∙ ap (λ (b : Bool). map with_number judged ++ if_asked b (next, image)) (sym asked))
-        (All-append (IsJudged Says j.states known) judged (x ∷ []) so_far.each (all_one (IsJudged Says j.states known) x one))
+        (All-append (IsJudged Says j.states s crash) judged (x ∷ []) so_far.each (all_one (IsJudged Says j.states s crash) x one))
 
-    pub surveyed_unasked : is_asked j.plan.image next ≡ false → IsSurveyed Says j s known (n + 1) (next + 1) has_then judged
+    pub surveyed_unasked : is_asked j.plan.image next ≡ false → IsSurveyed Says j s crash (n + 1) (next + 1) has_then judged
     surveyed_unasked asked =
         surveyed_with judged
         (sym (append-nil (map with_number judged)) ∙ ap (λ (b : Bool). map with_number judged ++ if_asked b (next, image)) (sym asked))
         so_far.each
 
   -- one of a key that was there is drawn
-  pub surveyed_same : (n next : ℕ) (has has_then : ℕ → Bool) (judged : List Judged) (image : List (Option (List ℕ))) → IsSurveyed Says j s known n next has judged → MayLeave s image → (j.plan.images ≤ n → IsTornIfAny s image)
-      → has (key_of image) ≡ true → ((q : ℕ) → has_then q ≡ has q) → IsSurveyed Says j s known (n + 1) next has_then judged
+  pub surveyed_same : (n next : ℕ) (has has_then : ℕ → Bool) (judged : List Judged) (image : List (Option (List ℕ))) → IsSurveyed Says j s crash n next has judged → MayLeave s image → (j.plan.images ≤ n → IsTornIfAny s image)
+      → has (key_of image) ≡ true → ((q : ℕ) → has_then q ≡ has q) → IsSurveyed Says j s crash (n + 1) next has_then judged
   surveyed_same n next has has_then judged image so_far left torn seen same =
       let drawn = so_far.drawn in
       let there : has_key (key_of image) (firsts drawn) ≡ true = sym (so_far.keyed (key_of image)) ∙ seen in

@@ -1,16 +1,16 @@
 -- What words ask for that clap took apart, or refused.
 use Rattle.std.proofs.Common.{◌≡◌, refl, List, Option, Some, None, inl, inr, sym, ◌∙◌, ap, subst}
-use Rattle.std.specs.Prelude.{◌&&◌, Bool, true, false, option_map, MatchOption, Result, Ok, Err}
+use Rattle.std.specs.Prelude.{◌&&◌, [], codes, Bool, true, false, option_map, MatchOption, Result, Ok, Err}
 use Rattle.std.specs.Borrow.{Bor}
-use Rattle.clap.specs.Words.{App, HasKind, IsAmong, Text, fault_of, kind_of}
+use Rattle.clap.specs.Words.{App, HasKind, IsAmong, Row, Text, fault_of, first_of, kind_of, matches_of}
 use Rattle.clap.specs.declared.error.Error.{Error}
 use Rattle.clap.specs.declared.error.kind.ErrorKind.{ErrorKind}
 use Rattle.clap.specs.declared.error.kind.ErrorKind.TheVariants.{DisplayHelp, OutOfMemory}
 use Rattle.clap.specs.Words.{is_simple, is_simple_and_free}
 use Rattle.clap.specs.declared.builder.value_parser.ValueParser.{ValueParser}
-use Rattle.sqcrash_store.specs.Words.{Asks, AsksOf, IsLine, line}
+use Rattle.sqcrash_store.specs.Words.{Asks, AsksOf, IsLine, IsNoPart, line}
 use Rattle.sqcrash_store.specs.declared.commands.Request.{Request}
-use Rattle.sqcrash_store.specs.Refusals.{IsRefusal}
+use Rattle.sqcrash_store.specs.Refusals.{IsOfPart, IsRefusal}
 use Rattle.sqcrash_store.specs.declared.commands.LineError.{LineError}
 use Rattle.sqcrash_store.specs.declared.commands.LineError.TheVariants.{NotUnderstood, Help, NoMemory}
 
@@ -27,12 +27,19 @@ told a words error (Help e) is has = elim has [
 ]
 told a words error (NotUnderstood e) is has = elim has [
   | inl memory ↦ absurd (is.2 memory)
-  | inr among ↦ (
+  | inr among ↦ inl (
     λ help. is.1 (ap (λ (x : Error). kind_of x) (sym is.0) ∙ help),
     subst (λ (k : ErrorKind). IsAmong k (fault_of a words)) (ap (λ (x : Error). kind_of x) (sym is.0)) among,
   )
 ]
 told a words error NoMemory is has = tt
+
+-- clap took the words, and the part is none
+pub told_no_part : (a : App) (words : List Text) (rows : List Row) (r : LineError) → fault_of a words ≡ [] → matches_of a words ≡ rows
+    → IsNoPart (first_of (codes "part") rows) → IsOfPart r → AsksOf a words (Err r)
+told_no_part a words rows (Help e) fits are none is = absurd is
+told_no_part a words rows (NotUnderstood e) fits are none is = inr (fits, subst (λ (l : List Row). IsNoPart (first_of (codes "part") l)) (sym are) none)
+told_no_part a words rows NoMemory fits are none is = tt
 
 -- the program's command line is one of which clap says all
 line_is : (sectors metas promises : ValueParser) → is_simple_and_free (line sectors metas promises) ≡ true

@@ -1,5 +1,9 @@
 pub mod Verdicts
+pub mod Calls
 pub mod Lines
+pub mod Objects
+pub mod Printed
+pub mod Judged
 pub mod Tallies
 pub mod Points
 pub mod Keys

@@ -11,3 +11,8 @@ abbrev pub IsRefusal : Error → LineError → Type 0
 IsRefusal error (Help told) = (told ≡ error) × (kind_of error ≡ DisplayHelp)
 IsRefusal error (NotUnderstood told) = (told ≡ error) × (kind_of error ≢ DisplayHelp) × (kind_of error ≢ OutOfMemory)
 IsRefusal error NoMemory = Unit {0}
+
+-- a text is no part
+abbrev pub IsOfPart : LineError → Type 0
+IsOfPart (Help told) = ⊥
+IsOfPart _ = Unit {0}

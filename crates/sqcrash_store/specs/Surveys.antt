@@ -1,59 +1,57 @@
 -- The images of a point are judged, counted and told (own).
 use Rattle.std.specs.Prelude.{◌≡◌, ℕ, ◌+◌, ◌/◌, cond, not, nat_eq, List, [], ◌∷◌, ◌++◌, length, map, drop, fold, Option}
-use Rattle.std.specs.List.{All, filter, flat_map}
+use Rattle.std.specs.List.{All, filter}
 use Rattle.std.specs.String.{string_bytes}
-use Rattle.rig_store.specs.Left.{MayLeave}
+use Rattle.rig_store.specs.Differing.{AreDifferences}
+use Rattle.rig_store.specs.Left.{MayLeave, IsPresent}
 use Rattle.rig_store.specs.Stores.{StoreState}
 use Rattle.rig_store.specs.Torn.{IsTornIfAny}
+use Rattle.rig_store.specs.declared.differing.Difference.{Difference}
+use Rattle.sqcrash_store.specs.Judged.{Judged}
 use Rattle.sqcrash_store.specs.Keys.{key_of}
-use Rattle.sqcrash_store.specs.Lines.{finding_text}
 use Rattle.sqcrash_store.specs.Points.{is_asked}
+use Rattle.sqcrash_store.specs.Printed.{lines_of}
 use Rattle.sqcrash_store.specs.Tallies.{with_image}
 use Rattle.sqcrash_store.specs.Verdicts.{IsVerdict}
-use Rattle.sqcrash_store.specs.declared.lines.Place.{Place}
+use Rattle.sqcrash_store.specs.declared.crash.Crash.{Crash}
 use Rattle.sqcrash_store.specs.declared.plan.Plan.{Plan}
 use Rattle.sqcrash_store.specs.declared.survey.Bench.{Bench}
-use Rattle.sqcrash_store.specs.declared.survey.Point.{Point}
 use Rattle.sqcrash_store.specs.declared.tally.Tally.{Tally}
 use Rattle.sqcrash_store.specs.declared.verdict.Answer.{Answer}
-use Rattle.sqcrash_store.specs.declared.verdict.Verdict.{Verdict}
 
--- What a run is judged by: how, its trace, and what the command said of the files at the beginning and at each mark.
+-- What a run is judged by: how, its trace, the texts of its names, and what the command said of the files at the beginning and at
+-- each mark.
 pub record Judging : Type 0 where
   pub plan : Plan
   pub trace : List ℕ
+  pub names : List (List ℕ)
   pub states : List Answer
 
 abbrev pub judging_of : Bench → Judging
-judging_of b = record { plan = b.plan; trace = b.trace.now; states = b.states.now }
+judging_of b = record { plan = b.plan; trace = b.trace.now; names = map (λ n. string_bytes n) b.names.now; states = b.states.now }
 
--- An image, its number at its point, what the command said of it, and what is to be said of it by that.
-pub record Judged : Type 0 where
-  pub number : ℕ
-  pub image : List (Option (List ℕ))
+-- each name that shows another thing in an image than it would without a crash
+abbrev pub Differs : StoreState → (image : List (Option (List ℕ))) → List Difference → Type 0
+Differs s image found = (now : List (Option (List ℕ))) × IsPresent s now × AreDifferences s.sector s.names image now found
+
+-- The image that a crash left is judged as the command may say, by the states of a run of which one is known to be durable, and it
+-- is found what isn't down in it.
+pub record IsJudged (Says : List (Option (List ℕ)) → Answer → Type 0) (states : List Answer) (s : StoreState) (crash : Crash) (x : Judged) : Type 0 where
   pub answer : Answer
-  pub verdict : Verdict
-
--- the image is judged as the command may say, by the states of a run of which one is known to be durable
-pub record IsJudged (Says : List (Option (List ℕ)) → Answer → Type 0) (states : List Answer) (known : ℕ) (x : Judged) : Type 0 where
-  pub says : Says x.image x.answer
-  pub verdict : IsVerdict states known x.answer x.verdict
+  pub says : Says x.image answer
+  pub line : x.found.line ≡ answer.line
+  pub verdict : IsVerdict states crash.known answer x.found.verdict
+  pub crash_is : x.found.crash ≡ crash
+  pub differs : Differs s x.image x.found.differences.items
 
 -- with each of these images
 abbrev pub with_images : Tally → List Judged → Tally
-with_images t judged = fold (λ s x. with_image s x.verdict) t judged
+with_images t judged = fold (λ s x. with_image s x.found.verdict) t judged
 
--- the line of an image, if something is wrong with it
-abbrev pub line_of : Place → Judged → List ℕ
-line_of at x = finding_text at x.verdict (string_bytes x.answer.line)
-
--- where the image of a number is at a point
-abbrev pub place_of : Point → (image : ℕ) → Place
-place_of p image = record { point = p.number; image = image; known = p.known }
-
--- the lines of images of a point, each by its number
-abbrev pub lines_from : Place → List Judged → List ℕ
-lines_from at judged = flat_map (λ x. line_of (record at { image = x.number }) x) judged
+-- the lines of images, behind those that were counted
+abbrev pub lines_from : Judging → Tally → List Judged → List ℕ
+lines_from j t [] = []
+lines_from j t (x ∷ judged) = lines_of j.plan j.names t.wrong x.found ++ lines_from j (with_image t x.found.verdict) judged
 
 -- of images with the same key the first alone
 abbrev pub firsts : List (List (Option (List ℕ))) → List (List (Option (List ℕ)))
@@ -71,7 +69,7 @@ asked_among asked images = filter (λ x. is_asked asked x.0) images
 
 -- an image that is judged, with its number
 abbrev pub with_number : Judged → ℕ × List (Option (List ℕ))
-with_number x = (x.number, x.image)
+with_number x = (x.found.number, x.image)
 
 -- a third, and one where that leaves something
 abbrev pub third_of : ℕ → ℕ
@@ -83,10 +81,10 @@ drawn_count plan = plan.images + cond plan.tears (third_of plan.images) 0
 
 -- The images of a point: so many are drawn of those that a crash may leave; those that are more than asked for have a torn sector,
 -- where one may tear. Of these the images that differ have numbers, from 0 on, and each that is asked for is judged, once.
-pub record IsSurvey (Says : List (Option (List ℕ)) → Answer → Type 0) (j : Judging) (s : StoreState) (known : ℕ) (judged : List Judged) : Type 0 where
+pub record IsSurvey (Says : List (Option (List ℕ)) → Answer → Type 0) (j : Judging) (s : StoreState) (crash : Crash) (judged : List Judged) : Type 0 where
   pub drawn : List (List (Option (List ℕ)))
   pub number : length drawn ≡ drawn_count j.plan
   pub left : All (MayLeave s) drawn
   pub torn : All (IsTornIfAny s) (drop j.plan.images drawn)
   pub once : map with_number judged ≡ asked_among j.plan.image (numbered 0 (firsts drawn))
-  pub each : All (IsJudged Says j.states known) judged
+  pub each : All (IsJudged Says j.states s crash) judged

@@ -5,7 +5,7 @@ use Rattle.sqcrash_store.specs.declared.verdict.Verdict.{Verdict}
 use Rattle.sqcrash_store.specs.declared.verdict.Verdict.TheVariants.{Kept, Lost, Mixed, Fault}
 
 abbrev pub no_tally : Tally
-no_tally = record { points = 0; images = 0; lost = 0; mixed = 0; faults = 0 }
+no_tally = record { points = 0; images = 0; wrong = 0; lost = 0; mixed = 0; faults = 0 }
 
 -- nothing is wrong
 pub record IsClean (t : Tally) : Type 0 where
@@ -19,6 +19,6 @@ with_point t = record t { points = t.points + 1 }
 -- with one more image, of which this is to be said
 abbrev pub with_image : Tally → Verdict → Tally
 with_image t (Kept k) = record t { images = t.images + 1 }
-with_image t (Lost k) = record t { images = t.images + 1; lost = t.lost + 1 }
-with_image t Mixed = record t { images = t.images + 1; mixed = t.mixed + 1 }
-with_image t Fault = record t { images = t.images + 1; faults = t.faults + 1 }
+with_image t (Lost k) = record t { images = t.images + 1; wrong = t.wrong + 1; lost = t.lost + 1 }
+with_image t Mixed = record t { images = t.images + 1; wrong = t.wrong + 1; mixed = t.mixed + 1 }
+with_image t Fault = record t { images = t.images + 1; wrong = t.wrong + 1; faults = t.faults + 1 }

@@ -1,5 +1,5 @@
 -- What is to be said of files, by what a command said of them (own).
-use Rattle.std.specs.Prelude.{◌≡◌, ℕ, ◌<◌, ◌≤◌, ◌+◌, true, false, List, slice_get, Some}
+use Rattle.std.specs.Prelude.{◌≡◌, ℕ, ◌<◌, ◌≤◌, ◌+◌, true, false, Bool, List, slice_get, Some}
 use Rattle.std.specs.String.{string_bytes}
 use Rattle.sqcrash_store.specs.declared.verdict.Answer.{Answer}
 use Rattle.sqcrash_store.specs.declared.verdict.Verdict.{Verdict}
@@ -31,3 +31,8 @@ IsVerdict states known answer Fault = answer.is_sound ≡ false
 IsVerdict states known answer Mixed = (answer.is_sound ≡ true) × NoneNamed states (string_bytes answer.line)
 IsVerdict states known answer (Kept k) = (answer.is_sound ≡ true) × IsLastNamed states (string_bytes answer.line) k × (known ≤ k)
 IsVerdict states known answer (Lost k) = (answer.is_sound ≡ true) × IsLastNamed states (string_bytes answer.line) k × (k < known)
+
+-- something is wrong with it
+abbrev pub is_wrong : Verdict → Bool
+is_wrong (Kept k) = false
+is_wrong _ = true

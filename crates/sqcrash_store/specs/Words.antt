@@ -1,7 +1,8 @@
 -- What the words of the command line ask for, as clap reads them (own).
-use Rattle.std.specs.Prelude.{◌≡◌, ◌≢◌, ℕ, ◌<◌, ◌^◌, Bool, true, false, not, cond, List, [], ◌∷◌, map, codes, Option, Some, None, unwrap_or, MatchOption, Result, Ok, Err}
+use Rattle.std.specs.Prelude.{◌≡◌, ◌≢◌, ◌⊎◌, ℕ, ◌<◌, ◌≤◌, ◌^◌, nat_eq, length, option_map, Bool, true, false, not, cond, List, [], ◌∷◌, map, codes, Option, Some, None, unwrap_or, MatchOption, Result, Ok, Err}
 use Rattle.std.specs.Borrow.{Bor}
 use Rattle.std.specs.Option.{option_map_or}
+use Rattle.std.specs.List.{before_first, after_first, position_or_len}
 use Rattle.std.specs.Str.{bytes_eq}
 use Rattle.std.specs.Str.Parse.{IsNumeral, digits_value, without_leading_plus}
 use Rattle.clap.specs.Words.{App, Row, Rule, Text, IsAmong, fault_of, first_of, kind_of, matches_of, new_app, new_rule, with_rule}
@@ -11,6 +12,7 @@ use Rattle.clap.specs.declared.builder.value_parser.ValueParser.TheVariants.{Nam
 use Rattle.clap.specs.declared.error.kind.ErrorKind.TheVariants.{DisplayHelp}
 use Rattle.rig_play.specs.declared.meta.Meta.{Meta}
 use Rattle.rig_play.specs.declared.meta.Meta.TheVariants.{Parts, Whole, Ordered}
+use Rattle.sqcrash_store.specs.declared.plan.Part.{Part}
 use Rattle.sqcrash_store.specs.declared.plan.Plan.{Plan}
 use Rattle.sqcrash_store.specs.declared.commands.Request.{Request}
 use Rattle.sqcrash_store.specs.declared.commands.LineError.{LineError}
@@ -26,7 +28,16 @@ flag name = record (new_rule name) { long = Some name; action = Some SetTrue }
 abbrev pub option : (name : Text) → ValueParser → Rule
 option name parser = record (new_rule name) { long = Some name; action = Some Set; value_names = 1; parser = Some parser }
 
--- a command with the words that have to be there; with what a disk does; and with which images are drawn and judged
+-- one with any text
+abbrev pub text : (name : Text) → Rule
+text name = record (new_rule name) { long = Some name; action = Some Set; value_names = 1 }
+
+-- an option whose value is a number
+abbrev pub number : (name : Text) → Rule
+number name = option name (Unsigned 0 18446744073709551615)
+
+-- a command with the words that have to be there; with what a disk does; with which images are drawn; with where they are judged, and
+-- by what; with which of them are; and with what is told and kept of them
 abbrev pub with_words : App → App
 with_words a = with_rule (with_rule (with_rule a (word (codes "TRACE"))) (word (codes "IMAGES"))) (word (codes "ASKS"))
 
@@ -35,15 +46,21 @@ with_disk sectors metas a =
     with_rule (with_rule (with_rule a (option (codes "sector") sectors)) (flag (codes "tears"))) (option (codes "meta") metas)
 
 abbrev pub with_draws : App → App
-with_draws a = with_rule (with_rule a (option (codes "images") (Unsigned 1 18446744073709551615))) (option (codes "seed") (Unsigned 0 18446744073709551615))
+with_draws a = with_rule (with_rule a (option (codes "images") (Unsigned 1 18446744073709551615))) (number (codes "seed"))
 
 abbrev pub with_points : (promises : ValueParser) → App → App
 with_points promises a =
-    with_rule (with_rule (with_rule (with_rule a (flag (codes "every"))) (option (codes "promise") promises)) (option (codes "point") (Unsigned 0 18446744073709551615))) (option (codes "image") (Unsigned 0 18446744073709551615))
+    with_rule (with_rule a (flag (codes "every"))) (option (codes "promise") promises)
+
+abbrev pub with_chosen : App → App
+with_chosen a = with_rule (with_rule (with_rule a (text (codes "part"))) (number (codes "point"))) (number (codes "image"))
+
+abbrev pub with_told : App → App
+with_told a = with_rule (with_rule (with_rule (with_rule a (flag (codes "why"))) (flag (codes "json"))) (number (codes "lines"))) (text (codes "keep"))
 
 -- the command line, with the values that options take
 abbrev pub line : (sectors metas promises : ValueParser) → App
-line sectors metas promises = with_points promises (with_draws (with_disk sectors metas (with_words (new_app (codes "sqcrash_store")))))
+line sectors metas promises = with_told (with_chosen (with_points promises (with_draws (with_disk sectors metas (with_words (new_app (codes "sqcrash_store")))))))
 
 -- a value is one of these names
 abbrev pub IsOneOf : List Text → ValueParser → Type 0
@@ -75,6 +92,24 @@ GivesNumber (Some text) number = MatchOption number ((n : ℕ) → ¬ IsNumber t
 abbrev pub NumberOr : (or : ℕ) → Option Text → (n : ℕ) → Type 0
 NumberOr or given n = (number : Option ℕ) × GivesNumber given number × (n ≡ unwrap_or number or)
 
+-- a text is a part: its number and how many there are, on the two sides of its first slash
+pub record IsPart (text : Text) (p : Part) : Type 0 where
+  pub slash : position_or_len (λ b. nat_eq b 47) text < length text
+  pub number : IsNumber (before_first (λ b. nat_eq b 47) text) p.number
+  pub of : IsNumber (after_first (λ b. nat_eq b 47) text) p.of
+  pub first : 1 ≤ p.number
+  pub last : p.number ≤ p.of
+
+-- the part that is asked for, if one is
+abbrev pub GivesPart : Option Text → Option Part → Type 0
+GivesPart None part = part ≡ None
+GivesPart (Some text) part = MatchOption part ⊥ (IsPart text)
+
+-- a part is asked for by a text that is none
+abbrev pub IsNoPart : Option Text → Type 0
+IsNoPart None = ⊥
+IsNoPart (Some text) = (p : Part) → ¬ IsPart text p
+
 -- the size of a disk's sectors, and how names and lengths become durable
 abbrev pub sector_by : List Row → ℕ
 sector_by rows = cond (gives (codes "sector") (codes "4096") rows) 4096 512
@@ -91,6 +126,10 @@ pub record IsPlan (rows : List Row) (plan : Plan) : Type 0 where
   pub seed : NumberOr 1 (first_of (codes "seed") rows) plan.seed
   pub every : plan.every ≡ gives (codes "every") (codes "true") rows
   pub promised : plan.is_promised ≡ not (gives (codes "promise") (codes "none") rows)
+  pub why : plan.why ≡ gives (codes "why") (codes "true") rows
+  pub json : plan.json ≡ gives (codes "json") (codes "true") rows
+  pub lines : GivesNumber (first_of (codes "lines") rows) plan.lines
+  pub part : GivesPart (first_of (codes "part") rows) plan.part
   pub point : GivesNumber (first_of (codes "point") rows) plan.point
   pub image : GivesNumber (first_of (codes "image") rows) plan.image
 
@@ -99,13 +138,15 @@ pub record IsRequest (rows : List Row) (request : Request) : Type 0 where
   pub trace : first_of (codes "TRACE") rows ≡ Some request.trace.now
   pub images : first_of (codes "IMAGES") rows ≡ Some request.images.now
   pub asks : first_of (codes "ASKS") rows ≡ Some request.asks.now
+  pub keep : option_map (λ path. path.now) request.keep ≡ first_of (codes "keep") rows
   pub plan : IsPlan rows request.plan
 
--- What words ask for of a command line: a request exactly where clap takes them; otherwise help, or why it doesn't.
+-- What words ask for of a command line: a request exactly where clap takes them and the part is one; otherwise help, or why they ask
+-- for none.
 abbrev pub AsksOf : App → (words : List Text) → Result Request LineError → Type 0
 AsksOf a words (Ok request) = (fault_of a words ≡ []) × IsRequest (matches_of a words) request
 AsksOf a words (Err (Help error)) = (kind_of error ≡ DisplayHelp) × IsAmong DisplayHelp (fault_of a words)
-AsksOf a words (Err (NotUnderstood error)) = (kind_of error ≢ DisplayHelp) × IsAmong (kind_of error) (fault_of a words)
+AsksOf a words (Err (NotUnderstood error)) = ((kind_of error ≢ DisplayHelp) × IsAmong (kind_of error) (fault_of a words)) ⊎ ((fault_of a words ≡ []) × IsNoPart (first_of (codes "part") (matches_of a words)))
 AsksOf a words (Err NoMemory) = Unit {0}
 
 -- and of the program's

@@ -2,6 +2,8 @@
 ghost use Rattle.std.specs.Prelude.{◌≡◌, ◌↔◌, [], ◌∷◌, IsTrue, IfOk};
 ghost use Rattle.sqcrash_store.specs.Runs.{IsSaid};
 
+use crate::found::Found;
+use crate::lines::write_found;
 use crate::outcome::Refusal;
 use crate::verdict::Answer;
 use rig_store::Image;
@@ -12,19 +14,33 @@ use std::rt::Files;
 
 /// Who says of files whether they are sound, and which state they show.
 pub trait Judge {
-    ghost use Rattle.std.specs.Prelude.{ℕ, List, Option, IfOk};
+    ghost use Rattle.std.specs.Prelude.{◌∷◌, [], ℕ, List, Option, None, IfOk, OnOk};
     ghost use Rattle.rig_store.specs.Left.{image_of};
+    ghost use Rattle.sqcrash_store.specs.Judged.{Judged, Keeps};
     ghost use Rattle.sqcrash_store.specs.declared.verdict.Answer.{Answer};
 
     /// What it may say of what the names show.
     ghost says: { List (Option (List ℕ)) → Answer → Type 0 };
 
+    /// The images that were handed to it to be kept, where these are known.
+    ghost kept: { Self → Option (List Judged) } = { λ _. None };
+
     /// Is asked of an image, whose names have these texts.
     fn judge(&mut self, image: &Image, names: &[String]) -> Result<Answer, Refusal>
-        ensures { IfOk result (says (image_of image.now)) };
+        ensures says { IfOk result (says (image_of image.now)) }
+        ensures kept { OnOk result (Keeps (kept self.old) (kept self.new) []) };
+
+    /// Takes an image that is to be kept, and what was found of it.
+    fn keep(&mut self, image: &Image, names: &[String], found: &Found) -> Result<(), Refusal>
+        ensures { OnOk result (Keeps (kept self.old) (kept self.new)
+            (record { image = image_of image.now; found = found.now } ∷ [])) };
 }
 
-/// Writes each image into a folder of its own, names that in a line, and reads a line with the answer.
+/// The most images that are kept.
+const MOST: u64 = 1000;
+
+/// Writes each image into a folder of its own, names that in a line, and reads a line with the answer. Images that are
+/// kept go into a folder of their own, too.
 #[derive(Drop)]
 pub struct Asking<'a, R, I, W> {
     pub rt: &'a R,
@@ -33,6 +49,9 @@ pub struct Asking<'a, R, I, W> {
     pub answers: &'a mut I,
     pub asks: W,
     pub asked: u64,
+    /// The folder in which those are made that are kept; none are where there is none.
+    pub keep: Option<&'a str>,
+    pub kept: u64,
 }
 
 /// Whether a text is the name of a file in a folder.
@@ -104,5 +123,24 @@ impl<R: Files + AllocGlobal, I: BufRead, W: Write> Judge for Asking<'_, R, I, W>
             return Err(Refusal::NoAnswer);
         }
         said(alloc, line.as_str().trim_end())
+    }
+
+    fn keep(&mut self, image: &Image, names: &[String], found: &Found) -> Result<(), Refusal> {
+        let Some(path) = self.keep else {
+            return Ok(());
+        };
+        if self.kept >= MOST {
+            return Ok(());
+        }
+        self.kept = self.kept.wrapping_add(1);
+        let alloc = self.rt.alloc();
+        let (point, number) = (found.crash.point, found.number);
+        let folder = format!(in alloc; "{path}/p{point}-i{number}")?;
+        let mut text = Vec::new(alloc);
+        write_found(&mut text, true, names, found).map_err(failed)?;
+        fs::create_dir(self.rt, folder.as_str()).map_err(failed)?;
+        put(self.rt, folder.as_str(), image, names)?;
+        let told = format!(in alloc; "{folder}.txt")?;
+        fs::write(self.rt, told.as_str(), text.as_slice()).map_err(failed)
     }
 }

@@ -1,14 +1,18 @@
 //! The options, as clap reads them.
-ghost use Rattle.std.specs.Prelude.{◌≡◌, true, false, IsTrue, ℕ, None, Some, map, IfOk, IfSome, MatchOption};
+ghost use Rattle.std.specs.Prelude.{◌≡◌, ◌≤◌, true, false, IsTrue, ℕ, None, Some, codes, map};
+ghost use Rattle.std.specs.Prelude.{IfOk, IfSome, MatchOption};
 ghost use Rattle.crashdisk.specs.Solid.{is_sector_size};
 ghost use Rattle.clap.specs.Words.{app_of, found_of, first_of, is_simple_and_free, rows_of, rule_of, with_rule};
 ghost use Rattle.clap.specs.declared.builder.value_parser.ValueParser.TheVariants as ValueParser;
-ghost use Rattle.sqcrash_store.specs.Words.{with_disk, with_draws, with_points, with_words, line, option, flag, word};
-ghost use Rattle.sqcrash_store.specs.Words.{Asks, AsksOf, GivesNumber, IsLine, IsNumber, IsPlan, IsRequest};
+ghost use Rattle.sqcrash_store.specs.Words.{with_chosen, with_disk, with_draws, with_points, with_told, with_words};
+ghost use Rattle.sqcrash_store.specs.Words.{line, number, option, flag, text, word};
+ghost use Rattle.sqcrash_store.specs.Words.{Asks, AsksOf, GivesNumber, GivesPart, IsLine, IsNoPart, IsNumber, IsPart};
+ghost use Rattle.sqcrash_store.specs.Words.{IsPlan, IsRequest};
+ghost use Rattle.sqcrash_store.specs.declared.plan.Part.{Part};
 ghost use Rattle.sqcrash_store.specs.Words.{NumberOr, gives, meta_by, sector_by};
-ghost use Rattle.sqcrash_store.specs.Refusals.{IsRefusal};
+ghost use Rattle.sqcrash_store.specs.Refusals.{IsOfPart, IsRefusal};
 
-use crate::plan::Plan;
+use crate::plan::{Part, Plan};
 use clap::builder::ValueParser;
 use clap::error::ErrorKind;
 use clap::{Arg, ArgAction, ArgMatches, Command};
@@ -27,6 +31,8 @@ pub struct Request<'a> {
     pub images: &'a str,
     /// Where it is written which image is made.
     pub asks: &'a str,
+    /// The folder in which images are made that are kept.
+    pub keep: Option<&'a str>,
 }
 
 /// Why a line asks for nothing.
@@ -67,6 +73,31 @@ fn option<'a>(
         .action(ArgAction::Set)
         .help(help)
         .value_parser(parser)
+}
+
+/// An option with any text.
+fn text<'a>(alloc: Global, name: &'static str, value: &'static str, help: &'static str) -> Arg<'a>
+    ensures rule { rule_of result ≡ text name.now }
+    ensures global { result.global ≡ false }
+{
+    Arg::new(alloc, name)
+        .long(name)
+        .value_name(value)
+        .action(ArgAction::Set)
+        .help(help)
+}
+
+/// An option whose value is a number.
+fn number_option<'a>(
+    alloc: Global,
+    name: &'static str,
+    value: &'static str,
+    help: &'static str,
+) -> Arg<'a>
+    ensures rule { rule_of result ≡ number name.now }
+    ensures global { result.global ≡ false }
+{
+    option(alloc, name, value, help, ValueParser::unsigned(0, u64::MAX))
 }
 
 /// An option without one.
@@ -159,12 +190,11 @@ fn with_draws<'a>(alloc: Global, command: Command<'a>) -> Result<Command<'a>, Al
         "The most images at a point, 100 if left out; where sectors tear a third more, torn ones",
         ValueParser::unsigned(1, u64::MAX),
     );
-    let seed = option(
+    let seed = number_option(
         alloc,
         "seed",
         "S",
         "The number that the draws begin with; 1 if left out",
-        ValueParser::unsigned(0, u64::MAX),
     );
     let command = with(command, images)?;
     with(command, seed)
@@ -190,24 +220,58 @@ fn with_points<'a>(
         "What is known at a mark: all, or nothing; full if left out",
         promises,
     );
-    let point = option(
+    let command = with(command, every)?;
+    with(command, promise)
+}
+
+/// Which points and images are judged.
+fn with_chosen<'a>(alloc: Global, command: Command<'a>) -> Result<Command<'a>, AllocError>
+    ensures { IfOk result (λ c. app_of c ≡ with_chosen (app_of command.entry)) }
+{
+    let part = text(
         alloc,
-        "point",
-        "P",
-        "Judges point P alone, counted from 1",
-        ValueParser::unsigned(0, u64::MAX),
+        "part",
+        "K/N",
+        "Judges of each N points in turn the K-th alone",
     );
-    let image = option(
+    let point = number_option(alloc, "point", "P", "Judges point P alone, counted from 1");
+    let image = number_option(
         alloc,
         "image",
         "I",
         "Judges image I of a point alone, counted from 0",
-        ValueParser::unsigned(0, u64::MAX),
     );
-    let command = with(command, every)?;
-    let command = with(command, promise)?;
+    let command = with(command, part)?;
     let command = with(command, point)?;
     with(command, image)
+}
+
+/// What is told of images and kept.
+fn with_told<'a>(alloc: Global, command: Command<'a>) -> Result<Command<'a>, AllocError>
+    ensures { IfOk result (λ c. app_of c ≡ with_told (app_of command.entry)) }
+{
+    let why = flag(
+        alloc,
+        "why",
+        "Tells of each image with a line behind which record the crash came, and what isn't down",
+    );
+    let json = flag(alloc, "json", "Writes an object of JSON a line");
+    let lines = number_option(
+        alloc,
+        "lines",
+        "N",
+        "The most images of which lines are written; behind them how many more there are",
+    );
+    let keep = text(
+        alloc,
+        "keep",
+        "DIR",
+        "Makes the folder DIR/pPOINT-iIMAGE of images with something wrong, the first 1000, and why beside it",
+    );
+    let command = with(command, why)?;
+    let command = with(command, json)?;
+    let command = with(command, lines)?;
+    with(command, keep)
 }
 
 /// The program's command line, with these values of its options.
@@ -225,7 +289,9 @@ fn command_with<'a>(
     let command = with_words(alloc, command)?;
     let command = with_disk(alloc, command, sectors, metas)?;
     let command = with_draws(alloc, command)?;
-    with_points(alloc, command, promises)
+    let command = with_points(alloc, command, promises)?;
+    let command = with_chosen(alloc, command)?;
+    with_told(alloc, command)
 }
 
 /// The program's command line.
@@ -307,8 +373,28 @@ fn sector_of(matches: &ArgMatches<'_>) -> usize
     512
 }
 
-/// How a trace is to be judged.
-fn plan_of(matches: &ArgMatches<'_>) -> Plan
+/// The part of these numbers, if there is one.
+fn part_with(number: u64, of: u64) -> Option<Part>
+    ensures { MatchOption result (¬ ((1 ≤ number) × (number ≤ of)))
+        (λ p. (p.number ≡ number) × (p.of ≡ of) × (1 ≤ number) × (number ≤ of)) }
+{
+    if number == 0 || number > of {
+        return None;
+    }
+    Some(Part { number, of })
+}
+
+/// The part that a text is, if it is one.
+fn part_of(text: &str) -> Option<Part>
+    ensures { MatchOption result ((p : Part) → ¬ IsPart text.now p) (IsPart text.now) }
+{
+    let (number, of) = text.split_once('/')?;
+    part_with(number_of(number)?, number_of(of)?)
+}
+
+/// How a trace is to be judged, where this part is.
+fn plan_of(matches: &ArgMatches<'_>, part: Option<Part>) -> Plan
+    requires { GivesPart (first_of (codes "part") (rows_of (found_of matches.now))) part }
     ensures { IsPlan (rows_of (found_of matches.now)) result }
 {
     Plan {
@@ -319,21 +405,40 @@ fn plan_of(matches: &ArgMatches<'_>) -> Plan
         seed: number_or(matches, "seed", 1),
         every: gives(matches, "every", "true"),
         is_promised: !gives(matches, "promise", "none"),
+        why: gives(matches, "why", "true"),
+        json: gives(matches, "json", "true"),
+        lines: number(matches, "lines"),
+        part,
         point: number(matches, "point"),
         image: number(matches, "image"),
     }
 }
 
-/// What the words ask for.
-fn matched<'a>(matches: &ArgMatches<'a>) -> Option<Request<'a>>
+/// What the words ask for, where this part is asked for.
+fn matched<'a>(matches: &ArgMatches<'a>, part: Option<Part>) -> Option<Request<'a>>
+    requires { GivesPart (first_of (codes "part") (rows_of (found_of matches.now))) part }
     ensures { IfSome result (IsRequest (rows_of (found_of matches.now))) }
 {
     Some(Request {
         trace: value(matches, "TRACE")?,
-        plan: plan_of(matches),
+        plan: plan_of(matches, part),
         images: value(matches, "IMAGES")?,
         asks: value(matches, "ASKS")?,
+        keep: value(matches, "keep"),
     })
+}
+
+/// What is said of a text that is no part.
+const NO_PART: &str = "--part is K/N: 1 <= K <= N";
+
+/// The fault of a text that is no part.
+fn no_part(command: &mut Command<'_>) -> LineError
+    ensures { IsOfPart result }
+{
+    match command.error(ErrorKind::InvalidValue, NO_PART) {
+        Ok(error) => LineError::NotUnderstood(error),
+        Err(_) => LineError::NoMemory,
+    }
 }
 
 /// Why words ask for nothing by which clap was refused.
@@ -347,15 +452,32 @@ fn refused(error: clap::Error) -> LineError
     }
 }
 
+/// The part that is asked for, if one is; none of both where the text is none.
+fn asked_part(matches: &ArgMatches<'_>) -> Option<Option<Part>>
+    ensures { MatchOption result (IsNoPart (first_of (codes "part") (rows_of (found_of matches.now))))
+        (GivesPart (first_of (codes "part") (rows_of (found_of matches.now)))) }
+{
+    match value(matches, "part") {
+        None => Some(None),
+        Some(text) => match part_of(text) {
+            Some(part) => Some(Some(part)),
+            None => None,
+        },
+    }
+}
+
 /// Reads a line by this command.
 fn read<'a>(command: &mut Command<'a>, words: &'a [&'a str]) -> Result<Request<'a>, LineError>
     requires { is_simple_and_free (app_of command.now) ≡ true }
     ensures { AsksOf (app_of command.old) (map (λ w. w.now) words.entry.now) result }
 {
     match command.try_get_matches_from_mut(words) {
-        Ok(matches) => match matched(&matches) {
-            Some(request) => Ok(request),
-            None => Err(LineError::NoMemory),
+        Ok(matches) => match asked_part(&matches) {
+            Some(part) => match matched(&matches, part) {
+                Some(request) => Ok(request),
+                None => Err(LineError::NoMemory),
+            },
+            None => Err(no_part(command)),
         },
         Err(error) => Err(refused(error)),
     }

@@ -1,11 +1,13 @@
 //! A trace is judged from its beginning to its end (own).
 ghost use Rattle.std.specs.Prelude.{◌<◌, ℕ, List, IfOk};
 ghost use Rattle.std.specs.Io.KnownBytes.{Appends};
+ghost use Rattle.sqcrash_store.specs.Judged.{Judged, Keeps};
 ghost use Rattle.sqcrash_store.specs.Rigs.{IsJudgment};
 
 use crate::asking::Judge;
 use crate::outcome::Refusal;
 use crate::plan::Plan;
+use crate::printed::write_last;
 use crate::rig::Rig;
 use crate::states::{take_names, take_states};
 use crate::survey::Bench;
@@ -14,8 +16,8 @@ use rig_store::Trace;
 use std::alloc::Global;
 use std::io::Write;
 
-/// Judges a trace by a command, and writes a line for each image with something wrong. Answers what there was, which is
-/// one point or more.
+/// Judges a trace by a command, writes lines for each image with something wrong, and at the end what there was, and
+/// hands over those images that are kept. Answers what there was, which is one point or more.
 pub fn judge_trace<J: Judge, O: Write>(
     alloc: Global,
     plan: Plan,
@@ -23,8 +25,10 @@ pub fn judge_trace<J: Judge, O: Write>(
     judge: &mut J,
     out: &mut O,
 ) -> Result<Tally, Refusal>
-    ensures judged { IfOk result (λ tally. (lines : List ℕ) × IsJudgment J.says plan bytes.now tally lines
-        × Appends (O.contents out.old) (O.contents out.new) lines) }
+    ensures judged { IfOk result (λ tally. (lines : List ℕ) × (kept : List Judged)
+        × IsJudgment J.says plan bytes.now tally lines kept
+        × Appends (O.contents out.old) (O.contents out.new) lines
+        × Keeps (J.kept judge.old) (J.kept judge.new) kept) }
     ensures some { IfOk result (λ tally. 0 < tally.points) }
 {
     let trace = Trace::read(alloc, bytes)?;
@@ -45,5 +49,6 @@ pub fn judge_trace<J: Judge, O: Write>(
     if tally.points == 0 {
         return Err(Refusal::NoPoints);
     }
+    write_last(out, plan, tally)?;
     Ok(tally)
 }

@@ -5,11 +5,16 @@ ghost use Rattle.std.specs.Prelude.{◌≤◌, IfOk};
 
 mod asked;
 mod asking;
+mod calls;
 mod commands;
+mod crash;
+mod found;
 mod judging;
 mod lines;
+mod objects;
 mod outcome;
 mod plan;
+mod printed;
 mod program;
 mod rig;
 mod states;

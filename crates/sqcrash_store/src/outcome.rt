@@ -74,8 +74,12 @@ impl From<TraceError> for Refusal {
 impl From<io::Error> for Refusal {
     ghost from_gives = { λ _ _. Unit {0} };
 
-    fn from(_error: io::Error) -> Refusal {
-        Refusal::Unwritten
+    fn from(error: io::Error) -> Refusal {
+        if error.kind() == io::ErrorKind::OutOfMemory {
+            Refusal::NoMemory
+        } else {
+            Refusal::Unwritten
+        }
     }
 }
 

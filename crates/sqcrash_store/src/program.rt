@@ -73,9 +73,11 @@ fn carried_out<R: Files + AllocGlobal, I: BufRead, O: Write>(
         answers,
         asks,
         asked: 0,
+        keep: request.keep,
+        kept: 0,
     };
     let tally = judge_trace(rt.alloc(), request.plan, &bytes, &mut judge, out)?;
-    line(out, &tally)?;
+    out.flush()?;
     Ok(tally)
 }
 

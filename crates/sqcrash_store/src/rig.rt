@@ -1,9 +1,10 @@
 //! A trace is played, and what crashes may leave at its points is judged (own).
 ghost use Rattle.std.specs.Prelude.{◌≡◌, ◌+◌};
-ghost use Rattle.sqcrash_store.specs.Points.{is_point, IsKnown};
+ghost use Rattle.sqcrash_store.specs.Points.{is_point, is_judged, IsKnown};
 
-use crate::asked::is_asked;
+use crate::asked::{is_asked, is_of_part};
 use crate::asking::Judge;
+use crate::crash::Crash;
 use crate::outcome::{Refusal, more};
 use crate::plan::Plan;
 use crate::states::play;
@@ -21,6 +22,8 @@ pub struct Rig {
     marks: u64,
     /// The number of the last state that is known to be durable.
     known: u64,
+    /// How many records were played.
+    played: u64,
 }
 
 /// Whether a crash is judged behind a record.
@@ -46,13 +49,21 @@ fn known_by(plan: Plan, line: &[u8], mark: u64, known: u64) -> u64
     }
 }
 
+/// Whether the images of a point are judged.
+fn is_judged(plan: Plan, point: u64) -> bool
+    ensures { result ≡ is_judged plan point }
+{
+    is_asked(plan.point, point) && is_of_part(plan.part, point)
+}
+
 impl Rig {
     ghost use Rattle.std.specs.Prelude.{◌≡◌, ◌+◌, ℕ, List, OnOk};
     ghost use Rattle.std.specs.Io.KnownBytes.{Appends};
     ghost use Rattle.rig_store.specs.Calls.{bytes_of};
     ghost use Rattle.sqcrash_store.specs.Surveys.{judging_of};
-    ghost use Rattle.sqcrash_store.specs.Points.{is_asked};
-    ghost use Rattle.sqcrash_store.specs.Rigs.{rig_of, no_rig, NotesBy, JudgesAsked, PlaysOne};
+    ghost use Rattle.sqcrash_store.specs.Judged.{Judged, Keeps};
+    ghost use Rattle.sqcrash_store.specs.Points.{is_judged};
+    ghost use Rattle.sqcrash_store.specs.Rigs.{rig_of, no_rig, crash_of, NotesBy, JudgesAsked, PlaysOne};
 
     /// Nothing is played yet.
     pub fn new(bench: &Bench<'_>) -> Rig
@@ -64,6 +75,7 @@ impl Rig {
             tally: Tally::none(),
             marks: 0,
             known: 0,
+            played: 0,
         }
     }
 
@@ -89,28 +101,35 @@ impl Rig {
         }
     }
 
-    /// Counts the next point, and where that is asked for judges what a crash may leave there.
+    /// Counts the next point, behind a record that was played last, and where that is asked for judges what a crash may
+    /// leave there.
     fn judge<J: Judge, O: Write>(
         &mut self,
         bench: &Bench<'_>,
+        call: &Call,
         judge: &mut J,
         out: &mut O,
     ) -> Result<(), Refusal>
-        ensures { OnOk result ((lines : List ℕ)
-            × JudgesAsked J.says (is_asked bench.now.plan.point ((rig_of self.old).tally.points + 1))
-            (judging_of bench.now) (rig_of self.old) self.new.tally lines
+        ensures { OnOk result ((lines : List ℕ) × (kept : List Judged)
+            × JudgesAsked J.says (is_judged bench.now.plan ((rig_of self.old).tally.points + 1))
+            (judging_of bench.now) call.now (rig_of self.old) self.new.tally lines kept
             × (rig_of self.new ≡ record (rig_of self.old) { tally = self.new.tally })
-            × Appends (O.contents out.old) (O.contents out.new) lines) }
+            × Appends (O.contents out.old) (O.contents out.new) lines
+            × Keeps (J.kept judge.old) (J.kept judge.new) kept) }
     {
         let tally = self.tally.with_point()?;
-        if !is_asked(bench.plan.point, tally.points) {
+        if !is_judged(bench.plan, tally.points) {
             self.tally = tally;
             return Ok(());
         }
         let point = Point {
             store: &self.store,
-            number: tally.points,
-            known: self.known,
+            crash: Crash {
+                point: tally.points,
+                known: self.known,
+                played: self.played,
+                call: *call,
+            },
         };
         self.tally = survey(judge, bench, &point, tally, out)?;
         Ok(())
@@ -124,15 +143,17 @@ impl Rig {
         judge: &mut J,
         out: &mut O,
     ) -> Result<(), Refusal>
-        ensures { OnOk result ((lines : List ℕ)
-            × PlaysOne J.says (judging_of bench.now) call.now (rig_of self.old) (rig_of self.new) lines
-            × Appends (O.contents out.old) (O.contents out.new) lines) }
+        ensures { OnOk result ((lines : List ℕ) × (kept : List Judged)
+            × PlaysOne J.says (judging_of bench.now) call.now (rig_of self.old) (rig_of self.new) lines kept
+            × Appends (O.contents out.old) (O.contents out.new) lines
+            × Keeps (J.kept judge.old) (J.kept judge.new) kept) }
     {
         play(&mut self.store, bench.trace, call)?;
+        self.played = more(self.played)?;
         self.note(bench, call)?;
         if !is_point(bench.plan.every, call) {
             return Ok(());
         }
-        self.judge(bench, judge, out)
+        self.judge(bench, call, judge, out)
     }
 }

@@ -3,6 +3,7 @@ ghost use Rattle.std.specs.Prelude.{◌≡◌, [], ◌∷◌, ◌++◌, map, OnO
 ghost use Rattle.std.specs.String.{string_bytes};
 ghost use Rattle.rig_store.specs.Calls.{bytes_of};
 ghost use Rattle.rig_store.specs.Stores.{store_of, Goes};
+ghost use Rattle.sqcrash_store.specs.Judged.{Keeps};
 ghost use Rattle.sqcrash_store.specs.States.{SaysWhere, is_first, is_mark, tells_name, names_told, AreStates};
 
 use crate::asking::Judge;
@@ -78,7 +79,8 @@ fn take_where<J: Judge>(
     judge: &mut J,
     states: &mut Vec<Answer>,
 ) -> Result<(), Refusal>
-    ensures { OnOk result (SaysWhere J.says is (store_of store.now) states.old.items states.new.items) }
+    ensures says { OnOk result (SaysWhere J.says is (store_of store.now) states.old.items states.new.items) }
+    ensures kept { OnOk result (Keeps (J.kept judge.old) (J.kept judge.new) []) }
 {
     if !is {
         return Ok(());
@@ -112,7 +114,8 @@ pub fn take_states<J: Judge>(
     names: &[String],
     judge: &mut J,
 ) -> Result<Vec<Answer>, Refusal>
-    ensures { IfOk result (λ states. AreStates J.says plan trace.now calls.now states.items) }
+    ensures says { IfOk result (λ states. AreStates J.says plan trace.now calls.now states.items) }
+    ensures kept { OnOk result (Keeps (J.kept judge.old) (J.kept judge.new) []) }
 {
     let mut store = Store::new(alloc, plan.sector, plan.tears, plan.meta);
     let mut states = Vec::new(alloc);

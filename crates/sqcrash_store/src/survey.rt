@@ -1,26 +1,32 @@
-//! The images of a point are judged, counted and told (own).
-ghost use Rattle.std.specs.Prelude.{◌≡◌, ◌≤◌, ℕ, List, IfOk};
+//! The images of a point are judged, counted, told and kept (own).
+ghost use Rattle.std.specs.Prelude.{◌≡◌, ◌≤◌, ◌||◌, ◌++◌, List, [], ◌∷◌, OnOk, IfOk, map};
 ghost use Rattle.std.specs.Io.KnownBytes.{Appends};
+ghost use Rattle.std.specs.String.{string_bytes};
 ghost use Rattle.rand_pcg.specs.Lcg.{increment_of, started};
 ghost use Rattle.rand_pcg.specs.Pcg.{multiplier_64};
 ghost use Rattle.rig_store.specs.Left.{image_of, MayLeave};
 ghost use Rattle.rig_store.specs.Stores.{store_of};
 ghost use Rattle.rig_store.specs.Torn.{IsTornIfAny};
+ghost use Rattle.sqcrash_store.specs.Judged.{Judged, Keeps, is_some, kept_among, kept_of};
 ghost use Rattle.sqcrash_store.specs.Keys.{key_of};
+ghost use Rattle.sqcrash_store.specs.Printed.{lines_of};
+ghost use Rattle.sqcrash_store.specs.Surveys.{IsJudged, IsSurvey, drawn_count, judging_of, lines_from};
+ghost use Rattle.sqcrash_store.specs.Surveys.{third_of, with_images};
 ghost use Rattle.sqcrash_store.specs.Tallies.{with_image};
-ghost use Rattle.sqcrash_store.specs.Surveys.{Judged, IsJudged, IsSurvey, judging_of};
-ghost use Rattle.sqcrash_store.specs.Surveys.{with_images, line_of, lines_from, place_of, third_of, drawn_count};
+ghost use Rattle.sqcrash_store.specs.Verdicts.{is_wrong};
 
 use crate::asked::is_asked;
 use crate::asking::Judge;
-use crate::lines::{Place, write_finding};
+use crate::crash::Crash;
+use crate::found::Found;
 use crate::outcome::{Refusal, more};
 use crate::plan::Plan;
+use crate::printed::write_wrong;
 use crate::tally::Tally;
-use crate::verdict::{Answer, verdict_of};
+use crate::verdict::{Answer, Verdict, is_wrong, verdict_of};
 use rand_core::Rng;
 use rand_pcg::Pcg32;
-use rig_store::{Image, Store, draw, draw_torn};
+use rig_store::{Image, Store, differences, draw, draw_torn};
 use std::alloc::Global;
 use std::collections::HashSet;
 use std::hash::{FoldHasher, Hasher};
@@ -45,26 +51,15 @@ pub struct Bench<'a> {
 pub struct Point<'a> {
     /// What a crash may leave there.
     pub store: &'a Store,
-    /// Its number, counted from 1.
-    pub number: u64,
-    /// The number of the last state that is known to be durable.
-    pub known: u64,
+    /// The crash.
+    pub crash: Crash,
 }
 
-impl Point<'_> {
-    ghost use Rattle.std.specs.Prelude.{◌≡◌};
-    ghost use Rattle.sqcrash_store.specs.Surveys.{place_of};
-
-    /// Where the image of a number is.
-    fn place(&self, image: u64) -> Place
-        ensures { result ≡ place_of self.now image }
-    {
-        Place {
-            point: self.number,
-            image,
-            known: self.known,
-        }
-    }
+/// An image that is drawn, and its number at its point, counted from 0.
+#[derive(Clone, Copy)]
+struct Drawn<'a> {
+    image: &'a Image,
+    number: u64,
 }
 
 /// A number that is the same for the same image, and seldom for others (own).
@@ -84,23 +79,82 @@ fn key_of(image: &Image) -> u64
     hasher.finish()
 }
 
-/// Judges an image of what a crash may leave, counts it, and writes a line where something is wrong with it.
-fn judge_one<J: Judge, O: Write>(
+/// What is found of an image.
+fn found_of<J: Judge>(
+    judge: &mut J,
+    bench: &Bench<'_>,
+    point: &Point<'_>,
+    drawn: Drawn<'_>,
+) -> Result<Found, Refusal>
+    ensures judged { IfOk result (λ found. IsJudged J.says bench.now.states.now (store_of point.now.store.now)
+        point.now.crash (record { image = image_of drawn.entry.image.now; found = found })) }
+    ensures number { IfOk result (λ found. found.number ≡ drawn.entry.number) }
+    ensures kept { OnOk result (Keeps (J.kept judge.old) (J.kept judge.new) []) }
+{
+    let answer = judge.judge(drawn.image, bench.names)?;
+    let verdict = verdict_of(bench.states, point.crash.known, &answer);
+    let differences = differences(bench.alloc, point.store, drawn.image)?;
+    Ok(Found {
+        crash: point.crash,
+        number: drawn.number,
+        verdict,
+        line: answer.line,
+        differences,
+    })
+}
+
+/// Whether an image is kept.
+fn is_kept(plan: Plan, verdict: Verdict) -> bool
+    ensures { result ≡ (is_wrong verdict || is_some plan.image) }
+{
+    is_wrong(verdict) || plan.image.is_some()
+}
+
+/// Hands an image over that is kept.
+fn keep_one<J: Judge>(
     judge: &mut J,
     bench: &Bench<'_>,
     image: &Image,
-    at: Place,
+    found: &Found,
+) -> Result<(), Refusal>
+    ensures { OnOk result (Keeps (J.kept judge.old) (J.kept judge.new)
+        (kept_of bench.now.plan (record { image = image_of image.now; found = found.now }))) }
+{
+    if !is_kept(bench.plan, found.verdict) {
+        return Ok(());
+    }
+    judge.keep(image, bench.names, found)
+}
+
+/// Judges an image of what a crash may leave, counts it, writes its lines where something is wrong with it, and hands
+/// it over where it is kept.
+fn judge_one<J: Judge, O: Write>(
+    judge: &mut J,
+    bench: &Bench<'_>,
+    point: &Point<'_>,
+    drawn: Drawn<'_>,
     before: Tally,
     out: &mut O,
 ) -> Result<Tally, Refusal>
-    ensures { IfOk result (λ tally. (x : Judged) × (x.image ≡ image_of image.now) × (x.number ≡ at.image)
-        × IsJudged J.says bench.now.states.now at.known x × (tally ≡ with_image before x.verdict)
-        × Appends (O.contents out.old) (O.contents out.new) (line_of at x)) }
+    ensures { IfOk result (λ tally. (x : Judged) × (x.image ≡ image_of drawn.entry.image.now)
+        × (x.found.number ≡ drawn.entry.number)
+        × IsJudged J.says bench.now.states.now (store_of point.now.store.now) point.now.crash x
+        × (tally ≡ with_image before x.found.verdict)
+        × Appends (O.contents out.old) (O.contents out.new) (lines_of bench.now.plan (judging_of bench.now).names
+        before.wrong x.found)
+        × Keeps (J.kept judge.old) (J.kept judge.new) (kept_of bench.now.plan x)) }
 {
-    let answer = judge.judge(image, bench.names)?;
-    let said = verdict_of(bench.states, at.known, &answer);
-    let tally = before.with_image(said)?;
-    write_finding(out, at, said, answer.line.as_str())?;
+    let found = found_of(judge, bench, point, drawn)?;
+    let tally = before.with_image(found.verdict)?;
+    keep_one(judge, bench, drawn.image, &found)?;
+    write_wrong(
+        out,
+        bench.alloc,
+        bench.plan,
+        bench.names,
+        before.wrong,
+        &found,
+    )?;
     Ok(tally)
 }
 
@@ -157,11 +211,12 @@ pub fn survey<J: Judge, O: Write>(
     out: &mut O,
 ) -> Result<Tally, Refusal>
     ensures { IfOk result (λ tally. (judged : List Judged)
-        × IsSurvey J.says (judging_of bench.now) (store_of point.now.store.now) point.now.known judged
+        × IsSurvey J.says (judging_of bench.now) (store_of point.now.store.now) point.now.crash judged
         × (tally ≡ with_images before judged)
-        × Appends (O.contents out.old) (O.contents out.new) (lines_from (place_of point.now 0) judged)) }
+        × Appends (O.contents out.old) (O.contents out.new) (lines_from (judging_of bench.now) before judged)
+        × Keeps (J.kept judge.old) (J.kept judge.new) (kept_among bench.now.plan judged)) }
 {
-    let mut rng = draws_of(bench.plan, point.number);
+    let mut rng = draws_of(bench.plan, point.crash.point);
     let mut keys = HashSet::new(bench.alloc);
     let mut tally = before;
     let mut next = 0;
@@ -176,7 +231,11 @@ pub fn survey<J: Judge, O: Write>(
         if !is_asked(bench.plan.image, number) {
             continue;
         }
-        tally = judge_one(judge, bench, &image, point.place(number), tally, out)?;
+        let drawn = Drawn {
+            image: &image,
+            number,
+        };
+        tally = judge_one(judge, bench, point, drawn, tally, out)?;
     }
     Ok(tally)
 }

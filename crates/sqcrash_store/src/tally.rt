@@ -8,6 +8,8 @@ use std::fmt;
 pub struct Tally {
     pub points: u64,
     pub images: u64,
+    /// Those with something wrong.
+    pub wrong: u64,
     /// A state that was known to be durable is gone.
     pub lost: u64,
     /// A state that the run never had at a mark.
@@ -27,6 +29,7 @@ impl Tally {
         Tally {
             points: 0,
             images: 0,
+            wrong: 0,
             lost: 0,
             mixed: 0,
             faults: 0,
@@ -54,16 +57,22 @@ impl Tally {
     {
         self.images = more(self.images)?;
         match verdict {
-            Verdict::Kept(_) => {}
+            Verdict::Kept(_) => return Ok(self),
             Verdict::Lost(_) => self.lost = more(self.lost)?,
             Verdict::Mixed => self.mixed = more(self.mixed)?,
             Verdict::Fault => self.faults = more(self.faults)?,
         }
+        self.wrong = more(self.wrong)?;
         Ok(self)
     }
 }
 
 impl fmt::Display for Tally {
+    ghost use Rattle.std.specs.Prelude.{Some};
+    ghost use Rattle.sqcrash_store.specs.Lines.{tally_text};
+
+    ghost output = { λ t. Some (tally_text t) };
+
     fn fmt<W: fmt::Write>(&self, f: &mut fmt::Formatter<W>) -> fmt::Result {
         write!(
             f,

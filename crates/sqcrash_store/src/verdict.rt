@@ -1,7 +1,7 @@
 //! What a command says of files, and what that means (own).
 ghost use Rattle.std.specs.Prelude.{◌≡◌, ◌↔◌, IsTrue, true, MatchOption};
 ghost use Rattle.std.specs.String.{string_bytes};
-ghost use Rattle.sqcrash_store.specs.Verdicts.{IsLastNamed, NoneNamed, IsVerdict};
+ghost use Rattle.sqcrash_store.specs.Verdicts.{IsLastNamed, NoneNamed, IsVerdict, is_wrong};
 
 /// What a command said of files.
 #[derive(Debug, Drop, PartialEq, Eq)]
@@ -58,5 +58,15 @@ pub fn verdict_of(states: &[Answer], known: u64, answer: &Answer) -> Verdict
         None => Verdict::Mixed,
         Some(k) if (k as u64) < known => Verdict::Lost(k),
         Some(k) => Verdict::Kept(k),
+    }
+}
+
+/// Whether something is wrong with an image of which this is to be said.
+pub fn is_wrong(verdict: Verdict) -> bool
+    ensures { result ≡ is_wrong verdict }
+{
+    match verdict {
+        Verdict::Kept(_) => false,
+        Verdict::Lost(_) | Verdict::Mixed | Verdict::Fault => true,
     }
 }

@@ -1,4 +1,3 @@
-use Rattle.std.proofs.Common.{ℕ, List}
 use Rattle.rig_store.specs.Left.{IsLeft}
 use Rattle.rig_play.specs.Plays.{Files, files_of}
 use Rattle.rig_play.specs.declared.player.Player.{Player}

@@ -1,4 +1,4 @@
-use Rattle.std.proofs.Common.{◌<◌, arith}
+use Rattle.std.proofs.Common.{arith}
 use Rattle.rig_store.specs.Names.{is_ordered}
 use Rattle.rig_store.specs.Stores.{store_of}
 use Rattle.rig_store.proofs.NamesShown.{stand_by}

@@ -1,10 +1,9 @@
-use Rattle.std.proofs.Common.{◌≡◌, ◌<◌, List, length, sym, subst}
+use Rattle.std.proofs.Common.{◌<◌, List, length, sym, subst}
 use Rattle.std.proofs.lemmas.Result.{on_ok_weaker}
 use Rattle.rig_play.specs.Plays.{Files}
 use Rattle.rig_play.specs.declared.trace.Record.{Record}
 use Rattle.rig_store.specs.Stores.{store_of, FileGoes, GoesAs}
 use Rattle.rig_store.specs.declared.call.Action.{Action}
-use Rattle.rig_store.specs.declared.call.Action.TheVariants as actions
 use Rattle.rig_store.proofs.store.Store.play.Goals as goal
 
 pub returns-in-Write-clause-goes : goal.returns-in-Write-clause-goes

@@ -1,4 +1,4 @@
-use Rattle.std.proofs.Common.{◌≡◌, ◌<◌, ℕ, Bool, length, cond, true, false, refl, sym, ◌∙◌, ap, subst, arith}
+use Rattle.std.proofs.Common.{◌≡◌, ℕ, Bool, length, cond, ◌∙◌, ap, subst, arith}
 use Rattle.rig_play.specs.declared.trace.Record.{Record}
 use Rattle.rig_store.specs.Stores.{store_of, FileGoes, StoreState}
 use Rattle.rig_store.proofs.store.Store.sync.Goals as goal

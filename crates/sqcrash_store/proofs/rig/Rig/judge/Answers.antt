@@ -1,40 +1,49 @@
 use Rattle.std.proofs.Common.{◌≡◌, ℕ, Bool, List, [], refl, ◌∙◌, ap, subst}
-use Rattle.std.specs.Io.KnownBytes.{Appends}
-use Rattle.sqcrash_store.specs.Points.{is_asked}
-use Rattle.sqcrash_store.specs.Rigs.{rig_of, next_place, JudgesAsked}
-use Rattle.sqcrash_store.specs.Surveys.{judging_of, lines_from, with_images}
-use Rattle.sqcrash_store.specs.declared.lines.Place.{Place}
+use Rattle.sqcrash_store.specs.Judged.{kept_among}
+use Rattle.sqcrash_store.specs.Points.{is_judged}
+use Rattle.sqcrash_store.specs.Rigs.{rig_of, crash_of, JudgesAsked}
+use Rattle.sqcrash_store.specs.Surveys.{IsSurvey, judging_of, lines_from, with_images}
+use Rattle.sqcrash_store.specs.declared.crash.Crash.{Crash}
 use Rattle.sqcrash_store.specs.declared.tally.Tally.{Tally}
 use Rattle.sqcrash_store.proofs.AppendedBytes.{appends_none}
+use Rattle.sqcrash_store.proofs.KeptImages.{keeps_none}
 use Rattle.sqcrash_store.proofs.rig.Rig.judge.Goals as goal
 
-pub returns-then-not-is_asked : goal.returns-then-not-is_asked
-returns-then-not-is_asked g c =
+pub returns-then-not-is_judged : goal.returns-then-not-is_judged
+returns-then-not-is_judged g c =
     let bench = c.args.bench.now in
     let old = rig_of c.args.self.now in
     let tally = c.in_ok-tally.tally in
-    let asked = c.if-not-is_asked.ensures ∙ ap (λ (t : Tally). is_asked bench.plan.point t.points) c.in_ok-tally.ensures in (
+    let asked = c.if-not-is_judged.ensures ∙ ap (λ (t : Tally). is_judged bench.plan t.points) c.in_ok-tally.ensures in (
       [],
-      subst (λ (b : Bool). JudgesAsked g.J.Judge.says b (judging_of bench) old tally []) asked (c.in_ok-tally.ensures, refl),
+      [],
+      subst (λ (b : Bool). JudgesAsked g.J.Judge.says b (judging_of bench) c.args.call.now old tally [] []) asked (c.in_ok-tally.ensures, refl, refl),
       refl,
       appends_none (g.O.Write.contents c.args.out.now),
+      keeps_none (g.J.Judge.kept c.args.judge.now),
     )
 
 pub returns : goal.returns
 returns g c =
     let bench = c.args.bench.now in
+    let j = judging_of bench in
+    let call = c.args.call.now in
     let old = rig_of c.args.self.now in
     let tally = c.in_ok-tally.tally in
-    let asked = c.if-not-is_asked.ensures ∙ ap (λ (t : Tally). is_asked bench.plan.point t.points) c.in_ok-tally.ensures in
+    let asked = c.if-not-is_judged.ensures ∙ ap (λ (t : Tally). is_judged bench.plan t.points) c.in_ok-tally.ensures in
     let one = c.in_ok-self.ensures in
+    let judged = one.0 in
     let new : Tally = c.in_ok-self.field-0 in
     let before = g.O.Write.contents c.args.out.now in
     let after = g.O.Write.contents c.survey.new.out in
-    let lines : List ℕ = lines_from (next_place old) one.0 in
-    let at : ◌≡◌ {A = Place} (record { point = tally.points; image = 0; known = old.known }) (next_place old) = ap (λ (t : Tally). record { point = t.points; image = 0; known = old.known }) c.in_ok-tally.ensures in (
+    let at : ◌≡◌ {A = Crash} (record { point = tally.points; known = old.known; played = old.played; call = call }) (crash_of old call) = ap (λ (t : Tally). record { point = t.points; known = old.known; played = old.played; call = call }) c.in_ok-tally.ensures in
+    let lines : List ℕ = lines_from j tally judged in
+    let same = ap (λ (t : Tally). lines_from j t judged) c.in_ok-tally.ensures in (
       lines,
-      subst (λ (b : Bool). JudgesAsked g.J.Judge.says b (judging_of bench) old new lines) asked
-          (one.0, one.1, one.2 ∙ ap (λ (t : Tally). with_images t one.0) c.in_ok-tally.ensures, refl),
+      kept_among bench.plan judged,
+      subst (λ (b : Bool). JudgesAsked g.J.Judge.says b j call old new lines (kept_among bench.plan judged)) asked
+          (judged, subst (λ (p : Crash). IsSurvey g.J.Judge.says j old.store p judged) at one.1, one.2 ∙ ap (λ (t : Tally). with_images t judged) c.in_ok-tally.ensures, same, refl),
       refl,
-      subst (λ (p : Place). Appends before after (lines_from p one.0)) at one.3,
+      one.3,
+      one.4,
     )

@@ -1,40 +1,52 @@
-use Rattle.std.proofs.Common.{Bool, [], refl, subst}
+use Rattle.std.proofs.Common.{ℕ, Bool, [], refl, subst}
 use Rattle.std.proofs.lemmas.Result.{IfOk-weaker}
+use Rattle.rig_store.specs.Calls.{bytes_of}
 use Rattle.rig_store.specs.Stores.{store_of}
-use Rattle.sqcrash_store.specs.Rigs.{rig_of, JudgesWhere}
+use Rattle.sqcrash_store.specs.Rigs.{RigState, rig_of, JudgesWhere, NotesBy}
 use Rattle.sqcrash_store.specs.Surveys.{judging_of}
 use Rattle.sqcrash_store.proofs.AppendedBytes.{appends_none}
+use Rattle.sqcrash_store.proofs.KeptImages.{keeps_none}
 use Rattle.sqcrash_store.proofs.rig.Rig.play.Goals as goal
 
 pub returns-then-not-is_point : goal.returns-then-not-is_point
 returns-then-not-is_point g c =
-    let noted = rig_of c.note.new.self in (
+    let noted = rig_of c.note.new.self in
+    let bench = c.args.bench.now in
+    let call = c.args.call.now in
+    let played : RigState = record (rig_of c.args.self.now) { store = store_of c.play.new.store } in (
+      [],
       [],
       record {
         store = store_of c.play.new.store;
         goes = c.in_ok-play.ensures;
         noted = noted;
-        notes = c.in_ok-note.ensures;
+        notes = subst (λ (n : ℕ). NotesBy call.action bench.plan (bytes_of bench.trace.now call) (record played { played = n }) noted) c.in_ok-self.ensures c.in_ok-note.ensures;
         tally = noted.tally;
-        judges = subst (λ (b : Bool). JudgesWhere g.J.Judge.says b (judging_of c.args.bench.now) noted noted.tally []) c.if-not-is_point.ensures (refl, refl);
+        judges = subst (λ (b : Bool). JudgesWhere g.J.Judge.says b (judging_of bench) call noted noted.tally [] []) c.if-not-is_point.ensures (refl, refl, refl);
         counts = refl;
       },
       appends_none (g.O.Write.contents c.args.out.now),
+      keeps_none (g.J.Judge.kept c.args.judge.now),
     )
 
 pub returns : goal.returns
 returns g c =
     let noted = rig_of c.note.new.self in
+    let bench = c.args.bench.now in
+    let call = c.args.call.now in
+    let played : RigState = record (rig_of c.args.self.now) { store = store_of c.play.new.store } in
     IfOk-weaker c.judge.result _ _ (λ done judged. (
       judged.0,
+      judged.1,
       record {
         store = store_of c.play.new.store;
         goes = c.in_ok-play.ensures;
         noted = noted;
-        notes = c.in_ok-note.ensures;
+        notes = subst (λ (n : ℕ). NotesBy call.action bench.plan (bytes_of bench.trace.now call) (record played { played = n }) noted) c.in_ok-self.ensures c.in_ok-note.ensures;
         tally = c.judge.new.self.tally;
-        judges = subst (λ (b : Bool). JudgesWhere g.J.Judge.says b (judging_of c.args.bench.now) noted c.judge.new.self.tally judged.0) c.if-not-is_point.ensures judged.1;
-        counts = judged.2;
+        judges = subst (λ (b : Bool). JudgesWhere g.J.Judge.says b (judging_of bench) call noted c.judge.new.self.tally judged.0 judged.1) c.if-not-is_point.ensures judged.2;
+        counts = judged.3;
       },
-      judged.3,
+      judged.4,
+      judged.5,
     )) c.judge.ensures
