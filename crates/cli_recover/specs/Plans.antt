@@ -8,13 +8,26 @@ use Rattle.sqwal.specs.declared.error.WalFormatError.{WalFormatError}
 use Rattle.sqwal.specs.declared.error.WalFormatError.TheVariants.{UnknownVersion}
 use Rattle.sqpage.specs.Header.{HasMagic, HasPageSize, size_named}
 use Rattle.sqview.specs.Laid.{part_or_zeros}
+use Rattle.sqjournal.specs.declared.header.JournalHeader.{JournalHeader}
+use Rattle.sqview.specs.Logs.{AreTwoLogs, CountsAnswer}
+use Rattle.sqview.specs.declared.logs.LogInUse.TheVariants.{Neither, Wal, Journal}
+use Rattle.cli_words.specs.declared.requests.Options.{Options}
 use Rattle.cli_words.specs.declared.requests.SuperJournal.{SuperJournal as Said}
 use Rattle.cli_words.specs.declared.requests.SuperJournal.TheVariants.{Present}
 use Rattle.cli_facts.specs.declared.outcome.Refusal.{Refusal}
-use Rattle.cli_facts.specs.declared.outcome.Refusal.TheVariants.{SuperJournal, UnknownLogVersion, NoSuchCommit, PageSizesDiffer, TooLarge, NoMemory}
+use Rattle.cli_facts.specs.declared.outcome.Refusal.TheVariants.{SuperJournal, UnknownLogVersion, NoSuchCommit, PageSizesDiffer, TooLarge, TwoLogs, NoMemory}
 use Rattle.cli_files.specs.Journals.{NamesSuperJournal}
+use Rattle.cli_show.specs.Contents.{KeepsBytes}
+use Rattle.cli_show.specs.Limits.{limits_named}
+use Rattle.cli_show.specs.declared.contents.Contents.{Contents}
 use Rattle.cli_recover.specs.declared.plans.Recovery.{Recovery}
-use Rattle.cli_recover.specs.declared.plans.Recovery.TheVariants.{Empty, Fold, RollBack}
+use Rattle.cli_recover.specs.declared.plans.Recovery.TheVariants.{Nothing, Empty, Fold, RollBack}
+
+-- The files were only read: each has its bytes still, and gives them if it gave them.
+pub record AreKept {F : Type 0} (bytes : F → List ℕ) (gives : F → Type 0) (old new : Contents F) : Type 0 where
+  pub db : KeepsBytes bytes gives old.db new.db
+  pub wal : KeepsBytes bytes gives old.wal new.wal
+  pub journal : KeepsBytes bytes gives old.journal new.journal
 
 -- the header of a database file names a page size, and another one than this
 abbrev pub HasOtherSize : (db : List ℕ) → (size : ℕ) → Type 0
@@ -52,3 +65,30 @@ PlansFold limits at db wal (Ok (Fold size scan)) = IsHeader size wal × IfSome s
     × IfSome at (λ frame. IsSome scan × IsCommitOf wal frame) × (HasOtherSize db size → IsFront size wal 0)
 PlansFold limits at db wal (Ok _) = ⊥
 PlansFold limits at db wal (Err refusal) = IsUnplanned limits at db wal refusal
+
+-- the write-ahead log counts, and the database isn't asked for without it
+abbrev pub CountsWal : (at : Option ℕ) → (wal journal : List ℕ) → Type 0
+CountsWal at wal journal = CountsAnswer wal journal (Ok Wal) × (at ≢ Some 0)
+
+-- the journal counts, and no commit is asked for
+abbrev pub CountsJournal : (at : Option ℕ) → (wal journal : List ℕ) → Type 0
+CountsJournal at wal journal = (at ≡ None) × ((header : JournalHeader) × CountsAnswer wal journal (Ok (Journal header)))
+
+-- What a recovery does of files of these bytes, by the log that counts of them.
+abbrev pub IsPlanOf : Options → (db wal journal : List ℕ) → Recovery → Type 0
+IsPlanOf options db wal journal Nothing = (options.at ≡ Some 0) ⊎ ((options.at ≡ None) × CountsAnswer wal journal (Ok Neither))
+IsPlanOf options db wal journal Empty = CountsWal options.at wal journal × PlansFold (limits_named options.large) options.at db wal (Ok Empty)
+IsPlanOf options db wal journal (Fold size scan) =
+    CountsWal options.at wal journal × PlansFold (limits_named options.large) options.at db wal (Ok (Fold size scan))
+IsPlanOf options db wal journal RollBack = CountsJournal options.at wal journal × RollsBack options.super_journal journal (Ok RollBack)
+
+-- another commit than the file's own is asked for where no write-ahead log counts
+abbrev pub LacksCommit : (at : Option ℕ) → (wal journal : List ℕ) → Type 0
+LacksCommit at wal journal = IsSomeAnd at (λ m. m ≢ 0) × ¬ CountsAnswer wal journal (Ok Wal)
+
+-- Why nothing is planned of them: two logs count, or one of them isn't recovered.
+abbrev pub IsUnplannedOf : Options → (db wal journal : List ℕ) → Refusal → Type 0
+IsUnplannedOf options db wal journal refusal = ((refusal ≡ TwoLogs) × AreTwoLogs wal journal)
+    ⊎ (((refusal ≡ NoSuchCommit) × LacksCommit options.at wal journal)
+    ⊎ ((CountsJournal options.at wal journal × RollsBack options.super_journal journal (Err refusal))
+    ⊎ (CountsWal options.at wal journal × IsUnplanned (limits_named options.large) options.at db wal refusal)))

@@ -1,3 +1,5 @@
 -- What no public clause reaches.
+pub mod Contents
+pub mod Disks
 pub mod Refusals
 pub mod Scans

@@ -1,14 +1,33 @@
 //! A file that holds what a recovery would leave in a database file, of which nothing is written.
-ghost use Rattle.std.specs.Prelude.{◌≡◌, ◌≢◌};
+ghost use Rattle.std.specs.Prelude.{◌≡◌, ◌≢◌, ◌≤◌, ℕ, length, IfErr, IfOk, IfSome, MatchResult, OnOk, Some};
+ghost use Rattle.std.specs.List.{concat};
+ghost use Rattle.std.specs.Io.KnownBytes.{Appends};
+ghost use Rattle.sqwal.specs.Header.{named_size};
+ghost use Rattle.sqwal.specs.Took.{TookWithin};
+ghost use Rattle.sqjournal.specs.Journal.{IsHot};
+ghost use Rattle.sqview.specs.Laid.{part_or_zeros};
+ghost use Rattle.sqview.specs.LogView.{pages_of};
+ghost use Rattle.cli_files.specs.Files.{opened_bytes};
+ghost use Rattle.cli_files.specs.Refusals.{IsFromSystem, IsFromWatch};
+ghost use Rattle.cli_show.specs.Contents.{AreGiven, KeepsBytes};
 ghost use Rattle.cli_job.specs.Answers.{IsDoneOr};
+ghost use Rattle.cli_job.specs.Opened.{GivesBytes};
+ghost use Rattle.cli_recover.specs.Copies.{CopiesTo, HasCopy, HasFold, HasReplay, IsBegun, IsCopied, IsCopyOf};
+ghost use Rattle.cli_recover.specs.Copies.{IsUncopied, IsUnmade, left_as};
+ghost use Rattle.cli_recover.specs.Plans.{IsPlanOf};
+ghost use Rattle.cli_recover.specs.internal.Contents.{FoldsAt, IsUnfolded, IsUnfoldedAt, IsUnreplayed, content_bytes};
+ghost use Rattle.cli_recover.specs.internal.Contents.{content_reads};
+ghost use Rattle.cli_recover.specs.internal.Scans.{ScansLog};
 
 use crate::outcomes::print_outcome;
 use crate::plans::{Recovery, plan_recovery, scan_of};
 use cli_facts::{Front, Notes, Outcome, Refusal, SystemFile};
-use cli_files::{Count, NewFile, OpenedFile, begin_file, counting_log, told};
+use cli_files::{
+    Count, NewFile, OpenedFile, begin_file, counting_log, discard_file, end_file, told,
+};
 use cli_job::{
-    Answer, Before, Job, Metered, all_ahead, all_metered, both_ahead, judge_name, kept, named,
-    open_seen, wait_for,
+    Answer, Before, Job, Metered, all_ahead, all_metered, both_ahead, judge_name, kept, open_seen,
+    wait_for,
 };
 use cli_show::{Contents, ShowError, limits_of, replayed, view_of};
 use cli_words::Options;
@@ -80,7 +99,10 @@ pub fn recover_to<R: Files + AllocGlobal + Clock, M: Count, O: Write, E: Write>(
 ) -> Result<Answer, ShowError>
 where
     R::File: SystemFile,
-    ensures { IsDoneOr result }
+    ensures done { IsDoneOr result }
+    ensures copies { CopiesTo (opened_bytes R.File.bytes)
+        (GivesBytes R.File.bytes R.File.keeps_word R.File.never_fails) job.entry.now.source.now to.now result
+        (O.contents out.old) (O.contents out.new) }
 {
     let before = job.before(false, notes)?;
     thread::sleep(job.rt, wait_for(job.rt, &before));
@@ -98,6 +120,11 @@ fn made_copy<R: Files + AllocGlobal + Clock, M: Count, E: Write>(
 ) -> Result<Outcome, Refusal>
 where
     R::File: SystemFile,
+    ensures begun { OnOk result (IsBegun (opened_bytes R.File.bytes) to.now) }
+    ensures copied { IfOk result (IsCopied (opened_bytes R.File.bytes)
+        (GivesBytes R.File.bytes R.File.keeps_word R.File.never_fails) job.entry.now.source.now) }
+    ensures refused { IfErr result (IsUnmade (opened_bytes R.File.bytes)
+        (GivesBytes R.File.bytes R.File.keeps_word R.File.never_fails) job.entry.now.source.now) }
 {
     let found = found_in(job, notes);
     match job.standing(before, (false, None), found, notes) {
@@ -120,6 +147,9 @@ fn make_copy<R: Files + AllocGlobal + Clock, F: FileBytes + Drop, M: Count, E: W
 ) -> Result<Outcome, Refusal>
 where
     R::File: SystemFile,
+    ensures begun { OnOk result (IsBegun (opened_bytes R.File.bytes) to.now) }
+    ensures outcome { IfOk result (λ outcome. outcome ≡ found.entry.outcome) }
+    ensures refused { IfErr result IsFromWatch }
 {
     let Found {
         content,
@@ -129,13 +159,16 @@ where
     let front = content.front();
     let mut made = begin_file(job.rt, &job.source.paths, to, mode, notes)?;
     let written = written(job.rt.alloc(), content, &mut made, notes);
-    let written = match job.standing(before, (false, front), written, notes) {
-        Ok(()) => Ok(()),
-        Err(refusal) => Err(job.source.paths.told(notes, refusal)),
-    };
-    match named(job, made, written, notes) {
-        Ok(()) => Ok(outcome),
-        Err(refusal) => Err(refusal),
+    match job.standing(before, (false, front), written, notes) {
+        Ok(()) => match end_file(job.rt, made, notes) {
+            Ok(()) => Ok(outcome),
+            Err(refusal) => Err(refusal),
+        },
+        Err(refusal) => {
+            let refusal = job.source.paths.told(notes, refusal);
+            discard_file(job.rt, made, notes);
+            Err(refusal)
+        }
     }
 }
 
@@ -146,6 +179,10 @@ fn found_in<'a, R: Files + AllocGlobal + Clock, M: Count, E: Write>(
 ) -> Result<Found<'a, OpenedFile<'a, R::File>, M>, Refusal>
 where
     R::File: SystemFile,
+    ensures copied { IfOk result (λ found. IsCopied (opened_bytes R.File.bytes)
+        (GivesBytes R.File.bytes R.File.keeps_word R.File.never_fails) job.entry.now.source.now found.outcome) }
+    ensures refused { IfErr result (IsUnmade (opened_bytes R.File.bytes)
+        (GivesBytes R.File.bytes R.File.keeps_word R.File.never_fails) job.entry.now.source.now) }
 {
     let (meter, source) = (job.meter, job.source);
     let options = source.options;
@@ -184,25 +221,80 @@ fn content_of<'a, F: FileBytes + Drop, M: Count>(
     alloc: Global,
     files: Contents<Metered<'a, F, M>>,
     options: Options,
-) -> Recovered<'a, F, M> {
+) -> Recovered<'a, F, M>
+    ensures { AreGiven (λ file. F.gives_bytes file.file) files.entry → MatchResult result
+        (λ found. IsCopyOf options (F.bytes files.entry.db.file) (F.bytes files.entry.wal.file)
+        (F.bytes files.entry.journal.file) found.0 (content_bytes F.bytes found.1))
+        (IsUncopied options (F.bytes files.entry.db.file) (F.bytes files.entry.wal.file)
+        (F.bytes files.entry.journal.file)) }
+{
     let mut files = files;
     let opened = &mut files;
     let in_use = counting_log(&opened.wal, &mut opened.journal)?;
-    match plan_recovery(alloc, options, in_use, opened)? {
-        Recovery::Nothing if options.at.is_none() => as_it_stands(Outcome::Nothing, files),
-        Recovery::Nothing | Recovery::Empty => as_it_stands(Outcome::NoFront, files),
+    match plan_recovery(alloc, options, in_use, opened) {
+        Ok(plan) => content_by(alloc, options, plan, files),
+        Err(refusal) => Err(refusal),
+    }
+}
+
+/// What a plan of these files comes to, and leaves in the database file.
+fn content_by<'a, F: FileBytes + Drop, M: Count>(
+    alloc: Global,
+    options: Options,
+    plan: Recovery,
+    files: Contents<Metered<'a, F, M>>,
+) -> Recovered<'a, F, M>
+    ensures { AreGiven (λ file. F.gives_bytes file.file) files.entry
+        → IsPlanOf options (F.bytes files.entry.db.file) (F.bytes files.entry.wal.file)
+        (F.bytes files.entry.journal.file) plan
+        → MatchResult result (λ found. HasCopy options.at (F.bytes files.entry.db.file) (F.bytes files.entry.wal.file)
+        (F.bytes files.entry.journal.file) plan found.0 (content_bytes F.bytes found.1))
+        (IsUncopied options (F.bytes files.entry.db.file) (F.bytes files.entry.wal.file)
+        (F.bytes files.entry.journal.file)) }
+{
+    match plan {
+        Recovery::Nothing => Ok((left_as(options.at), as_it_stands(files))),
+        Recovery::Empty => Ok((Outcome::NoFront, as_it_stands(files))),
         Recovery::Fold(_, scan) => folded(alloc, options, files, scan),
         Recovery::RollBack => rolled_back(alloc, limits_of(options), files),
     }
 }
 
+/// What it comes to where nothing is done.
+fn left_as(at: Option<u32>) -> Outcome
+    ensures { result ≡ left_as at }
+{
+    match at {
+        None => Outcome::Nothing,
+        Some(_) => Outcome::NoFront,
+    }
+}
+
 /// The database file as it stands is left.
 fn as_it_stands<'a, F: FileBytes + Drop, M: Count>(
-    outcome: Outcome,
     files: Contents<Metered<'a, F, M>>,
-) -> Recovered<'a, F, M> {
+) -> Content<'a, F, M>
+    ensures { result ≡ Content.File files.entry.db }
+{
     let Contents { db, .. } = files;
-    Ok((outcome, Content::File(db)))
+    Content::File(db)
+}
+
+/// The scan of a log, which is made where there is none.
+fn scan_or<F: FileBytes>(
+    alloc: Global,
+    limits: Limits,
+    wal: &mut F,
+    scan: Option<Scan>,
+) -> Result<Option<Scan>, Refusal>
+    ensures scan { F.gives_bytes wal.old → IfSome scan (TookWithin limits.frames (F.bytes wal.old))
+        → ScansLog limits (F.bytes wal.old) result }
+    ensures same { KeepsBytes F.bytes F.gives_bytes wal.old wal.new }
+{
+    match scan {
+        Some(scan) => Ok(Some(scan)),
+        None => scan_of(alloc, limits, wal),
+    }
 }
 
 /// What is left where a log is folded, up to the commit that is asked for or the front.
@@ -211,19 +303,24 @@ fn folded<'a, F: FileBytes + Drop, M: Count>(
     options: Options,
     files: Contents<Metered<'a, F, M>>,
     scan: Option<Scan>,
-) -> Recovered<'a, F, M> {
+) -> Recovered<'a, F, M>
+    ensures { (size : ℕ) → AreGiven (λ file. F.gives_bytes file.file) files.entry
+        → FoldsAt options (F.bytes files.entry.db.file) (F.bytes files.entry.wal.file)
+        (F.bytes files.entry.journal.file) size scan
+        → MatchResult result (λ found. HasFold options.at size (F.bytes files.entry.db.file)
+        (F.bytes files.entry.wal.file) (F.bytes files.entry.journal.file) found.0 (content_bytes F.bytes found.1))
+        (IsUnfolded options size (F.bytes files.entry.db.file) (F.bytes files.entry.wal.file)
+        (F.bytes files.entry.journal.file)) }
+{
     let (mut files, limits) = (files, limits_of(options));
-    let scan = match scan {
-        Some(scan) => Some(scan),
-        None => scan_of(alloc, limits, &mut files.wal)?,
+    let Some(scan) = scan_or(alloc, limits, &mut files.wal, scan)? else {
+        return Ok((Outcome::NoFront, as_it_stands(files)));
     };
-    match scan {
-        Some(scan) if scan.committed().frames != 0 => {
-            let frame = options.at.unwrap_or(scan.committed().frames);
-            folded_to(alloc, limits, files, &scan, frame)
-        }
-        _ => as_it_stands(Outcome::NoFront, files),
+    let front = scan.committed().frames;
+    if front == 0 {
+        return Ok((Outcome::NoFront, as_it_stands(files)));
     }
+    folded_to(alloc, limits, files, &scan, options.at.unwrap_or(front))
 }
 
 /// What is left where a log with this scan is folded up to a commit frame.
@@ -233,7 +330,16 @@ fn folded_to<'a, F: FileBytes + Drop, M: Count>(
     files: Contents<Metered<'a, F, M>>,
     scan: &Scan,
     frame: u32,
-) -> Recovered<'a, F, M> {
+) -> Recovered<'a, F, M>
+    ensures { AreGiven (λ file. F.gives_bytes file.file) files.entry
+        → TookWithin limits.frames (F.bytes files.entry.wal.file) scan.now → 1 ≤ frame
+        → ¬ IsHot (F.bytes files.entry.journal.file)
+        → MatchResult result (λ found. HasFold (Some frame) (named_size (F.bytes files.entry.wal.file))
+        (F.bytes files.entry.db.file) (F.bytes files.entry.wal.file) (F.bytes files.entry.journal.file)
+        found.0 (content_bytes F.bytes found.1))
+        (IsUnfoldedAt limits frame (F.bytes files.entry.db.file) (F.bytes files.entry.wal.file)
+        (F.bytes files.entry.journal.file)) }
+{
     let Contents { db, wal, .. } = files;
     let (db, wal) = both_ahead(alloc, db, wal, PIECE)?;
     match View::of_scan_within(alloc, limits, db, wal, scan, frame) {
@@ -250,7 +356,13 @@ fn rolled_back<'a, F: FileBytes + Drop, M: Count>(
     alloc: Global,
     limits: Limits,
     files: Contents<Metered<'a, F, M>>,
-) -> Recovered<'a, F, M> {
+) -> Recovered<'a, F, M>
+    ensures { AreGiven (λ file. F.gives_bytes file.file) files.entry → IsHot (F.bytes files.entry.journal.file)
+        → MatchResult result (λ found. HasReplay (F.bytes files.entry.db.file) (F.bytes files.entry.wal.file)
+        (F.bytes files.entry.journal.file) found.0 (content_bytes F.bytes found.1))
+        (IsUnreplayed limits (F.bytes files.entry.db.file) (F.bytes files.entry.wal.file)
+        (F.bytes files.entry.journal.file)) }
+{
     let mut files = files;
     let records = replayed(alloc, &mut files.journal)?.count();
     let Contents { db, wal, journal } = all_ahead(alloc, files, PIECE)?;
@@ -269,8 +381,10 @@ fn written<F: FileBytes + Drop, M: Count, O: Write + Seek + OpenFile, E: Write>(
     content: Content<'_, F, M>,
     made: &mut NewFile<'_, O>,
     notes: &mut Notes<'_, E>,
-) -> Result<(), Refusal> {
-    match filled(alloc, content, made) {
+) -> Result<(), Refusal>
+    ensures { IfErr result IsFromSystem }
+{
+    match finished(alloc, content, made) {
         Ok(()) => Ok(()),
         Err(CopyError::Unwritten(error)) => Err(told(notes, made.path(), error).refusal),
         Err(CopyError::Unread) => Err(Refusal::FileFailed),
@@ -278,19 +392,30 @@ fn written<F: FileBytes + Drop, M: Count, O: Write + Seek + OpenFile, E: Write>(
     }
 }
 
-/// Writes all of it, and finishes the file.
-fn filled<F: FileBytes + Drop, M: Count, O: Write + Seek + OpenFile>(
+/// Writes all of it to a new file, and finishes that.
+fn finished<F: FileBytes + Drop, M: Count, O: Write + Seek + OpenFile>(
     alloc: Global,
     content: Content<'_, F, M>,
     made: &mut NewFile<'_, O>,
 ) -> Result<(), CopyError> {
-    let copied = match content {
-        Content::File(db) => copy_whole(alloc, db, made),
-        Content::Pages(view) => copy_pages(alloc, view, made),
-    };
-    copied?;
+    filled(alloc, content, made)?;
     made.finish()?;
     Ok(())
+}
+
+/// Writes all of it.
+fn filled<F: FileBytes + Drop, M: Count, W: Write>(
+    alloc: Global,
+    content: Content<'_, F, M>,
+    out: &mut W,
+) -> Result<(), CopyError>
+    ensures { content_reads F.bytes F.reads_right content.entry → OnOk result
+        (Appends (W.contents out.old) (W.contents out.new) (content_bytes F.bytes content.entry)) }
+{
+    match content {
+        Content::File(db) => copy_whole(alloc, db, out),
+        Content::Pages(view) => copy_pages(alloc, view, out),
+    }
 }
 
 /// Writes the pages of a view.
@@ -298,7 +423,10 @@ fn copy_pages<F: FileBytes + Drop, W: Write>(
     alloc: Global,
     view: View<F>,
     out: &mut W,
-) -> Result<(), CopyError> {
+) -> Result<(), CopyError>
+    ensures { F.reads_right view.db × F.reads_right view.log → OnOk result
+        (Appends (W.contents out.old) (W.contents out.new) (concat (pages_of F.bytes view))) }
+{
     let mut view = view;
     copy(alloc, &mut view, out)
 }
@@ -308,7 +436,9 @@ fn copy_whole<F: FileBytes + Drop, W: Write>(
     alloc: Global,
     file: F,
     out: &mut W,
-) -> Result<(), CopyError> {
+) -> Result<(), CopyError>
+    ensures { F.reads_right file → OnOk result (Appends (W.contents out.old) (W.contents out.new) (F.bytes file)) }
+{
     let mut file = file;
     copy_file(alloc, &mut file, out)
 }
@@ -318,15 +448,37 @@ fn copy_file<F: FileBytes, W: Write>(
     alloc: Global,
     file: &mut F,
     out: &mut W,
-) -> Result<(), CopyError> {
+) -> Result<(), CopyError>
+    ensures { F.reads_right file.old → OnOk result
+        (Appends (W.contents out.old) (W.contents out.new) (F.bytes file.old)) }
+{
     let mut piece = vec![in alloc; 0u8; PIECE]?;
     let end = file.len();
     let mut at = 0;
     while at < end {
         let count = (end - at).min(PIECE as u64) as usize;
-        file.read_at(at, &mut piece[..count])?;
-        out.write_all(&piece[..count])?;
+        copy_part(file, (at, count), &mut piece, out)?;
         at += count as u64;
     }
+    Ok(())
+}
+
+/// Writes so many bytes of a file from a place on.
+fn copy_part<F: FileBytes, W: Write>(
+    file: &mut F,
+    part: (u64, usize),
+    room: &mut [u8],
+    out: &mut W,
+) -> Result<(), CopyError>
+    requires { part.1 ≤ length room.old }
+    ensures copied { F.reads_right file.old → OnOk result (Appends (W.contents out.old) (W.contents out.new)
+        (part_or_zeros part.1 part.0 (F.bytes file.old))) }
+    ensures still_right { F.reads_right file.old → F.reads_right file.new }
+    ensures same { F.bytes file.new ≡ F.bytes file.old }
+{
+    let (at, count) = part;
+    let bytes = &mut room[..count];
+    file.read_at(at, bytes)?;
+    out.write_all(bytes)?;
     Ok(())
 }

@@ -1,18 +1,75 @@
 //! A disk whose files are changed only where a guard lets them.
-ghost use Rattle.std.specs.Prelude.{◌≡◌, IsSome, IsTrue, None, OnErr, OnOk, false};
+ghost use Rattle.std.specs.Prelude.{◌≡◌, IsOk, IsSome, IsTrue, None, OnErr, OnOk, false};
 ghost use Rattle.crashdisk.specs.declared.file.File.TheVariants.{Db, Log};
 
 use cli_facts::{Guard, Notes, Refusal};
+use cli_files::{Count, OpenElsewhere};
 use crashdisk::{Disk, DiskError, File};
 use filedisk::FileDisk;
 use std::fs::OpenFile;
 use std::io::Write;
 use std::os::unix::fs::FileExt;
+use std::rt::Files;
+
+/// A guard of which it may be known that it lets each change be.
+pub(crate) trait Gate: Guard {
+    /// It refuses none.
+    ghost lets_change: { Self → Type 0 };
+
+    /// Asks it.
+    fn asked(&self) -> Result<(), Refusal>
+        ensures { lets_change self.now → IsOk result };
+}
+
+impl<R: Files, M: Count> Gate for OpenElsewhere<'_, R, M> {
+    ghost use Rattle.std.specs.Prelude.{◌≡◌, true};
+
+    ghost lets_change = { λ guard. guard.forced ≡ true };
+
+    fn asked(&self) -> Result<(), Refusal> {
+        if self.forced {
+            return Ok(());
+        }
+        self.ask()
+    }
+}
+
+/// A disk over a database file and a log that were opened.
+pub(crate) trait Over<F>: Disk + Drop {
+    /// It is over this database file and this log.
+    ghost is_over: { Self → F → F → Type 0 };
+
+    fn over(db: F, log: F) -> Self
+        ensures { is_over result db log };
+
+    /// Says which call the system refused last, if it did, of files with these paths.
+    fn tell<E: Write>(&self, db: &str, log: &str, notes: &mut Notes<'_, E>);
+}
+
+impl<F: FileExt + OpenFile + Drop> Over<F> for FileDisk<F> {
+    ghost use Rattle.std.specs.Prelude.{◌≡◌};
+
+    ghost is_over = { λ disk db log. (disk.db ≡ db) × (disk.log ≡ log) };
+
+    fn over(db: F, log: F) -> FileDisk<F> {
+        FileDisk::new(db, log)
+    }
+
+    fn tell<E: Write>(&self, db: &str, log: &str, notes: &mut Notes<'_, E>) {
+        if let Some((file, error)) = self.failure() {
+            let path = match file {
+                File::Db => db,
+                File::Log => log,
+            };
+            notes.blame(path, error);
+        }
+    }
+}
 
 /// A disk. Before the first change of each of its files the guard is asked, and where it refuses, the change is
-/// `Failed`.
+/// `Failed`. It keeps its word as the disk does, where the guard lets each change be.
 #[derive(Drop)]
-pub(crate) struct GuardedDisk<D: Disk + Drop, G: Guard> {
+pub(crate) struct GuardedDisk<D: Disk + Drop, G: Gate> {
     disk: D,
     guard: G,
     changes_db: bool,
@@ -20,7 +77,7 @@ pub(crate) struct GuardedDisk<D: Disk + Drop, G: Guard> {
     refusal: Option<Refusal>,
 }
 
-impl<D: Disk + Drop, G: Guard> GuardedDisk<D, G> {
+impl<D: Disk + Drop, G: Gate> GuardedDisk<D, G> {
     /// A disk of which nothing was refused or changed yet.
     pub fn new(disk: D, guard: G) -> GuardedDisk<D, G>
         ensures disk { result.disk ≡ disk }
@@ -50,6 +107,8 @@ impl<D: Disk + Drop, G: Guard> GuardedDisk<D, G> {
         ensures db { OnOk result (file ≡ Db → IsTrue self.new.changes_db) }
         ensures log { OnOk result (file ≡ Log → IsTrue self.new.changes_log) }
         ensures told { OnErr result (IsSome self.new.refusal) }
+        ensures passed { G.lets_change self.old.guard → IsOk result }
+        ensures same { (self.new.disk ≡ self.old.disk) × (self.new.guard ≡ self.old.guard) }
     {
         let changes = match file {
             File::Db => self.changes_db,
@@ -58,7 +117,7 @@ impl<D: Disk + Drop, G: Guard> GuardedDisk<D, G> {
         if changes {
             return Ok(());
         }
-        match self.guard.ask() {
+        match self.guard.asked() {
             Ok(()) => {}
             Err(Refusal::NoMemory) if self.changes_db => {}
             Err(refusal) => {
@@ -74,25 +133,22 @@ impl<D: Disk + Drop, G: Guard> GuardedDisk<D, G> {
     }
 }
 
-impl<F: FileExt + OpenFile + Drop, G: Guard> GuardedDisk<FileDisk<F>, G> {
+impl<D: Disk + Drop, G: Gate> GuardedDisk<D, G> {
     /// Says which call the system refused last, if it did, of files with these paths.
-    pub fn tell<E: Write>(&self, db: &str, log: &str, notes: &mut Notes<'_, E>) {
-        if let Some((file, error)) = self.disk.failure() {
-            let path = match file {
-                File::Db => db,
-                File::Log => log,
-            };
-            notes.blame(path, error);
-        }
+    pub fn tell<F, E: Write>(&self, db: &str, log: &str, notes: &mut Notes<'_, E>)
+    where
+        D: Over<F>,
+    {
+        self.disk.tell(db, log, notes);
     }
 }
 
-impl<D: Disk + Drop, G: Guard> Disk for GuardedDisk<D, G> {
+impl<D: Disk + Drop, G: Gate> Disk for GuardedDisk<D, G> {
     ghost state = { λ guarded. D.state guarded.disk };
 
-    ghost keeps_word = { λ _. ⊥ };
+    ghost keeps_word = { λ guarded. D.keeps_word guarded.disk × G.lets_change guarded.guard };
 
-    ghost sound = { λ disk word. absurd word };
+    ghost sound = { λ guarded word. D.sound guarded.disk word.0 };
 
     fn sector(&self) -> usize {
         self.disk.sector()

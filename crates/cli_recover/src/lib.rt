@@ -1,6 +1,7 @@
 //! A recovery: what it would do of the files of a database, as data, by which it is carried out, or a copy made.
 #![tactic(auto)]
 
+mod carrying;
 mod copies;
 mod guarded_disk;
 mod outcomes;
@@ -9,6 +10,7 @@ mod recovered;
 mod recovering;
 mod refusals;
 
+pub use carrying::carry_out;
 pub use copies::recover_to;
 pub use plans::{Recovery, plan_recovery};
 pub use recovered::recovery_keeps_view;

@@ -4,7 +4,7 @@ ghost use Rattle.sqjournal.specs.declared.header.JournalHeader.{JournalHeader};
 ghost use Rattle.cli_show.specs.Contents.{KeepsBytes};
 ghost use Rattle.cli_show.specs.Limits.{limits_named};
 ghost use Rattle.sqwal.specs.Took.{TookWithin};
-ghost use Rattle.cli_recover.specs.Plans.{HasOtherSize, IsCommitOf, PlansFold, RollsBack};
+ghost use Rattle.cli_recover.specs.Plans.{AreKept, HasOtherSize, IsCommitOf, PlansFold, RollsBack};
 ghost use Rattle.cli_recover.specs.internal.Scans.{FoldsByFront, FoldsBySize, NamesSize, ScansLog, ScansTo};
 
 use cli_facts::Refusal;
@@ -49,6 +49,7 @@ pub fn plan_recovery<F: FileBytes>(
     ensures wal { in_use ≡ LogInUse.Wal → options.at ≢ Some 0 → F.gives_bytes files.old.db
         → F.gives_bytes files.old.wal
         → PlansFold (limits_named options.large) options.at (F.bytes files.old.db) (F.bytes files.old.wal) result }
+    ensures kept { AreKept F.bytes F.gives_bytes files.old files.new }
 {
     match (in_use, options.at) {
         (_, Some(0)) | (LogInUse::Neither, None) => Ok(Recovery::Nothing),
@@ -60,7 +61,8 @@ pub fn plan_recovery<F: FileBytes>(
 
 /// What it does of a hot journal: one of a transaction over several files is replayed only where it is said to count.
 fn plan_roll_back<F: FileBytes>(options: Options, journal: &mut F) -> Result<Recovery, Refusal>
-    ensures { F.gives_bytes journal.old → RollsBack options.super_journal (F.bytes journal.old) result }
+    ensures plan { F.gives_bytes journal.old → RollsBack options.super_journal (F.bytes journal.old) result }
+    ensures same { KeepsBytes F.bytes F.gives_bytes journal.old journal.new }
 {
     if names_super_journal(journal)? && options.super_journal != Some(SuperJournal::Present) {
         return Err(Refusal::SuperJournal);
@@ -74,8 +76,9 @@ fn plan_fold<F: FileBytes>(
     options: Options,
     files: &mut Contents<F>,
 ) -> Result<Recovery, Refusal>
-    ensures { F.gives_bytes files.old.db → F.gives_bytes files.old.wal
+    ensures plan { F.gives_bytes files.old.db → F.gives_bytes files.old.wal
         → PlansFold (limits_named options.large) options.at (F.bytes files.old.db) (F.bytes files.old.wal) result }
+    ensures kept { AreKept F.bytes F.gives_bytes files.old files.new }
 {
     let limits = limits_of(options);
     match (log_page_size(&mut files.wal)?, options.at) {
@@ -120,8 +123,9 @@ fn by_sizes<F: FileBytes>(
     log: (PageSize, Option<Scan>),
     differs: bool,
 ) -> Result<Recovery, Refusal>
-    ensures { F.gives_bytes wal.old → IfSome log.1 (TookWithin limits.frames (F.bytes wal.old))
+    ensures plan { F.gives_bytes wal.old → IfSome log.1 (TookWithin limits.frames (F.bytes wal.old))
         → FoldsBySize limits (F.bytes wal.old) log.0 log.1 differs result }
+    ensures same { KeepsBytes F.bytes F.gives_bytes wal.old wal.new }
 {
     let (page_size, scan) = log;
     if !differs {
@@ -194,8 +198,9 @@ fn log_page_size<F: FileBytes>(log: &mut F) -> Result<Option<PageSize>, Refusal>
 
 /// Whether a database file's header names a page size other than this one.
 fn has_other_size<F: FileBytes>(db: &mut F, page_size: PageSize) -> Result<bool, SourceError>
-    ensures { F.gives_bytes db.old
+    ensures answer { F.gives_bytes db.old
         → IsOkAnd result (λ differs. IsTrue differs ↔ HasOtherSize (F.bytes db.old) page_size) }
+    ensures same { KeepsBytes F.bytes F.gives_bytes db.old db.new }
 {
     if db.len() < 18 {
         return Ok(false);

@@ -1,22 +1,34 @@
 //! The recovery of a database file from the log beside it.
-ghost use Rattle.std.specs.Prelude.{◌≡◌};
+ghost use Rattle.std.specs.Prelude.{◌≡◌, ◌⊎◌, IfErr, IfOk, MatchResult, None, Ok, true};
+ghost use Rattle.sqview.specs.Logs.{CountsAnswer};
+ghost use Rattle.cli_files.specs.Files.{opened_bytes};
+ghost use Rattle.cli_files.specs.Refusals.{IsFromSystem};
+ghost use Rattle.cli_show.specs.Contents.{AreGiven, KeepsBytes};
+ghost use Rattle.cli_show.specs.Limits.{limits_named};
 ghost use Rattle.cli_job.specs.Answers.{IsDoneOr};
+ghost use Rattle.cli_job.specs.Opened.{GivesBytes};
+ghost use Rattle.cli_recover.specs.Engines.{CarriesOut, IsOutcomeOf, IsRefusalOf};
+ghost use Rattle.cli_recover.specs.Plans.{IsPlanOf, IsUnplannedOf};
+ghost use Rattle.cli_recover.specs.Recovers.{IsUnrecovered, RecoversTo};
+ghost use Rattle.cli_recover.specs.Refusals.{IsFromGuard};
+ghost use Rattle.cli_recover.specs.internal.Disks.{IsCarriedBy, IsDoneOver, IsPlannedBy, IsRecoveredOn};
+ghost use Rattle.cli_recover.specs.internal.Disks.{IsUncarriedBy, IsUnplannedBy};
 
-use crate::guarded_disk::GuardedDisk;
+use crate::carrying::carry_out;
+use crate::guarded_disk::{Gate, GuardedDisk, Over};
 use crate::outcomes::print_outcome;
 use crate::plans::{Recovery, plan_recovery, scan_of};
-use crate::refusals::{refusal_of_roll, refusal_of_wal};
+use crate::refusals::refusal_of_guard;
 use cli_facts::{Guard, Notes, Outcome, Refusal, SystemFile, metadata_of};
 use cli_files::{
-    Beheld, Beside, Count, OpenElsewhere, OpenedFile, Progress, counting_log, open_database,
-    open_logs, paths_of, tell_dropped, tell_length, tell_unread, told,
+    Beheld, Beside, Count, OpenElsewhere, OpenedFile, Paths, Place, Progress, counting_log,
+    open_database, open_logs, paths_of, tell_dropped, tell_length, tell_unread, told,
 };
 use cli_job::{Answer, Job, Metered, Source, Watch};
 use cli_show::{Contents, ShowError, limits_of};
 use cli_words::Options;
 use filedisk::FileDisk;
-use rollcore::replay_within;
-use sqval::{Limits, PageSize};
+use sqval::Limits;
 use sqview::{FileBytes, LogInUse};
 use sqwal::Scan;
 use std::alloc::Global;
@@ -25,7 +37,6 @@ use std::fs::{Metadata, OpenFile, OpenOptions};
 use std::io::Write;
 use std::rt::Files;
 use std::time::Clock;
-use walcore::{Folded, fold_within};
 
 /// How often each byte of a write-ahead log is read at most where it is folded and said what of it is dropped: for that
 /// scan, for that of the fold, and as its page is copied.
@@ -46,7 +57,10 @@ pub fn recover<R: Files + AllocGlobal + Clock, O: Write, E: Write>(
 ) -> Result<Answer, ShowError>
 where
     R::File: SystemFile,
-    ensures { IsDoneOr result }
+    ensures done { IsDoneOr result }
+    ensures recovers { RecoversTo (opened_bytes R.File.bytes)
+        (GivesBytes R.File.bytes R.File.keeps_word R.File.never_fails) of.entry.0.now of.entry.2 result
+        (O.contents out.old) (O.contents out.new) }
 {
     let (file, forced, mut options) = of;
     options.at = None;
@@ -62,7 +76,7 @@ where
         source: &source,
         meter: &meter,
     };
-    let outcome = match recovered(&job, forced, notes) {
+    let outcome = match recovered::<R, FileDisk<R::File>, _, E>(&job, forced, notes) {
         Ok(outcome) => outcome,
         Err(refusal) => return Err(ShowError::Refused(source.paths.told(notes, refusal))),
     };
@@ -75,13 +89,20 @@ where
 }
 
 /// Recovers the file, unless another process is known to have it open.
-fn recovered<R: Files + AllocGlobal, M: Count, E: Write>(
+fn recovered<R: Files + AllocGlobal, D: Over<R::File>, M: Count, E: Write>(
     job: &Job<'_, R, M>,
     forced: bool,
     notes: &mut Notes<'_, E>,
 ) -> Result<Outcome, Refusal>
 where
     R::File: SystemFile,
+    ensures recovered { job.entry.now.source.now.options.at ≡ None
+        → IfOk result (IsRecoveredOn (opened_bytes R.File.bytes)
+        (GivesBytes R.File.bytes R.File.keeps_word R.File.never_fails) D.keeps_word D.state (forced ≡ true)
+        job.entry.now.source.now.paths job.entry.now.source.now.options) }
+    ensures refused { IfErr result (IsUnrecovered (opened_bytes R.File.bytes)
+        (GivesBytes R.File.bytes R.File.keeps_word R.File.never_fails)
+        job.entry.now.source.now.paths job.entry.now.source.now.options) }
 {
     let unread = RefCell::new(None);
     let guard = OpenElsewhere {
@@ -94,21 +115,28 @@ where
     let asked = guard.ask();
     tell_unread(notes, &unread);
     let recovered = match asked {
-        Ok(()) => recovered_by(job, guard, notes),
-        Err(refusal) => Err(refusal),
+        Ok(()) => recovered_by::<R, D, _, M, E>(job, guard, notes),
+        Err(refusal) => Err(refusal_of_guard(refusal)),
     };
     tell_unread(notes, &unread);
     recovered
 }
 
 /// Recovers the file from the log that counts.
-fn recovered_by<R: Files + AllocGlobal, G: Guard, M: Count, E: Write>(
+fn recovered_by<R: Files + AllocGlobal, D: Over<R::File>, G: Gate, M: Count, E: Write>(
     job: &Job<'_, R, M>,
     guard: G,
     notes: &mut Notes<'_, E>,
 ) -> Result<Outcome, Refusal>
 where
     R::File: SystemFile,
+    ensures recovered { job.entry.now.source.now.options.at ≡ None
+        → IfOk result (IsRecoveredOn (opened_bytes R.File.bytes)
+        (GivesBytes R.File.bytes R.File.keeps_word R.File.never_fails) D.keeps_word D.state (G.lets_change guard)
+        job.entry.now.source.now.paths job.entry.now.source.now.options) }
+    ensures refused { IfErr result (IsUnrecovered (opened_bytes R.File.bytes)
+        (GivesBytes R.File.bytes R.File.keeps_word R.File.never_fails)
+        job.entry.now.source.now.paths job.entry.now.source.now.options) }
 {
     let (paths, super_journal) = (&job.source.paths, job.source.options.super_journal);
     let Beside {
@@ -120,7 +148,7 @@ where
     tell_database(job, db, notes);
     match counting_log(&wal, &mut journal) {
         Ok(LogInUse::Neither) => Ok(Outcome::Nothing),
-        Ok(in_use) => carried_out(job, guard, in_use, (wal, journal), notes),
+        Ok(in_use) => carried_out::<R, D, G, M, E>(job, guard, in_use, (wal, journal), notes),
         Err(refusal) => Err(refusal),
     }
 }
@@ -154,7 +182,7 @@ struct Planned<F> {
 }
 
 /// Opens the file and the log that counts to write them, and carries out what is planned.
-fn carried_out<'a, R: Files + AllocGlobal, G: Guard, M: Count, E: Write>(
+fn carried_out<'a, R: Files + AllocGlobal, D: Over<R::File>, G: Gate, M: Count, E: Write>(
     job: &Job<'a, R, M>,
     guard: G,
     in_use: LogInUse,
@@ -163,6 +191,12 @@ fn carried_out<'a, R: Files + AllocGlobal, G: Guard, M: Count, E: Write>(
 ) -> Result<Outcome, Refusal>
 where
     R::File: SystemFile,
+    ensures carried { IfOk result (IsCarriedBy (opened_bytes R.File.bytes)
+        (GivesBytes R.File.bytes R.File.keeps_word R.File.never_fails) D.keeps_word D.state (G.lets_change guard)
+        job.entry.now.source.now.paths job.entry.now.source.now.options in_use logs.entry.0 logs.entry.1) }
+    ensures refused { IfErr result (IsUncarriedBy (opened_bytes R.File.bytes)
+        (GivesBytes R.File.bytes R.File.keeps_word R.File.never_fails)
+        job.entry.now.source.now.paths job.entry.now.source.now.options in_use logs.entry.0 logs.entry.1) }
 {
     let paths = &job.source.paths;
     let (wal, journal) = logs;
@@ -178,7 +212,7 @@ where
     };
     let (db, log) = open_both(job.rt, paths.db.as_str(), place.as_str(), notes)?;
     match plan_opened(job, in_use, db, (wal, journal), notes) {
-        Ok(planned) => carried_out_on(job, planned, log, guard, notes),
+        Ok(planned) => carried_out_on::<R, D, G, M, E>(job, planned, (log, place), guard, notes),
         Err(refusal) => Err(refusal),
     }
 }
@@ -193,6 +227,13 @@ fn plan_opened<'a, R: Files + AllocGlobal, M: Count, E: Write>(
 ) -> Result<Planned<R::File>, Refusal>
 where
     R::File: SystemFile,
+    ensures planned { IfOk result (λ planned. IsPlannedBy (opened_bytes R.File.bytes)
+        (GivesBytes R.File.bytes R.File.keeps_word R.File.never_fails)
+        job.entry.now.source.now.paths job.entry.now.source.now.options in_use logs.entry.0 logs.entry.1
+        planned.plan) }
+    ensures refused { IfErr result (λ refusal. IsFromSystem refusal ⊎ IsUnplannedBy (opened_bytes R.File.bytes)
+        (GivesBytes R.File.bytes R.File.keeps_word R.File.never_fails)
+        job.entry.now.source.now.paths job.entry.now.source.now.options in_use logs.entry.0 logs.entry.1 refusal) }
 {
     let (alloc, place, options) = (job.rt.alloc(), &job.source.paths.db, job.source.options);
     let length = match metadata_of(&db) {
@@ -205,8 +246,21 @@ where
         wal: Metered::new(wal, Some(job.meter)),
         journal: Metered::new(journal, None),
     };
-    let scan = asked_scan(alloc, limits_of(options), &mut files.wal, notes);
-    let plan = plan_recovery(alloc, options, in_use, &mut files)?;
+    match planned_in(alloc, options, in_use, &mut files, notes) {
+        Ok((plan, scan)) => planned_of(files, plan, scan),
+        Err(refusal) => Err(refusal),
+    }
+}
+
+/// What is planned of opened files.
+fn planned_of<F: SystemFile + Drop, M: Count>(
+    files: Contents<Metered<'_, OpenedFile<'_, F>, M>>,
+    plan: Recovery,
+    scan: Option<Scan>,
+) -> Result<Planned<F>, Refusal>
+    ensures plan { IfOk result (λ planned. planned.plan ≡ plan) }
+    ensures refused { IfErr result IsFromSystem }
+{
     let Contents { db, wal, .. } = files;
     match db.into_file().into_file() {
         Some(db) => Ok(Planned {
@@ -219,90 +273,71 @@ where
     }
 }
 
-/// Carries out what is planned, with the log that counts.
-fn carried_out_on<R: Files + AllocGlobal, G: Guard, M, E: Write>(
+/// What is planned of opened files and, where it is asked for, the scan of the write-ahead log.
+fn planned_in<F: FileBytes, E: Write>(
+    alloc: Global,
+    options: Options,
+    in_use: LogInUse,
+    files: &mut Contents<F>,
+    notes: &Notes<'_, E>,
+) -> Result<(Recovery, Option<Scan>), Refusal>
+    ensures { AreGiven F.gives_bytes files.old
+        → CountsAnswer (F.bytes files.old.wal) (F.bytes files.old.journal) (Ok in_use)
+        → MatchResult result (λ planned. IsPlanOf options (F.bytes files.old.db) (F.bytes files.old.wal)
+        (F.bytes files.old.journal) planned.0)
+        (IsUnplannedOf options (F.bytes files.old.db) (F.bytes files.old.wal) (F.bytes files.old.journal)) }
+{
+    let scan = asked_scan(alloc, limits_of(options), &mut files.wal, notes);
+    match plan_recovery(alloc, options, in_use, files) {
+        Ok(plan) => Ok((plan, scan)),
+        Err(refusal) => Err(refusal),
+    }
+}
+
+/// Carries out what is planned, with the log that counts, which lies there. Which call the system refused is told, and
+/// what of the log is dropped.
+fn carried_out_on<R: Files + AllocGlobal, D: Over<R::File>, G: Gate, M, E: Write>(
     job: &Job<'_, R, M>,
     planned: Planned<R::File>,
-    log: R::File,
+    log: (R::File, &Place),
     guard: G,
     notes: &mut Notes<'_, E>,
 ) -> Result<Outcome, Refusal>
 where
     R::File: SystemFile,
+    ensures disk { IfOk result (IsDoneOver D.is_over D.keeps_word D.state (G.lets_change guard)
+        (limits_named job.entry.now.source.now.options.large) planned.db log.entry.0 planned.plan) }
+    ensures outcome { IfOk result (IsOutcomeOf planned.plan) }
+    ensures refused { IfErr result (λ refusal. IsFromGuard refusal ⊎ IsRefusalOf planned.plan refusal) }
 {
+    let source = job.source;
+    let (log, place) = log;
     let Planned {
         db,
         plan,
         length,
         scan,
     } = planned;
-    let (alloc, source) = (job.rt.alloc(), job.source);
-    let disk = GuardedDisk::new(FileDisk::new(db, log), guard);
-    match plan {
-        Recovery::Nothing => Ok(Outcome::Nothing),
-        Recovery::RollBack => replay(alloc, source, disk, notes),
-        Recovery::Empty => fold(alloc, source, disk, (smallest(), length, scan), notes),
-        Recovery::Fold(page_size, _) => {
-            fold(alloc, source, disk, (page_size, length, scan), notes)
+    let mut disk = GuardedDisk::new(D::over(db, log), guard);
+    match carry_out(job.rt.alloc(), limits_of(source.options), &plan, &mut disk) {
+        Ok(outcome) => {
+            tell_rest(notes, length, scan);
+            Ok(outcome)
         }
-    }
-}
-
-/// Replays the journal of a disk. Which call the system refused is told.
-fn replay<F: SystemFile + Drop, G: Guard, E: Write>(
-    alloc: Global,
-    source: &Source<'_>,
-    disk: GuardedDisk<FileDisk<F>, G>,
-    notes: &mut Notes<'_, E>,
-) -> Result<Outcome, Refusal> {
-    let mut disk = disk;
-    match replay_within(alloc, &mut disk, limits_of(source.options)) {
-        Ok(replayed) if replayed.hot => Ok(Outcome::RolledBack {
-            records: replayed.records,
-            pages: replayed.size,
-        }),
-        Ok(_) => Ok(Outcome::Nothing),
-        Err(error) => {
-            let paths = &source.paths;
-            disk.tell(paths.db.as_str(), paths.journal.as_str(), notes);
-            Err(disk.refusal().unwrap_or(refusal_of_roll(error)))
-        }
-    }
-}
-
-/// Folds the log of a disk by pages of this size, and says what of it, which has this length, is dropped, if it has a
-/// scan. Which call the system refused is told.
-fn fold<F: SystemFile + Drop, G: Guard, E: Write>(
-    alloc: Global,
-    source: &Source<'_>,
-    disk: GuardedDisk<FileDisk<F>, G>,
-    log: (PageSize, u64, Option<Scan>),
-    notes: &mut Notes<'_, E>,
-) -> Result<Outcome, Refusal> {
-    let (page_size, length, scan) = log;
-    let mut disk = disk;
-    match fold_within(alloc, &mut disk, page_size, limits_of(source.options)) {
-        Ok(folded) => {
-            if let Some(scan) = scan {
-                tell_dropped(notes, length, &scan);
+        Err(refusal) => {
+            disk.tell::<R::File, E>(source.paths.db.as_str(), place.as_str(), notes);
+            match disk.refusal() {
+                Some(asked) => Err(refusal_of_guard(asked)),
+                None => Err(refusal),
             }
-            Ok(outcome_of(folded))
-        }
-        Err(error) => {
-            let paths = &source.paths;
-            disk.tell(paths.db.as_str(), paths.wal.as_str(), notes);
-            Err(disk.refusal().unwrap_or(refusal_of_wal(error)))
         }
     }
 }
 
-fn outcome_of(folded: Folded) -> Outcome {
-    match folded.frames {
-        0 => Outcome::NoFront,
-        frames => Outcome::Folded {
-            frames,
-            pages: folded.size,
-        },
+/// Says what of a log of this length is dropped, if it has a scan.
+fn tell_rest<E: Write>(notes: &mut Notes<'_, E>, length: u64, scan: Option<Scan>) {
+    if let Some(scan) = scan {
+        tell_dropped(notes, length, &scan);
     }
 }
 
@@ -312,7 +347,9 @@ fn asked_scan<F: FileBytes, E: Write>(
     limits: Limits,
     log: &mut F,
     notes: &Notes<'_, E>,
-) -> Option<Scan> {
+) -> Option<Scan>
+    ensures { KeepsBytes F.bytes F.gives_bytes log.old log.new }
+{
     if !notes.are_asked() {
         return None;
     }
@@ -327,7 +364,9 @@ fn open<R: Files, E: Write>(
     rt: &R,
     path: &str,
     notes: &mut Notes<'_, E>,
-) -> Result<R::File, Refusal> {
+) -> Result<R::File, Refusal>
+    ensures { IfErr result IsFromSystem }
+{
     match OpenOptions::new().read(true).write(true).open(rt, path) {
         Ok(file) => Ok(file),
         Err(error) => Err(told(notes, path, error).refusal),
@@ -340,17 +379,12 @@ fn open_both<R: Files, E: Write>(
     db: &str,
     log: &str,
     notes: &mut Notes<'_, E>,
-) -> Result<(R::File, R::File), Refusal> {
+) -> Result<(R::File, R::File), Refusal>
+    ensures { IfErr result IsFromSystem }
+{
     let db = open(rt, db, notes)?;
     match open(rt, log, notes) {
         Ok(log) => Ok((db, log)),
         Err(refusal) => Err(refusal),
     }
-}
-
-/// By which pages a log without a valid header is folded: it has no frame.
-fn smallest() -> PageSize
-    ensures { result ≡ 512 }
-{
-    PageSize::new(512).unwrap()
 }

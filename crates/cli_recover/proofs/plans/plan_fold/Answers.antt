@@ -6,8 +6,8 @@ use Rattle.cli_recover.specs.internal.Scans.{NamesSize}
 use Rattle.cli_recover.proofs.FoldedLogs.{plan_of_parts}
 use Rattle.cli_recover.proofs.plans.plan_fold.Goals as goal
 
-pub returns-in_ok-differs-in-Some-default : goal.returns-in_ok-differs-in-Some-default
-returns-in_ok-differs-in-Some-default g c = λ gives_db gives.
+pub returns-in_ok-differs-in-Some-default-clause-plan : goal.returns-in_ok-differs-in-Some-default-clause-plan
+returns-in_ok-differs-in-Some-default-clause-plan g c = λ gives_db gives.
     let wal = g.F.FileBytes.bytes c.args.files.now.wal in
     let once = c.log_page_size.ensures.same.still_gives gives in
     let twice = c.scan_to.ensures.same.still_gives once in
@@ -16,5 +16,5 @@ returns-in_ok-differs-in-Some-default g c = λ gives_db gives.
     plan_of_parts c.limits_of-limits.result (limits_named c.args.options.large) c.args.options.at (g.F.FileBytes.bytes c.args.files.now.db) wal
     (g.F.FileBytes.bytes c.log_page_size.new.log) (g.F.FileBytes.bytes c.scan_to.new.wal) c.in-Some-default.page_size c.in_ok-scan-in-Some-default.scan
     c.in_ok-differs-in-Some-default.differs c.by_sizes.result c.limits_of-limits.ensures c.log_page_size.ensures.same.same_bytes
-    c.scan_to.ensures.same.same_bytes header (c.in_ok-scan-in-Some-default.ensures.scan once) (c.in_ok-differs-in-Some-default.ensures gives_db)
-    (c.by_sizes.ensures twice)
+    c.scan_to.ensures.same.same_bytes header (c.in_ok-scan-in-Some-default.ensures.scan once) (c.in_ok-differs-in-Some-default.ensures.answer gives_db)
+    (c.by_sizes.ensures.plan twice)

@@ -1,0 +1,67 @@
+-- What a recovery in place comes to, by the files that were opened for it (own).
+use Rattle.std.specs.Prelude.{◌≡◌, ◌⊎◌, ℕ, false, List, Option, None, Result, Ok, Err}
+use Rattle.std.specs.Io.KnownBytes.{Appends}
+use Rattle.cli_words.specs.declared.requests.Options.{Options}
+use Rattle.cli_facts.specs.declared.outcome.Outcome.{Outcome}
+use Rattle.cli_facts.specs.declared.outcome.Refusal.{Refusal}
+use Rattle.cli_files.specs.Files.{AreBeside, IsMissing, IsOpenedAt, path_of}
+use Rattle.cli_files.specs.declared.logs.Beheld.{Beheld}
+use Rattle.cli_files.specs.declared.opened_file.OpenedFile.{OpenedFile}
+use Rattle.cli_files.specs.declared.paths.Paths.{Paths}
+use Rattle.cli_show.specs.Contents.{AreGiven}
+use Rattle.cli_show.specs.Errors.{IfRefused}
+use Rattle.cli_show.specs.declared.contents.Contents.{Contents}
+use Rattle.cli_show.specs.declared.error.ShowError.{ShowError}
+use Rattle.cli_job.specs.Opened.{AreLogsOf}
+use Rattle.cli_job.specs.declared.answers.Answer.{Answer}
+use Rattle.cli_job.specs.declared.answers.Answer.TheVariants.{Done}
+use Rattle.cli_recover.specs.Engines.{IsOutcomeOf, IsRefusalOf}
+use Rattle.cli_recover.specs.Outcomes.{outcome_text}
+use Rattle.cli_recover.specs.Plans.{IsPlanOf, IsUnplannedOf}
+use Rattle.cli_recover.specs.Refusals.{IsFromGuard}
+use Rattle.cli_recover.specs.declared.plans.Recovery.{Recovery}
+use Rattle.cli_recover.specs.declared.plans.Recovery.TheVariants.{Nothing}
+
+-- the paths of a file that is named so, which may be a link to it
+pub record ArePathsOf (file : List ℕ) (paths : Paths) : Type 0 where
+  pub named : paths.is_link ≡ false → path_of paths.db ≡ file
+  pub beside : AreBeside paths
+
+-- This is planned of the files that were opened at these paths: the logs that lie there, and the database file, which isn't
+-- opened where no log counts.
+pub record IsPlanned {F : Type 0} (bytes : OpenedFile F → List ℕ) (gives : OpenedFile F → Type 0) (paths : Paths) (options : Options) (plan : Recovery) : Type 0 where
+  pub found : Beheld
+  pub files : Contents (OpenedFile F)
+  pub logs : AreLogsOf paths options.super_journal found files.wal files.journal
+  pub database : IsOpenedAt files.db paths.db files.db.length ⊎ (IsMissing files.db × (plan ≡ Nothing))
+  pub planned : AreGiven gives files → IsPlanOf options (bytes files.db) (bytes files.wal) (bytes files.journal) plan
+
+-- nothing is planned of such files
+pub record IsUnplannedAt {F : Type 0} (bytes : OpenedFile F → List ℕ) (gives : OpenedFile F → Type 0) (paths : Paths) (options : Options) (refusal : Refusal) : Type 0 where
+  pub found : Beheld
+  pub files : Contents (OpenedFile F)
+  pub logs : AreLogsOf paths options.super_journal found files.wal files.journal
+  pub database : IsOpenedAt files.db paths.db files.db.length ⊎ IsMissing files.db
+  pub unplanned : AreGiven gives files → IsUnplannedOf options (bytes files.db) (bytes files.wal) (bytes files.journal) refusal
+
+-- this came of what is planned of them
+abbrev pub IsRecoveredTo : {F : Type 0} → (bytes : OpenedFile F → List ℕ) → (gives : OpenedFile F → Type 0) → Paths → Options → Outcome → Type 0
+IsRecoveredTo bytes gives paths options outcome = (plan : Recovery) × IsPlanned bytes gives paths options plan × IsOutcomeOf plan outcome
+
+-- Why they aren't recovered: the guard or the system refuses it, nothing is planned of them, or what is planned is refused.
+abbrev pub IsUnrecovered : {F : Type 0} → (bytes : OpenedFile F → List ℕ) → (gives : OpenedFile F → Type 0) → Paths → Options → Refusal → Type 0
+IsUnrecovered bytes gives paths options refusal = IsFromGuard refusal
+    ⊎ (IsUnplannedAt bytes gives paths options refusal
+    ⊎ ((plan : Recovery) × IsPlanned bytes gives paths options plan × IsRefusalOf plan refusal))
+
+-- the options of a recovery in place, which is one to the front
+abbrev pub to_front : Options → Options
+to_front options = record options { at = None }
+
+-- A recovery of the file that is named so is done once what came of it is printed; or it is refused.
+abbrev pub RecoversTo : {F : Type 0} → (bytes : OpenedFile F → List ℕ) → (gives : OpenedFile F → Type 0) → (file : List ℕ) → Options → Result Answer ShowError
+    → (before after : Option (List ℕ)) → Type 0
+RecoversTo bytes gives file options (Ok answer) before after = (answer ≡ Done) × (paths : Paths) × ArePathsOf file paths
+    × (outcome : Outcome) × IsRecoveredTo bytes gives paths (to_front options) outcome × Appends before after (outcome_text options.style outcome)
+RecoversTo bytes gives file options (Err error) before after =
+    IfRefused (λ refusal. IsFromGuard refusal ⊎ ((paths : Paths) × ArePathsOf file paths × IsUnrecovered bytes gives paths (to_front options) refusal)) error
