@@ -1,10 +1,10 @@
 -- Names that show other things in an image, one after the other.
-use Rattle.std.proofs.Common.{◌≡◌, ◌≢◌, inl, inr, ℕ, zero, suc, ◌+◌, List, [], ◌∷◌, ◌++◌, map, get_or, Option, None, refl, sym, ◌∙◌, subst, arith}
+use Rattle.std.proofs.Common.{◌≡◌, ◌≢◌, ◌<◌, ◌≤◌, inl, inr, ℕ, zero, suc, ◌+◌, List, [], ◌∷◌, ◌++◌, map, get_or, Option, None, refl, sym, ◌∙◌, subst, arith}
 use Rattle.std.specs.List.{All, Contains}
 use Rattle.std.proofs.lemmas.Bool.{cases_lt}
 use Rattle.std.proofs.lemmas.List.{map-append}
 use Rattle.std.proofs.lemmas.List.Elements.{All-append, Contains-append_left, Contains-append_right, Contains-append_cases}
-use Rattle.rig_store.specs.Differing.{AreDifferences, IsDifferenceIn}
+use Rattle.rig_store.specs.Differing.{AreDifferences, IsDifferenceIn, Rise}
 use Rattle.rig_store.specs.declared.differing.Difference.{Difference}
 
 all_none : {X : Type 0} (P : X → Type 0) → All P []
@@ -21,12 +21,22 @@ in_one : (n k : ℕ) → Contains (n ∷ []) k → k ≡ n
 in_one n k (zero, below, is) = sym is
 in_one n k (suc i, below, is) = absurd (omega (arith, below))
 
+-- one that is greater than all before it
+rise_more : (least n : ℕ) (numbers : List ℕ) → Rise least numbers → ((k : ℕ) → Contains numbers k → k < n) → least ≤ n → Rise least (numbers ++ n ∷ [])
+rise_more least n [] rise below room = (room, tt)
+rise_more least n (m ∷ numbers) rise below room = (
+  rise.0,
+  rise_more (m + 1) n numbers rise.1 (λ k h. below k (Contains-append_right (m ∷ []) numbers k h))
+      (omega (arith, below m (Contains-append_left (m ∷ []) numbers m (one_of m)))),
+)
+
 module _ (sector : ℕ) (image now : List (Option (List ℕ))) where
   -- no names yet
   pub differ_none : AreDifferences sector 0 image now []
   differ_none = record {
     each = all_none (IsDifferenceIn sector image now);
     told = λ k. (λ h. absurd (omega (arith, h.1)), λ h. absurd (omega (arith, h.0)));
+    ordered = tt;
   }
 
   -- a name that shows the same
@@ -41,6 +51,7 @@ module _ (sector : ℕ) (image now : List (Option (List ℕ))) where
         | inr past ↦ let e : k ≡ n = omega (arith, h.0, past) in absurd (h.1 (subst (λ j. get_or image j None ≡ get_or now j None) (sym e) same))
       ],
     );
+    ordered = so_far.ordered;
   }
 
   -- a name that shows another thing
@@ -65,4 +76,6 @@ module _ (sector : ℕ) (image now : List (Option (List ℕ))) where
                 Contains-append_right names (d.name ∷ []) k (subst (λ j. Contains (d.name ∷ []) j) e (one_of d.name))
           ]),
         );
+        ordered = subst (λ l. Rise 0 l) (sym all)
+            (rise_more 0 d.name names so_far.ordered (λ k h. omega (arith, ((so_far.told k).0 h).0, name)) (omega arith));
       }

@@ -1,5 +1,5 @@
 -- In what the names show other things in an image than they do now (own).
-use Rattle.std.specs.Prelude.{◌≡◌, ◌≢◌, ◌⊎◌, ◌↔◌, ℕ, ◌*◌, ◌<◌, ◌≤◌, List, [], ◌∷◌, length, map, take, drop, get_or, Option, Some, None, option_map}
+use Rattle.std.specs.Prelude.{◌≡◌, ◌≢◌, ◌⊎◌, ◌↔◌, ℕ, ◌+◌, ◌*◌, ◌<◌, ◌≤◌, List, [], ◌∷◌, length, map, take, drop, get_or, Option, Some, None, option_map}
 use Rattle.std.specs.List.{All, Contains}
 use Rattle.rig_store.specs.declared.differing.Difference.{Difference}
 
@@ -27,8 +27,14 @@ pub record IsDifference (sector : ℕ) (shown now : Option (List ℕ)) (d : Diff
 abbrev pub IsDifferenceIn : (sector : ℕ) (image now : List (Option (List ℕ))) → Difference → Type 0
 IsDifferenceIn sector image now d = IsDifference sector (get_or image d.name None) (get_or now d.name None) d
 
+-- numbers from a least one on, each greater than the one before it
+abbrev pub Rise : (least : ℕ) → List ℕ → Type 0
+Rise least [] = Unit {0}
+Rise least (n ∷ numbers) = (least ≤ n) × Rise (n + 1) numbers
+
 -- Of so many names exactly those are told that show other bytes in an image than now, or a file where there is none, or none
--- where there is one.
+-- where there is one; each once, in their order.
 pub record AreDifferences (sector names : ℕ) (image now : List (Option (List ℕ))) (found : List Difference) : Type 0 where
   pub each : All (IsDifferenceIn sector image now) found
   pub told : (k : ℕ) → Contains (map (λ d. d.name) found) k ↔ ((k < names) × (get_or image k None ≢ get_or now k None))
+  pub ordered : Rise 0 (map (λ d. d.name) found)
