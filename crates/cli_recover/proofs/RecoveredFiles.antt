@@ -17,14 +17,16 @@ use Rattle.cli_files.specs.declared.paths.Paths.{Paths}
 use Rattle.cli_show.specs.Contents.{AreGiven}
 use Rattle.cli_show.specs.Limits.{limits_named}
 use Rattle.cli_show.specs.declared.contents.Contents.{Contents}
+use Rattle.cli_show.specs.declared.error.ShowError.{ShowError}
 use Rattle.cli_show.specs.declared.error.ShowError.TheVariants as errors
 use Rattle.cli_job.specs.Opened.{AreLogsOf}
+use Rattle.cli_job.specs.declared.answers.Answer.{Answer}
 use Rattle.cli_job.specs.declared.metered.Metered.{Metered}
 use Rattle.cli_recover.specs.Engines.{CarriesOut, IsOutcomeOf, IsRefusalOf}
 use Rattle.cli_recover.specs.Plans.{IsPlanOf, IsUnplannedOf}
-use Rattle.cli_recover.specs.Recovers.{ArePathsOf, IsPlanned, IsUnplannedAt, IsUnrecovered, RecoversTo, to_front}
+use Rattle.cli_recover.specs.Recovers.{ArePathsOf, IsPlanned, IsUnplannedAt, IsUnrecovered, IsRecoveredOn, RecoversOn, RecoversTo, to_front}
 use Rattle.cli_recover.specs.Refusals.{IsFromGuard}
-use Rattle.cli_recover.specs.internal.Disks.{IsCarriedBy, IsDoneOver, IsPlannedBy, IsRecoveredOn, IsUncarriedBy, IsUnplannedBy}
+use Rattle.cli_recover.specs.internal.Disks.{IsCarriedBy, IsDoneOver, IsPlannedBy, IsUncarriedBy, IsUnplannedBy}
 use Rattle.cli_recover.specs.declared.guarded_disk.GuardedDisk.{GuardedDisk}
 use Rattle.cli_recover.specs.declared.plans.Recovery.{Recovery}
 use Rattle.cli_recover.specs.declared.plans.Recovery.TheVariants.{Nothing}
@@ -113,11 +115,20 @@ undone_on bytes gives paths options in_use wal journal plan (Ok outcome) planned
 undone_on bytes gives paths options in_use wal journal plan (Err refusal) planned refused = ⊎_elim inl (λ of. inr (inr (plan, planned, of))) refused
 
 -- a recovery that is refused is told so
-pub recovers_refused : {F : Type 0} (bytes : OpenedFile F → List ℕ) (gives : OpenedFile F → Type 0) (file : List ℕ) (options : Options) (paths : Paths) (refusal told : Refusal)
-    (before after : Option (List ℕ)) → told ≡ refusal → ArePathsOf file paths → IsUnrecovered bytes gives paths (to_front options) refusal
-    → RecoversTo bytes gives file options (Err (errors.Refused told)) before after
-recovers_refused bytes gives file options paths refusal told before after same are is =
-    subst (λ (r : Refusal). RecoversTo bytes gives file options (Err (errors.Refused r)) before after) (sym same) (inr (paths, are, is))
+pub recovers_refused : {F D : Type 0} (bytes : OpenedFile F → List ℕ) (gives : OpenedFile F → Type 0) (keeps_word : D → Type 0) (state : D → DiskState) (lets_change : Type 0)
+    (file : List ℕ) (options : Options) (paths : Paths) (refusal told : Refusal) (before after : Option (List ℕ)) → told ≡ refusal → ArePathsOf file paths
+    → IsUnrecovered bytes gives paths (to_front options) refusal
+    → RecoversOn bytes gives keeps_word state lets_change file options (Err (errors.Refused told)) before after
+recovers_refused bytes gives keeps_word state lets_change file options paths refusal told before after same are is =
+    subst (λ (r : Refusal). RecoversOn bytes gives keeps_word state lets_change file options (Err (errors.Refused r)) before after) (sym same) (inr (paths, are, is))
+
+-- a recovery on a disk is one
+pub recovers_to : {F D : Type 0} (bytes : OpenedFile F → List ℕ) (gives : OpenedFile F → Type 0) (keeps_word : D → Type 0) (state : D → DiskState) (lets_change : Type 0)
+    (file : List ℕ) (options : Options) (result : Result Answer ShowError) (before after : Option (List ℕ))
+    → RecoversOn bytes gives keeps_word state lets_change file options result before after → RecoversTo bytes gives file options result before after
+recovers_to bytes gives keeps_word state lets_change file options (Ok answer) before after on =
+    (on.0, on.1, on.2, on.3, (on.4.0, on.4.1, on.4.2), on.5)
+recovers_to bytes gives keeps_word state lets_change file options (Err error) before after on = on
 
 -- ---- what is planned of files of which it is counted what is read
 

@@ -1,6 +1,8 @@
 -- What a recovery in place comes to, by the files that were opened for it (own).
 use Rattle.std.specs.Prelude.{◌≡◌, ◌⊎◌, ℕ, false, List, Option, None, Result, Ok, Err}
 use Rattle.std.specs.Io.KnownBytes.{Appends}
+use Rattle.sqval.specs.Limits.{Bounds}
+use Rattle.crashdisk.specs.Call.{DiskState}
 use Rattle.cli_words.specs.declared.requests.Options.{Options}
 use Rattle.cli_facts.specs.declared.outcome.Outcome.{Outcome}
 use Rattle.cli_facts.specs.declared.outcome.Refusal.{Refusal}
@@ -10,12 +12,13 @@ use Rattle.cli_files.specs.declared.opened_file.OpenedFile.{OpenedFile}
 use Rattle.cli_files.specs.declared.paths.Paths.{Paths}
 use Rattle.cli_show.specs.Contents.{AreGiven}
 use Rattle.cli_show.specs.Errors.{IfRefused}
+use Rattle.cli_show.specs.Limits.{limits_named}
 use Rattle.cli_show.specs.declared.contents.Contents.{Contents}
 use Rattle.cli_show.specs.declared.error.ShowError.{ShowError}
 use Rattle.cli_job.specs.Opened.{AreLogsOf}
 use Rattle.cli_job.specs.declared.answers.Answer.{Answer}
 use Rattle.cli_job.specs.declared.answers.Answer.TheVariants.{Done}
-use Rattle.cli_recover.specs.Engines.{IsOutcomeOf, IsRefusalOf}
+use Rattle.cli_recover.specs.Engines.{CarriesOut, IsOutcomeOf, IsRefusalOf}
 use Rattle.cli_recover.specs.Outcomes.{outcome_text}
 use Rattle.cli_recover.specs.Plans.{IsPlanOf, IsUnplannedOf}
 use Rattle.cli_recover.specs.Refusals.{IsFromGuard}
@@ -58,10 +61,36 @@ IsUnrecovered bytes gives paths options refusal = IsFromGuard refusal
 abbrev pub to_front : Options → Options
 to_front options = record options { at = None }
 
--- A recovery of the file that is named so is done once what came of it is printed; or it is refused.
+-- A plan is carried out on a disk that keeps its word, where the guard lets each change be.
+abbrev pub IsDone : {D : Type 0} → (keeps_word : D → Type 0) → (state : D → DiskState) → (lets_change : Type 0) → Bounds → Recovery → Outcome → (old new : D) → Type 0
+IsDone keeps_word state lets_change limits plan outcome old new = lets_change → keeps_word old → CarriesOut limits plan (Ok outcome) (state old) (state new)
+
+-- on some disk, if anything is done
+abbrev pub IsDoneOn : {D : Type 0} → (keeps_word : D → Type 0) → (state : D → DiskState) → (lets_change : Type 0) → Bounds → Recovery → Outcome → Type 0
+IsDoneOn {D} keeps_word state lets_change limits plan outcome =
+    (plan ≡ Nothing) ⊎ ((old : D) × (new : D) × IsDone keeps_word state lets_change limits plan outcome old new)
+
+-- what is planned of files came to this, on such a disk
+abbrev pub IsRecoveredOn : {F D : Type 0} → (bytes : OpenedFile F → List ℕ) → (gives : OpenedFile F → Type 0) → (keeps_word : D → Type 0) → (state : D → DiskState)
+    → (lets_change : Type 0) → Paths → Options → Outcome → Type 0
+IsRecoveredOn bytes gives keeps_word state lets_change paths options outcome = (plan : Recovery) × IsPlanned bytes gives paths options plan
+    × IsOutcomeOf plan outcome × IsDoneOn keeps_word state lets_change (limits_named options.large) plan outcome
+
+-- A recovery of the file that is named so is done once an outcome is printed to which it came so; or it is refused.
+abbrev pub RecoversAs : {F : Type 0} → (came : Paths → Outcome → Type 0) → (bytes : OpenedFile F → List ℕ) → (gives : OpenedFile F → Type 0) → (file : List ℕ) → Options
+    → Result Answer ShowError → (before after : Option (List ℕ)) → Type 0
+RecoversAs came bytes gives file options (Ok answer) before after = (answer ≡ Done) × (paths : Paths) × ArePathsOf file paths
+    × (outcome : Outcome) × came paths outcome × Appends before after (outcome_text options.style outcome)
+RecoversAs came bytes gives file options (Err error) before after =
+    IfRefused (λ refusal. IsFromGuard refusal ⊎ ((paths : Paths) × ArePathsOf file paths × IsUnrecovered bytes gives paths (to_front options) refusal)) error
+
 abbrev pub RecoversTo : {F : Type 0} → (bytes : OpenedFile F → List ℕ) → (gives : OpenedFile F → Type 0) → (file : List ℕ) → Options → Result Answer ShowError
     → (before after : Option (List ℕ)) → Type 0
-RecoversTo bytes gives file options (Ok answer) before after = (answer ≡ Done) × (paths : Paths) × ArePathsOf file paths
-    × (outcome : Outcome) × IsRecoveredTo bytes gives paths (to_front options) outcome × Appends before after (outcome_text options.style outcome)
-RecoversTo bytes gives file options (Err error) before after =
-    IfRefused (λ refusal. IsFromGuard refusal ⊎ ((paths : Paths) × ArePathsOf file paths × IsUnrecovered bytes gives paths (to_front options) refusal)) error
+RecoversTo bytes gives file options result before after =
+    RecoversAs (λ paths outcome. IsRecoveredTo bytes gives paths (to_front options) outcome) bytes gives file options result before after
+
+-- the same over such a disk
+abbrev pub RecoversOn : {F D : Type 0} → (bytes : OpenedFile F → List ℕ) → (gives : OpenedFile F → Type 0) → (keeps_word : D → Type 0) → (state : D → DiskState)
+    → (lets_change : Type 0) → (file : List ℕ) → Options → Result Answer ShowError → (before after : Option (List ℕ)) → Type 0
+RecoversOn bytes gives keeps_word state lets_change file options result before after =
+    RecoversAs (λ paths outcome. IsRecoveredOn bytes gives keeps_word state lets_change paths (to_front options) outcome) bytes gives file options result before after

@@ -34,11 +34,12 @@ impl<R: Files, M: Count> Gate for OpenElsewhere<'_, R, M> {
     }
 }
 
-/// A disk over a database file and a log that were opened.
-pub(crate) trait Over<F>: Disk + Drop {
+/// A disk over a database file and a log that were opened to be read and written.
+pub trait Over<F>: Disk + Drop {
     /// It is over this database file and this log.
     ghost is_over: { Self → F → F → Type 0 };
 
+    /// A disk of which no call failed yet.
     fn over(db: F, log: F) -> Self
         ensures { is_over result db log };
 

@@ -12,6 +12,7 @@ mod refusals;
 
 pub use carrying::carry_out;
 pub use copies::recover_to;
+pub use guarded_disk::Over;
 pub use plans::{Recovery, plan_recovery};
 pub use recovered::recovery_keeps_view;
-pub use recovering::recover;
+pub use recovering::{recover, recover_on};

@@ -9,9 +9,9 @@ ghost use Rattle.cli_job.specs.Answers.{IsDoneOr};
 ghost use Rattle.cli_job.specs.Opened.{GivesBytes};
 ghost use Rattle.cli_recover.specs.Engines.{CarriesOut, IsOutcomeOf, IsRefusalOf};
 ghost use Rattle.cli_recover.specs.Plans.{IsPlanOf, IsUnplannedOf};
-ghost use Rattle.cli_recover.specs.Recovers.{IsUnrecovered, RecoversTo};
+ghost use Rattle.cli_recover.specs.Recovers.{IsRecoveredOn, IsUnrecovered, RecoversOn, RecoversTo};
 ghost use Rattle.cli_recover.specs.Refusals.{IsFromGuard};
-ghost use Rattle.cli_recover.specs.internal.Disks.{IsCarriedBy, IsDoneOver, IsPlannedBy, IsRecoveredOn};
+ghost use Rattle.cli_recover.specs.internal.Disks.{IsCarriedBy, IsDoneOver, IsPlannedBy};
 ghost use Rattle.cli_recover.specs.internal.Disks.{IsUncarriedBy, IsUnplannedBy};
 
 use crate::carrying::carry_out;
@@ -62,6 +62,23 @@ where
         (GivesBytes R.File.bytes R.File.keeps_word R.File.never_fails) of.entry.0.now of.entry.2 result
         (O.contents out.old) (O.contents out.new) }
 {
+    recover_on::<R, FileDisk<R::File>, O, E>(rt, of, out, notes)
+}
+
+/// The same over such a disk of the two files.
+pub fn recover_on<R: Files + AllocGlobal + Clock, D: Over<R::File>, O: Write, E: Write>(
+    rt: &R,
+    of: (&str, bool, Options),
+    out: &mut O,
+    notes: &mut Notes<'_, E>,
+) -> Result<Answer, ShowError>
+where
+    R::File: SystemFile,
+    ensures done { IsDoneOr result }
+    ensures recovers { RecoversOn (opened_bytes R.File.bytes)
+        (GivesBytes R.File.bytes R.File.keeps_word R.File.never_fails) D.keeps_word D.state (of.entry.1 ≡ true)
+        of.entry.0.now of.entry.2 result (O.contents out.old) (O.contents out.new) }
+{
     let (file, forced, mut options) = of;
     options.at = None;
     let source = Source {
@@ -76,7 +93,7 @@ where
         source: &source,
         meter: &meter,
     };
-    let outcome = match recovered::<R, FileDisk<R::File>, _, E>(&job, forced, notes) {
+    let outcome = match recovered::<R, D, _, E>(&job, forced, notes) {
         Ok(outcome) => outcome,
         Err(refusal) => return Err(ShowError::Refused(source.paths.told(notes, refusal))),
     };

@@ -3,3 +3,5 @@ pub mod LayoutOfPage
 pub mod PartsOfCells
 pub mod MarksOnBytes
 pub mod BareBytes
+pub mod FallingCells
+pub mod CellsInRuns

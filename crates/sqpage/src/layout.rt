@@ -48,8 +48,8 @@ fn set_bits(word: &mut u64, low: usize, high: usize) -> bool
     true
 }
 
-/// Marks so many bytes from `at` on, unless one of them is marked: a bit for each, word by word.
-pub(crate) fn mark(map: &mut [u64], at: usize, size: usize) -> bool
+/// Marks so many bytes from `at` on, unless one of them is marked: a bit for each, some of a word at once.
+fn mark_bits(map: &mut [u64], at: usize, size: usize) -> bool
     requires within { at + size ≤ 64 * length map.old }
     requires fits { at + size < 2 ^ 63 }
     ensures marked { IsTrue result → MarksSpan map.old map.new (record { start = at; size = size }) }
@@ -67,6 +67,47 @@ pub(crate) fn mark(map: &mut [u64], at: usize, size: usize) -> bool
         from = to;
     }
     true
+}
+
+/// Marks all bytes of the words from `first` up to `last`, unless one of them is marked.
+fn mark_words(map: &mut [u64], first: usize, last: usize) -> bool
+    requires { (first ≤ last) × (last ≤ length map.old) }
+    ensures marked { IsTrue result
+        → MarksSpan map.old map.new (record { start = 64 * first; size = 64 * (last - first) }) }
+    ensures touched { result ≡ false
+        → IsTouched map.old (record { start = 64 * first; size = 64 * (last - first) }) }
+    ensures length { length map.new ≡ length map.old }
+{
+    'words: for index in first..last {
+        if map[index] != 0 {
+            return false;
+        }
+        map[index] = u64::MAX;
+    }
+    true
+}
+
+/// Marks so many bytes from `at` on, unless one of them is marked.
+pub(crate) fn mark(map: &mut [u64], at: usize, size: usize) -> bool
+    requires within { at + size ≤ 64 * length map.old }
+    requires fits { at + size < 2 ^ 63 }
+    ensures marked { IsTrue result → MarksSpan map.old map.new (record { start = at; size = size }) }
+    ensures touched { result ≡ false → IsTouched map.old (record { start = at; size = size }) }
+    ensures length { length map.new ≡ length map.old }
+{
+    let end = at + size;
+    let (first, last) = (at.div_ceil(64), end / 64);
+    if last <= first {
+        return mark_bits(map, at, size);
+    }
+    let (front, back) = (64 * first, 64 * last);
+    if !mark_bits(map, at, front - at) {
+        return false;
+    }
+    if !mark_words(map, first, last) {
+        return false;
+    }
+    mark_bits(map, back, end - back)
 }
 
 /// The size of the freeblock at `at`, which is to begin at `least` or later. None where none is there.

@@ -23,6 +23,9 @@ pub fn links_of(cell: &Cell) -> u64
 {
     let size = cell.payload.unwrap_or(0);
     let beyond = size - cell.local.len() as u64;
+    if beyond == 0 {
+        return 0; // as of most cells, and a division is slow
+    }
     beyond.div_ceil(u64::from(cell.usable) - 4)
 }
 

@@ -6,7 +6,7 @@ ghost use Rattle.sqpage.specs.declared.cell.Parts.{Parts};
 ghost use Rattle.sqpage.specs.declared.fault.Fault.{Fault};
 ghost use Rattle.sqpage.specs.Chain.{payload_size};
 ghost use Rattle.sqpage.specs.Layout.{IsLaidOut, LayoutRefused};
-ghost use Rattle.sqpage.specs.internal.Marking.{MarksCells, TouchesCells, TakesBytes};
+ghost use Rattle.sqpage.specs.internal.Marking.{MarksCells, TouchesCells, LieApart, TakesBytes};
 ghost use Rattle.sqpage.specs.Page.{Page, IsUsable, IsPageOf, PageRefused, IsCell, HasCell, HasParts, HasPartsOf};
 ghost use Rattle.sqpage.specs.Page.{if_present};
 ghost use Rattle.sqpage.specs.Page.{is_interior, head_at, cell_count, cell_count_in, content_start_in, pointers_at};
@@ -118,9 +118,9 @@ fn cells_lie_within(kind: Kind, used: &[u8], number: u32) -> bool
     true
 }
 
-/// Reads the parts of the cells, and answers whether these lie between the start of the content and the end of
-/// the usable part.
-fn read_parts(kind: Kind, used: &[u8], number: u32, parts: &mut [Parts]) -> bool
+/// Reads the parts of the cells of a page of one kind, which a caller names, so that each kind has a loop of its own.
+#[inline(always)]
+fn read_parts_of(kind: Kind, used: &[u8], number: u32, parts: &mut [Parts]) -> bool
     requires sized { (480 ≤ length used.now) × (length used.now ≤ 65536) }
     requires pointers { pointers_end_in kind used.now number ≤ length used.now }
     requires room { cell_count_in used.now number ≤ length parts.old }
@@ -143,6 +143,27 @@ fn read_parts(kind: Kind, used: &[u8], number: u32, parts: &mut [Parts]) -> bool
         }
     }
     true
+}
+
+/// Reads the parts of the cells, and answers whether these lie between the start of the content and the end of
+/// the usable part.
+fn read_parts(kind: Kind, used: &[u8], number: u32, parts: &mut [Parts]) -> bool
+    requires sized { (480 ≤ length used.now) × (length used.now ≤ 65536) }
+    requires pointers { pointers_end_in kind used.now number ≤ length used.now }
+    requires room { cell_count_in used.now number ≤ length parts.old }
+    ensures yes { IsTrue result → (i : ℕ) (c : Parts) → i < cell_count_in used.now number
+        → slice_get parts.new i ≡ Some c → (content_start_in used.now number ≤ pointer_in kind used.now number i)
+        × HasParts kind used.now (pointer_in kind used.now number i) c }
+    ensures not { result ≡ false → (i : ℕ) × (i < cell_count_in used.now number) × ((pointer_in kind used.now number
+        i < content_start_in used.now number) ⊎ ¬ HasCell kind used.now (pointer_in kind used.now number i)) }
+    ensures length { length parts.new ≡ length parts.old }
+{
+    match kind {
+        Kind::TableLeaf => read_parts_of(Kind::TableLeaf, used, number, parts),
+        Kind::TableInterior => read_parts_of(Kind::TableInterior, used, number, parts),
+        Kind::IndexLeaf => read_parts_of(Kind::IndexLeaf, used, number, parts),
+        Kind::IndexInterior => read_parts_of(Kind::IndexInterior, used, number, parts),
+    }
 }
 
 impl<'a> BtreePage<'a> {
@@ -252,8 +273,42 @@ impl<'a> BtreePage<'a> {
         }
     }
 
+    /// How many bytes the cells take, each with four at least, where each ends at the start of the one before it or
+    /// earlier, as SQLite lays them. None where one doesn't.
+    fn falling_cells(&self, parts: &[Parts]) -> Option<usize>
+        requires { HasPartsOf self.now parts.now }
+        ensures { IfSome result (LieApart self.now) }
+    {
+        let mut taken = 0;
+        let mut before = self.used.len();
+        'cells: for i in 0..self.len() {
+            let at = pointer(self.kind, self.used, self.number, i);
+            let end = parts[i].end.max(at + 4);
+            if end > before {
+                return None;
+            }
+            taken += end - at;
+            before = at;
+        }
+        Some(taken)
+    }
+
+    /// How many bytes are taken, where no freeblock is there and the cells stand as SQLite lays them: no mark is needed
+    /// then. None where they don't.
+    fn taken_at_sight(&self, parts: &[Parts]) -> Option<usize>
+        requires { HasPartsOf self.now parts.now }
+        ensures { IfSome result (TakesBytes self.now) }
+    {
+        let first = half_at(self.used, head(self.number) + 1);
+        let end = pointers(self.kind, self.number) + 2 * self.len();
+        if first != 0 || end > content_start(self.used, self.number) {
+            return None;
+        }
+        self.falling_cells(parts)
+    }
+
     /// Marks the cells, each with four bytes at least, and counts their bytes. None where one shares a byte with
-    /// what is marked.
+    /// what is marked. Cells that stand one in front of the other are marked at once, from `low` up to `high`.
     fn mark_cells(&self, parts: &[Parts], map: &mut [u64]) -> Option<usize>
         requires parts { HasPartsOf self.now parts.now }
         requires room { length self.now.used + 4 ≤ 64 * length map.old }
@@ -262,15 +317,24 @@ impl<'a> BtreePage<'a> {
         ensures length { length map.new ≡ length map.old }
     {
         let mut taken = 0;
+        let (mut low, mut high) = (self.used.len(), self.used.len());
         'cells: for i in 0..self.len() {
             let at = pointer(self.kind, self.used, self.number, i);
             let end = parts[i].end.max(at + 4);
-            if !mark(map, at, end - at) {
-                return None;
-            }
             taken += end.min(self.used.len()) - at;
+            if end != low {
+                if !mark(map, low, high - low) {
+                    return None;
+                }
+                high = end;
+            }
+            low = at;
         }
-        Some(taken)
+        if mark(map, low, high - low) {
+            Some(taken)
+        } else {
+            None
+        }
     }
 
     /// Marks what the cells and freeblocks take, and counts it in bytes. Refused by Freeblock and Overlap.
@@ -293,6 +357,22 @@ impl<'a> BtreePage<'a> {
             Some(cells) => Ok(blocks + cells),
             None => Err(Fault::Overlap),
         }
+    }
+
+    /// Counts the bytes that the cells and freeblocks take, by marks where it needs them. Refused by Freeblock and
+    /// Overlap.
+    fn taken(&self, parts: &[Parts], map: &mut [u64]) -> Result<usize, Fault>
+        requires parts { HasPartsOf self.now parts.now }
+        requires room { length self.now.used + 4 ≤ 64 * length map.old }
+        ensures ok { IfOk result (TakesBytes self.now) }
+        ensures err { IfErr result (λ fault. (LayoutRefused fault self.now) × (fault ≢ Fault.NoMemory)) }
+        ensures length { length map.new ≡ length map.old }
+    {
+        if let Some(taken) = self.taken_at_sight(parts) {
+            return Ok(taken);
+        }
+        clear(map);
+        self.mark_all(parts, map)
     }
 
     /// Judges how many bytes of the content are not taken. Refused by Fragments.
@@ -323,8 +403,7 @@ impl<'a> BtreePage<'a> {
         ensures length { length map.new ≡ length map.old }
     {
         let map = &mut map[..(self.used.len() + 67) / 64];
-        clear(map);
-        let taken = self.mark_all(parts, map)?;
+        let taken = self.taken(parts, map)?;
         self.judge_fragments(taken)
     }
 

@@ -7,6 +7,7 @@ ghost use Rattle.sqval.specs.Shortest.{varint_size};
 /// Reads the varint that the bytes begin with: its number and how many bytes it takes. None where
 /// they begin with none, since they end too early. A spelling that is longer than it need be is
 /// read too. A number above `i64::MAX` is a negative one where the field is signed.
+#[inline(always)]
 pub fn read(bytes: &[u8]) -> Option<(u64, usize)>
     ensures found { (number size : ℕ) → (result ≡ Some (number, size)) ↔ Begins number size bytes.now }
     ensures none { IsNone result ↔ ((number size : ℕ) → ¬ Begins number size bytes.now) }

@@ -11,33 +11,17 @@ use Rattle.cli_files.specs.Files.{IsOpenedAt}
 use Rattle.cli_files.specs.declared.opened_file.OpenedFile.{OpenedFile}
 use Rattle.cli_files.specs.declared.paths.Paths.{Paths}
 use Rattle.cli_show.specs.Limits.{limits_named}
-use Rattle.cli_recover.specs.Engines.{CarriesOut, IsOutcomeOf, IsRefusalOf}
+use Rattle.cli_recover.specs.Engines.{IsOutcomeOf, IsRefusalOf}
 use Rattle.cli_recover.specs.Plans.{IsPlanOf, IsUnplannedOf}
-use Rattle.cli_recover.specs.Recovers.{IsPlanned}
+use Rattle.cli_recover.specs.Recovers.{IsDone, IsDoneOn}
 use Rattle.cli_recover.specs.Refusals.{IsFromGuard}
 use Rattle.cli_recover.specs.declared.plans.Recovery.{Recovery}
-use Rattle.cli_recover.specs.declared.plans.Recovery.TheVariants.{Nothing}
 
--- A plan is carried out on a disk that keeps its word, where the guard lets each change be.
-abbrev pub IsDone : {D : Type 0} → (keeps_word : D → Type 0) → (state : D → DiskState) → (lets_change : Type 0) → Bounds → Recovery → Outcome → (old new : D) → Type 0
-IsDone keeps_word state lets_change limits plan outcome old new = lets_change → keeps_word old → CarriesOut limits plan (Ok outcome) (state old) (state new)
-
--- on one over this database file and this log
+-- A plan was carried out on a disk over this database file and this log.
 abbrev pub IsDoneOver : {F D : Type 0} → (is_over : D → F → F → Type 0) → (keeps_word : D → Type 0) → (state : D → DiskState) → (lets_change : Type 0) → Bounds → (db log : F)
     → Recovery → Outcome → Type 0
 IsDoneOver {F} {D} is_over keeps_word state lets_change limits db log plan outcome =
     (old : D) × (new : D) × is_over old db log × IsDone keeps_word state lets_change limits plan outcome old new
-
--- on some disk, if anything is done
-abbrev pub IsDoneOn : {D : Type 0} → (keeps_word : D → Type 0) → (state : D → DiskState) → (lets_change : Type 0) → Bounds → Recovery → Outcome → Type 0
-IsDoneOn {D} keeps_word state lets_change limits plan outcome =
-    (plan ≡ Nothing) ⊎ ((old : D) × (new : D) × IsDone keeps_word state lets_change limits plan outcome old new)
-
--- what is planned of files came to this
-abbrev pub IsRecoveredOn : {F D : Type 0} → (bytes : OpenedFile F → List ℕ) → (gives : OpenedFile F → Type 0) → (keeps_word : D → Type 0) → (state : D → DiskState)
-    → (lets_change : Type 0) → Paths → Options → Outcome → Type 0
-IsRecoveredOn bytes gives keeps_word state lets_change paths options outcome = (plan : Recovery) × IsPlanned bytes gives paths options plan
-    × IsOutcomeOf plan outcome × IsDoneOn keeps_word state lets_change (limits_named options.large) plan outcome
 
 -- This is planned of the database file that was opened at its path, with these logs, of which this one counts.
 pub record IsPlannedBy {F : Type 0} (bytes : OpenedFile F → List ℕ) (gives : OpenedFile F → Type 0) (paths : Paths) (options : Options) (in_use : LogInUse)

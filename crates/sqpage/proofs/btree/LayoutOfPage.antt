@@ -1,5 +1,5 @@
 -- The layout of a page.
-use Rattle.std.proofs.Common.{◌≡◌, ◌≢◌, ℕ, suc, ◌+◌, ◌-◌, ◌<◌, ◌≤◌, ◌⊎◌, List, [], ◌∷◌, ◌++◌, length, max, replicate, Option, Some, None, ◌↔◌, Bool, true, false, cond, ◌&&◌, refl, sym, ap, subst, ◌∙◌, inl, inr, arith, append_assoc, append-nil, length-append, ⊎_elim}
+use Rattle.std.proofs.Common.{◌≡◌, ◌≢◌, ℕ, suc, ◌+◌, ◌-◌, ◌*◌, ◌<◌, ◌≤◌, ◌⊎◌, List, [], ◌∷◌, ◌++◌, length, max, replicate, Option, Some, None, ◌↔◌, Bool, true, false, cond, ◌&&◌, refl, sym, ap, subst, ◌∙◌, inl, inr, arith, append_assoc, append-nil, length-append, ⊎_elim}
 use Rattle.std.proofs.lemmas.List.Sums.{sum_by-append, sum_by_push}
 use Rattle.std.specs.Prelude.{Result, Ok, Err, IfErr, OnErr, IsErrAnd}
 use Rattle.sqpage.specs.Header.{half}
@@ -10,7 +10,7 @@ use Rattle.sqpage.specs.declared.fault.Fault.TheVariants as faults
 use Rattle.sqpage.proofs.btree.PartsOfCells.{parts_once, parts_in, parts_are, cell_rise}
 use Rattle.sqpage.proofs.btree.MarksOnBytes.{unmarked, mark_at_most}
 use Rattle.sqpage.proofs.btree.BareBytes.{all_before, bare_and_taken}
-use Rattle.sqpage.specs.Page.{Page, HasParts, HasPartsOf, head_at, content_start_in, cell_count, pointer}
+use Rattle.sqpage.specs.Page.{Page, HasParts, HasPartsOf, head_at, content_start_in, cell_count, pointer, pointers_at, pointers_end_in}
 use Rattle.sqpage.specs.declared.cell.Parts.{Parts}
 use Rattle.sqpage.specs.internal.Marking.{mark_at, MarksSpan, IsTouched, AreMarks, MarksFreeblocks, FreeblocksRefused, MarksCells, TouchesCells, TakesBytes, bytes_before, taken_before}
 
@@ -19,7 +19,7 @@ pub one_more_covered : (spans : List Span) (s : Span) (k : ℕ) → times_covere
 one_more_covered spans s k =
     let e = sum_by-append (λ (x : Span). cond (covers x k) 1 0) spans (s ∷ []) in omega (arith, e)
 
-either : (b : Bool) → (b ≡ true) ⊎ (b ≡ false)
+pub either : (b : Bool) → (b ≡ true) ⊎ (b ≡ false)
 either true = inl refl
 either false = inr refl
 
@@ -137,9 +137,6 @@ pub record Marking (p : Page) (old new : List ℕ) (i taken : ℕ) : Type 0 wher
   pub marked : (spans : List Span) → AreMarks old spans → AreMarks new (spans ++ cells)
   pub taken_are : taken ≡ taken_before (length p.used) cells
 
-pub marking_begins : (p : Page) (map : List ℕ) → Marking p map map 0 0
-marking_begins p map = record { cells = []; are = tt; count = refl; marked = λ spans a. subst (AreMarks map) (sym (append-nil spans)) a; taken_are = refl }
-
 -- The span of a cell, by its parts. The page is one in two ways.
 pub record SpanHere (p q : Page) (i at end : ℕ) : Type 0 where
   pub below : i < cell_count q
@@ -181,26 +178,6 @@ span_here p q parts i n at end e h count lt place m = record {
 
     highest : (n at end len : ℕ) → end ≡ max n (at + 4) → n ≤ len → at ≤ len → end ≤ len + 4
     highest n at end len m a b = grind arith
-
-module _ (p : Page) (old map new : List ℕ) (i taken : ℕ) (m : Marking p old map i taken) (s : Span) (below : i < cell_count p) (is : IsCellSpan p i s) where
-  more_are : AreCellSpans p 0 (m.cells ++ s ∷ [])
-  more_are = let e : 0 + length m.cells ≡ i = omega (arith, m.count) in cells_more p 0 m.cells s m.are (rw e below) (rw e is)
-
-  pub marking_goes_on : (more : ℕ) → more ≡ bytes_before (length p.used) s → MarksSpan map new s → Marking p old new (i + 1) (taken + more)
-  marking_goes_on more counted marks = record {
-    cells = m.cells ++ s ∷ [];
-    are = more_are;
-    count = length-append m.cells (s ∷ []) ∙ ap (λ n. n + 1) m.count;
-    marked = λ spans a. subst (AreMarks new) (append_assoc spans m.cells (s ∷ [])) (span_marked map new (spans ++ m.cells) s (m.marked spans a) marks);
-    taken_are = omega (arith, counted, m.taken_are, sum_by_push (bytes_before (length p.used)) m.cells s);
-  }
-
-  pub marking_touches : IsTouched map s → TouchesCells p old
-  marking_touches touches = record {
-    cells = m.cells ++ s ∷ [];
-    are = more_are;
-    shared = λ spans a. subst (λ l. ¬ ShareNone l) (append_assoc spans m.cells (s ∷ [])) (span_shared map (spans ++ m.cells) s (m.marked spans a) touches);
-  }
 
 pub marking_ends : (p : Page) (old new : List ℕ) (i taken : ℕ) → Marking p old new i taken → i ≡ cell_count p → MarksCells p old new taken
 marking_ends p old new i taken m e = record { cells = m.cells; are = m.are; all = m.count ∙ e; marked = m.marked; taken_are = m.taken_are }
@@ -344,3 +321,17 @@ on_err P (Err fault) h = h
 pub exits : {T E : Type 0} (R : E → Type 0) (x : E) (r : Result T E) → IsErrAnd r (λ y. y ≡ x) → R x → IfErr r R
 exits R x (Ok v) h p = absurd h
 exits R x (Err y) h p = subst R (sym h) p
+
+-- What is read of the page, which is one in two ways
+module _ (p q : Page) (e : p ≡ q) where
+  pub start_in : (start : ℕ) → start ≡ content_start_in p.used p.number → start ≡ content_start_in q.used q.number
+  start_in start s = s ∙ ap (λ (p : Page). content_start_in p.used p.number) e
+
+  pub first_in : (first head : ℕ) → head ≡ head_at p.number → first ≡ half p.used (head + 1) → first ≡ half q.used (head_at q.number + 1)
+  first_in first head h f = f ∙ ap (λ n. half p.used (n + 1)) h ∙ ap (λ (p : Page). half p.used (head_at p.number + 1)) e
+
+  pub the_end : (pointers count : ℕ) → pointers ≡ pointers_at p.kind p.number → count ≡ cell_count q → pointers + 2 * count ≡ pointers_end_in q.kind q.used q.number
+  the_end pointers count a b = let n : pointers ≡ pointers_at q.kind q.number = a ∙ ap (λ (p : Page). pointers_at p.kind p.number) e in omega (arith, n, b)
+
+  pub blocks_in : (start first taken : ℕ) (map : List ℕ) → MarksFreeblocks p.used start first map taken → MarksFreeblocks q.used start first map taken
+  blocks_in start first taken map m = subst (λ (p : Page). MarksFreeblocks p.used start first map taken) e m

@@ -171,3 +171,32 @@ module _ (old map : List ℕ) (at from to k : ℕ) (m : MarksSpan old map (recor
                 mark_in map k w place inside here ∙ b.kept (place % 64) outside ∙ sym (mark_was map k place here) ∙ was
             | inr other ↦ mark_out map k w place other ∙ was
           ]
+
+-- A word that has no bit set, and then all.
+pub fills : (word : ℕ) → word ≡ 0 → SetsBits word (2 ^ 64 - 1) 0 64
+fills word e = record {
+  free = λ i from to. none i;
+  is_set = λ i from to. bit_at_mask_inside 0 64 i from to;
+  kept = λ i outside. elim outside [ inl below ↦ absurd (omega (arith, below)) | inr above ↦ bit_at_mask_above 0 64 i above ∙ sym (none i) ];
+}
+  where
+    none : (i : ℕ) → bit_at word i ≡ 0
+    none i = ap (λ w. bit_at w i) e ∙ bit_at-zero i
+
+pub some_bit : (word : ℕ) → word < 2 ^ 64 → word ≢ 0 → HasBit word 0 64
+some_bit zero small ne = absurd (ne refl)
+some_bit (suc n) small ne = let found = bit_at-trailing_zeros w64 (suc n) (omega arith) small in (_, omega arith, found.0, found.1)
+
+-- A span is marked up to a word, and then that word.
+module _ (old map : List ℕ) (at k : ℕ) (m : MarksSpan old map (record { start = at; size = 64 * k - at })) (le : at ≤ 64 * k) where
+  pub word_touched : (end : ℕ) → 64 * k + 64 ≤ end → HasBit (get_or map k 0) 0 64 → IsTouched old (record { start = at; size = end - at })
+  word_touched end within h =
+      let low : 64 * k % 64 ≡ 0 = omega arith in
+      let high : 64 * k + 64 - k * 64 ≡ 64 = omega arith in
+      part_touched old map at (64 * k) (64 * k + 64) k m le (omega arith) (omega arith) (omega arith) end within (rw (low, high) h)
+
+  pub word_marked : (w : ℕ) → k < length map → SetsBits (get_or map k 0) w 0 64 → MarksSpan old (set map k w) (record { start = at; size = 64 * k + 64 - at })
+  word_marked w inside b =
+      let low : 64 * k % 64 ≡ 0 = omega arith in
+      let high : 64 * k + 64 - k * 64 ≡ 64 = omega arith in
+      part_marked old map at (64 * k) (64 * k + 64) k m le (omega arith) (omega arith) (omega arith) w inside (rw (low, high) b)

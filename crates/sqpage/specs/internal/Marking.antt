@@ -70,6 +70,14 @@ pub record TouchesCells (p : Page) (old : List ℕ) : Type 0 where
   pub are : AreCellSpans p 0 cells
   pub shared : (spans : List Span) → AreMarks old spans → ¬ ShareNone (spans ++ cells)
 
+-- The cells share no byte, and take so many bytes of the usable part.
+pub record LieApart (p : Page) (taken : ℕ) : Type 0 where
+  pub cells : List Span
+  pub are : AreCellSpans p 0 cells
+  pub all : length cells ≡ cell_count p
+  pub apart : ShareNone cells
+  pub taken_are : taken ≡ taken_before (length p.used) cells
+
 -- All freeblocks and cells share no byte, and take so many bytes of the usable part.
 pub record TakesBytes (p : Page) (taken : ℕ) : Type 0 where
   pub blocks : List Span

@@ -1,26 +1,11 @@
-use Rattle.std.proofs.Common.{◌≡◌, ◌≢◌, ◌+◌, ◌*◌, ◌≤◌, ◌<◌, ◌∙◌, ℕ, List, length, subst, ap, arith}
+use Rattle.std.proofs.Common.{◌≢◌, ◌+◌, ◌≤◌, ◌<◌, ℕ, length, subst, ap, arith}
 use Rattle.sqpage.specs.declared.fault.Fault.TheVariants as faults
-use Rattle.sqpage.specs.Header.{half}
 use Rattle.sqpage.specs.Layout.{LayoutRefused}
-use Rattle.sqpage.specs.internal.Marking.{MarksFreeblocks, FreeblocksRefused, TakesBytes}
-use Rattle.sqpage.specs.Page.{Page, head_at, cell_count, content_start_in, pointer, pointers_at, pointers_end_in}
+use Rattle.sqpage.specs.internal.Marking.{FreeblocksRefused, TakesBytes}
+use Rattle.sqpage.specs.Page.{Page, cell_count, content_start_in, pointer}
 use Rattle.sqpage.proofs.btree.LayoutOfPage.{freeblocks_refused, pointers_reach, cells_share, all_marked, bare_is}
-use Rattle.sqpage.proofs.btree.LayoutOfPage.{exits}
+use Rattle.sqpage.proofs.btree.LayoutOfPage.{exits, start_in, first_in, the_end, blocks_in}
 use Rattle.sqpage.proofs.page.BtreePage.mark_all.Goals as goal
-
--- what is read of the page, which is one in two ways
-module _ (p q : Page) (e : p ≡ q) where
-  start_in : (start : ℕ) → start ≡ content_start_in p.used p.number → start ≡ content_start_in q.used q.number
-  start_in start s = s ∙ ap (λ (p : Page). content_start_in p.used p.number) e
-
-  first_in : (first head : ℕ) → head ≡ head_at p.number → first ≡ half p.used (head + 1) → first ≡ half q.used (head_at q.number + 1)
-  first_in first head h f = f ∙ ap (λ n. half p.used (n + 1)) h ∙ ap (λ (p : Page). half p.used (head_at p.number + 1)) e
-
-  the_end : (pointers count : ℕ) → pointers ≡ pointers_at p.kind p.number → count ≡ cell_count q → pointers + 2 * count ≡ pointers_end_in q.kind q.used q.number
-  the_end pointers count a b = let n : pointers ≡ pointers_at q.kind q.number = a ∙ ap (λ (p : Page). pointers_at p.kind p.number) e in omega (arith, n, b)
-
-  blocks_in : (start first taken : ℕ) (map : List ℕ) → MarksFreeblocks p.used start first map taken → MarksFreeblocks q.used start first map taken
-  blocks_in start first taken map m = subst (λ (p : Page). MarksFreeblocks p.used start first map taken) e m
 
 pub returns-in_err-blocks-clause-err : goal.returns-in_err-blocks-clause-err
 returns-in_err-blocks-clause-err c =

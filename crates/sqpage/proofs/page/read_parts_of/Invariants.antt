@@ -1,6 +1,6 @@
 use Rattle.std.proofs.Common.{◌≡◌, length}
 use Rattle.sqpage.proofs.btree.PartsOfCells.{AreRead}
-use Rattle.sqpage.proofs.page.read_parts.Given as goal
+use Rattle.sqpage.proofs.page.read_parts_of.Given as goal
 
 abbrev pub invariant-cells : goal.invariant-cells
 invariant-cells l = record {

@@ -1,6 +1,6 @@
 use Rattle.std.proofs.Common.{◌≡◌, ◌-◌, ◌≤◌, length}
 use Rattle.sqpage.specs.internal.Marking.{MarksSpan}
-use Rattle.sqpage.proofs.layout.mark.Given as goal
+use Rattle.sqpage.proofs.layout.mark_bits.Given as goal
 
 abbrev pub invariant-words : goal.invariant-words
 invariant-words l = record {

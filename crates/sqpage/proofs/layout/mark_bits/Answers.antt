@@ -2,7 +2,7 @@ use Rattle.std.proofs.Common.{◌≡◌, ◌+◌, ◌-◌, ◌/◌, ◌<◌, ◌
 use Rattle.std.proofs.lemmas.List.{length-set}
 use Rattle.sqpage.specs.internal.Marking.{IsTouched}
 use Rattle.sqpage.proofs.btree.MarksOnBytes.{part_touched, part_marked}
-use Rattle.sqpage.proofs.layout.mark.Goals as goal
+use Rattle.sqpage.proofs.layout.mark_bits.Goals as goal
 
 pub returns-then-not-set_bits-clause-touched : goal.returns-then-not-set_bits-clause-touched
 returns-then-not-set_bits-clause-touched c = λ _.
