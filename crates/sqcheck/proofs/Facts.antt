@@ -1,5 +1,5 @@
 -- The same, with all facts that the proofs of functions cite.
-pub use Rattle.sqcheck.proofs.Between.{AddsItem, AddsRoots, AllSchemaRows, Apart, AreEachOnce, AreFound, AreFoundFaults, AreFoundRoles, AreFreePages, AreLeaves, AreMarked, ArePutDown, AreRolesFound, AreSchemaRows, AreToldFound, Begins, Bool, Btree, Chart, Charts, CheckError, ComesNext, Database, Every, Fault, Finds, FirstLeaf, FollowRefusedBy, FreeDiffers, FreeLeaf, FreeTrunk, HasFound, HasFreeCount, HasHeaderOf, HasJudgedRole, HasKind, HasManyRoots, HasNoFree, HasSoundHeader, HeaderFault, IfSome, In, InCell, InPageAs, InRow, InRowAs, InRowAt, InRowBelow, InRowsOf, IsAboveOf, IsAutoVacuum, IsBarred, IsBelow, IsDealtWith, IsFaultOf, IsFirst, IsFound, IsFoundFault, IsFreeCount, IsHeaderNamed, IsHome, IsInShortRow, IsItemFound, IsItemOf, IsJudged, IsLargestFault, IsLargestIn, IsLeafFound, IsLeafFrom, IsLevelFound, IsLookedAt, IsLookedThrough, IsNamed, IsNamedFault, IsPage, IsPageSize, IsProper, IsProperRoot, IsPutDown, IsReached, IsReserved, IsRoleIn, IsRoleOf, IsRootAt, IsRootIn, IsRowsPage, IsSchemaLeaf, IsSetAside, IsSound, IsSoundPage, IsSurveyed, IsThrough, IsToldBy, IsWhole, IsWithin, IsWrongAt, Item, Judged, KeepsFound, KeepsWalk, Kind, Leaf, LevelAfter, Link, LinkFits, List, Mapped, Marks, Match, Names, Node, NodeRefused, NodeRefusedBy, None, NotRoot, NotSchema, Off, Option, Overflow, Page, PageOutside, Passes, Place, Pushes, PutsAside, PutsRole, Role, Root, RootsMatch, Some, Spot, StandsBy, StandsIn, StandsInRow, StandsNow, TableLeaf, TellsFound, TellsLargest, Tour, Tree, Trunk, Unused, Uses, Visited, Walk, Walking, [], all_rows, ap, append-nil, append_assoc, arith, both_ok, byte, cases_eq, cell_count, child, code_of, cond, count_by, drop, drop-cons, drop_all, either, every_append, every_from_in, every_in, every_index, every_weaker, exits, false, fewer_unmarked, first, first_child, first_root, first_root_spot, first_sized, first_trunk, first_trunk_place, first_trunk_spot, fits_under, free_leads, free_leaf, free_pages, from_map, get_or, head_at, header_sound, home, if_err, if_ok, in_left, in_map, in_right, inl, inr, is_free, is_interior, is_marked, is_of_header, is_root, is_table, kind_once, leaf, leaf_count_in, least_page_size, length, length_marked, link, link_leads, map, match_append, most_faults, most_leaves, next, next_in, no_more, node, node_in, none_used, not_before, now_marked, numbers, on_ok, overflow, page_as, places, refl, reverse, role_at, role_by, role_of, root, stands_in, subst, suc, sum_by-cons, sym, take, take-append-drop, take_all, take_more, true, trunk, unused_faults, usable_size, visits_more, visits_of, walks_more, with_items_is, word, ℕ, ⊎_elim, ◌++◌, ◌+◌, ◌-◌, ◌<◌, ◌==◌, ◌∙◌, ◌∷◌, ◌≡◌, ◌≢◌, ◌≤◌, ◌⊎◌}
+pub use Rattle.sqcheck.proofs.Between.{AddsItem, AddsRoots, AllSchemaRows, Apart, AreEachOnce, AreFound, AreFoundFaults, AreFoundRoles, AreFreePages, AreLeaves, AreMarked, ArePutDown, AreRolesFound, AreSchemaRows, AreToldFound, Begins, Bool, Btree, Chart, Charts, CheckError, ComesNext, Database, Every, Fault, Finds, FirstLeaf, FollowRefusedBy, FreeDiffers, FreeLeaf, FreeTrunk, HasFound, HasFreeCount, HasHeaderOf, HasJudgedRole, HasKind, HasManyRoots, HasNoFree, HasSoundHeader, HeaderFault, IfSome, In, InCell, InPageAs, InRow, InRowAs, InRowAt, InRowBelow, InRowsOf, IsAboveOf, IsAutoVacuum, IsBarred, IsBelow, IsDealtWith, IsFaultOf, IsFirst, IsFound, IsFoundFault, IsFreeCount, IsHeaderNamed, IsHome, IsInShortRow, IsItemFound, IsItemOf, IsJudged, IsLargestFault, IsLargestIn, IsLeafFound, IsLeafFrom, IsLevelFound, IsLookedAt, IsLookedThrough, IsNamed, IsNamedFault, IsPage, IsPageSize, IsProper, IsProperRoot, IsPutDown, IsReached, IsReserved, IsRoleIn, IsRoleOf, IsRootAt, IsRootIn, IsRowsPage, IsSchemaLeaf, IsSetAside, IsSound, IsSoundPage, IsSurveyed, IsThrough, IsToldBy, IsWhole, IsWithin, IsWrongAt, Item, Judged, KeepsFound, KeepsWalk, Kind, Leaf, LevelAfter, Link, LinkFits, List, Mapped, Marks, Match, Names, Node, NodeRefused, NodeRefusedBy, None, NotRoot, NotSchema, Off, Option, Overflow, Page, PageOutside, Passes, Place, Pushes, PutsAside, PutsRole, Role, Root, RootsMatch, Some, Spot, StandsAt, StandsBy, StandsIn, StandsInRow, StandsNow, TableLeaf, TellsFound, TellsLargest, Tour, Tree, Trunk, Unused, Uses, Visited, Walk, Walking, [], all_rows, ap, append-nil, append_assoc, arith, both_ok, byte, cases_eq, cell_count, child, code_of, cond, count_by, drop, drop-cons, drop_all, either, every_append, every_from_in, every_in, every_index, every_weaker, exits, exits_as, false, fewer_unmarked, first, first_child, first_root, first_root_spot, first_sized, first_trunk, first_trunk_place, first_trunk_spot, fits_under, free_leads, free_leaf, free_pages, from_map, get_or, head_at, header_sound, home, if_err, if_ok, in_left, in_map, in_right, inl, inr, is_free, is_interior, is_marked, is_of_header, is_root, is_table, kind_once, leaf, leaf_count_in, least_page_size, length, length_marked, link, link_leads, map, match_append, most_faults, most_leaves, next, next_in, no_more, node, node_in, none_used, not_before, now_marked, numbers, on_match, on_ok, overflow, page_as, places, refl, reverse, role_at, role_by, role_of, root, stands_in, subst, suc, sum_by-cons, sym, take, take-append-drop, take_all, take_more, true, trunk, unused_faults, usable_size, visits_more, visits_of, walks_more, with_items_is, word, ℕ, ⊎_elim, ◌++◌, ◌+◌, ◌-◌, ◌<◌, ◌==◌, ◌∙◌, ◌∷◌, ◌≡◌, ◌≢◌, ◌≤◌, ◌⊎◌}
 unfoldable pub use Rattle.sqcheck.proofs.Between.{page}
 pub use Rattle.sqcheck.proofs.btree.EnteredPage.{Aside, entered_aside, entered_knows, entered_page, entered_pushes, entered_sound}
 pub use Rattle.sqcheck.proofs.btree.FaultsOfTreePage.{as_page, keys_refused, kind_read, layout_refused, level_put, page_refused}

@@ -22,13 +22,13 @@ pub use Rattle.sqcheck.specs.declared.uses.Uses.{Uses}
 pub use Rattle.sqcheck.specs.internal.Agenda.{Agenda, AreCounted, AreEntered, AreMarked, IsAside, IsHome, LinkFits, MarksAside, NotRoot, NotSchema, Off, RowsAre, StandsAsked, StandsNow, Stems, Stood, Tour, Walking, WalksOn, home, places}
 pub use Rattle.sqcheck.specs.internal.Chains.{KeepsTaken, TakesChain, TakesPage, is_taken}
 pub use Rattle.sqcheck.specs.internal.Charting.{ArePutDown, unused_fault, unused_faults}
-pub use Rattle.sqcheck.specs.internal.Checking.{KnowsMaps, MarksMaps, MarksOne, Visited, VisitsMore}
+pub use Rattle.sqcheck.specs.internal.Checking.{IsReportOf, KnowsMaps, MarksMaps, MarksOne, StandsAt, Visited, VisitsMore, Walks}
 pub use Rattle.sqcheck.specs.internal.Counting.{AddsItem, in_btree, in_freelist, in_overflow, in_trees, root_in}
 pub use Rattle.sqcheck.specs.internal.Found.{AddsRoot, AddsRoots, AreFound, AreLeaves, AreRolesFound, AreToldFound, Begins, ComesNext, FreeDiffers, HasFound, HasNoFree, IsAboveOf, IsBarred, IsCellFound, IsDealtWith, IsFreeCount, IsHeaderNamed, IsItemFound, IsJudged, IsLargestFault, IsLeafFound, IsLevelFound, IsPageFound, IsProperRoot, IsRootFound, IsSurveyed, IsThrough, IsToldBy, Mapped, PutsRole, TellsFound, TellsLargest, TellsRow}
 pub use Rattle.sqcheck.specs.internal.Heading.{HasHeaderOf, HeaderFault}
 pub use Rattle.sqcheck.specs.internal.Roles.{TellsOf}
 pub use Rattle.sqcheck.specs.internal.Schema.{AllSchemaRows, AreSchemaRows, Finds, InRowAt, InRowBelow, InRowsOf, IsRootAt, IsRowsPage, KeepsFound, RootsMatch}
-pub use Rattle.sqcheck.specs.internal.Snapshots.{SameSource}
+pub use Rattle.sqcheck.specs.internal.Snapshots.{Keeps}
 pub use Rattle.sqcheck.specs.internal.Surveys.{AreSetDown, Charts, IsEnd, IsReserved, IsSetDown, KnowsReserved}
 pub use Rattle.sqcheck.specs.internal.Walking.{Enters, EntryRefused, EntrySays, FollowRefused, FollowRefusedBy, Follows, InCellFrom, IsBelow, IsChild, IsEntryOf, IsFirstLevel, IsItemOf, IsLeafFrom, IsMapped, IsNextTrunk, IsProper, IsPutDown, IsSchemaLeaf, Judged, KeepsWalk, Knows, KnowsAt, LeadsOn, LevelAfter, LevelAt, LinksOn, Match, Opens, PageWrong, Passes, Pushes, PutsAside, TopLeads, Visits, node_in, role_of}
 pub use Rattle.sqpage.proofs.btree.LayoutOfPage.{not_laid_out}
@@ -59,7 +59,7 @@ pub use Rattle.sqval.specs.Bytes.{part, word}
 pub use Rattle.sqval.specs.Database.{Database}
 unfoldable pub use Rattle.sqval.specs.Database.{page}
 pub use Rattle.sqval.specs.PageSize.{IsPageSize}
-pub use Rattle.std.proofs.Common.{Bool, Err, Global, IfErr, IfOk, IfSome, IsErrAnd, IsTrue, List, None, Ok, OnOk, Option, Result, Some, Vec, [], add-one, ap, append-nil, append_assoc, arith, cond, count_by, drop, eq-eqb, eqb, false, flat_map, get_or, inl, inr, length, length-append, map, nat_lt, not, refl, replicate, reverse, rules, set, subst, suc, sym, take, true, unwrap_or, vec_len, zero, ℕ, ℤ, ⊎_elim, ◌*◌, ◌++◌, ◌+◌, ◌-◌, ◌/◌, ◌<◌, ◌==◌, ◌^◌, ◌↔◌, ◌∙◌, ◌∷◌, ◌≡◌, ◌≢◌, ◌≤◌, ◌⊎◌}
+pub use Rattle.std.proofs.Common.{Bool, Err, Global, IfErr, IfOk, IfSome, IsErrAnd, IsTrue, List, MatchResult, None, Ok, OnOk, Option, Result, Some, Vec, [], add-one, ap, append-nil, append_assoc, arith, cond, count_by, drop, eq-eqb, eqb, false, flat_map, get_or, inl, inr, length, length-append, map, nat_lt, not, refl, replicate, reverse, rules, set, subst, suc, sym, take, true, unwrap_or, vec_len, zero, ℕ, ℤ, ⊎_elim, ◌*◌, ◌++◌, ◌+◌, ◌-◌, ◌/◌, ◌<◌, ◌==◌, ◌^◌, ◌↔◌, ◌∙◌, ◌∷◌, ◌≡◌, ◌≢◌, ◌≤◌, ◌⊎◌}
 pub use Rattle.std.proofs.Math.Nat.{div-lt_iff_lt-mul}
 pub use Rattle.std.proofs.Math.Seq.{drop-cons, take-append-add, take-suc}
 pub use Rattle.std.proofs.lemmas.Bool.{cases_Bool, cases_eq, cases_lt, eqb-true}

@@ -1,7 +1,6 @@
 //! The check of a whole database (own).
 ghost use Rattle.std.specs.Prelude.{◌≡◌, ◌≢◌, ◌<◌, ◌≤◌, ◌∷◌, ◌++◌, [], ℕ, List, Bool, true, false, length};
-ghost use Rattle.std.specs.Prelude.{IfOk, IfErr};
-ghost use Rattle.std.specs.Prelude.{OnOk, OnErr, replicate, ◌↔◌, ◌-◌, ◌^◌};
+ghost use Rattle.std.specs.Prelude.{IfOk, IfErr, MatchResult, OnOk, replicate, ◌↔◌, ◌-◌, ◌^◌};
 ghost use Rattle.sqpage.specs.PointerMaps.{lock_byte_page};
 ghost use Rattle.sqpage.specs.Source.{KeepsPages, UnlessUnread};
 ghost use Rattle.sqpage.specs.Freelist.{IsPage, IsWithin, usable_size, first_trunk};
@@ -11,12 +10,13 @@ ghost use Rattle.sqpage.specs.declared.fault.Fault.{Fault};
 ghost use Rattle.sqcheck.specs.Places.{Spot, first_root_spot, names_table};
 ghost use Rattle.sqcheck.specs.Roles.{Visit, Told, AreRoles};
 ghost use Rattle.sqcheck.specs.internal.Schema.{IsRootAt, RootsMatch};
-ghost use Rattle.sqcheck.specs.internal.Snapshots.{SameSource};
+ghost use Rattle.sqcheck.specs.internal.Snapshots.{IsSourceOf, Keeps};
 ghost use Rattle.sqcheck.specs.Stands.{Stands, StandsWith, IsAsideWith};
-ghost use Rattle.sqcheck.specs.internal.Agenda.{AreCounted, StandsNow, MarksAside};
+ghost use Rattle.sqcheck.specs.internal.Agenda.{AreCounted, MarksAside};
 ghost use Rattle.sqcheck.specs.WellFormed.{WellFormed, WellFormedWith, HasSoundHeader, IsReport};
 ghost use Rattle.sqcheck.specs.internal.Walking.{IsItemOf, TopLeads};
-ghost use Rattle.sqcheck.specs.internal.Checking.{Visited, VisitsMore, IsNew, HasLists, MarksOne, MarksMaps};
+ghost use Rattle.sqcheck.specs.internal.Checking.{IsNew, HasLists, IsReportOf, MarksOne, MarksMaps};
+ghost use Rattle.sqcheck.specs.internal.Checking.{StandsAt, Visited, Walks};
 
 use crate::header::judge_header;
 use crate::item::{Item, Task, push};
@@ -66,13 +66,11 @@ impl<V: Snapshot> Reader<V> {
         page: u32,
     ) -> Result<bool, CheckError>
         requires page { IsPage V.pages page }
-        requires same { SameSource V.pages V.size V.right V.given (S.pages source.old) (S.size source.old)
-            (S.reads_right source.old) (S.gives_pages source.old) }
+        requires same { Keeps V.Snapshot S.PageSource source.old }
         ensures ok { V.right → IfOk result (λ table. table ≡ names_table V.pages page) }
         ensures source { IfErr result (λ e. (e.fault ≡ Fault.Source) × ¬ V.given) }
         ensures usable { self.new.usable ≡ self.old.usable }
-        ensures same { SameSource V.pages V.size V.right V.given (S.pages source.new) (S.size source.new)
-            (S.reads_right source.new) (S.gives_pages source.new) }
+        ensures same { Keeps V.Snapshot S.PageSource source.new }
     {
         self.read(source, page)?;
         let head = if page == 1 { 100 } else { 0 };
@@ -89,23 +87,15 @@ impl<V: Snapshot> Walker<V> {
         tree: &Tree,
         item: Item,
     ) -> Result<(), CheckError>
-        requires empty { self.old.walk.stack.items ≡ [] }
-        requires same { SameSource V.pages V.size V.right V.given (S.pages source.old) (S.size source.old)
-            (S.reads_right source.old) (S.gives_pages source.old) }
-        ensures ok { V.right × V.judged → (late : Bool) (visited rest : List Spot) (s : Spot)
+        requires same { Keeps V.Snapshot S.PageSource source.old }
+        ensures walks { V.right × V.judged → (late : Bool) (visited rest : List Spot) (s : Spot)
             → Visited V.pages late visited (s ∷ rest) self.old.uses self.old.walk → IsItemOf tree.now item s
             → TopLeads V.pages tree.now.root (item ∷ [])
-            → OnOk result (VisitsMore T.saw V.pages late visited rest self.new.uses self.new.walk
-            visitor.old visitor.new) }
-        ensures err { V.right × V.judged → (late : Bool) (visited rest : List Spot) (s : Spot)
-            → Visited V.pages late visited (s ∷ rest) self.old.uses self.old.walk → IsItemOf tree.now item s
-            → TopLeads V.pages tree.now.root (item ∷ [])
-            → IfErr result (λ e. StandsNow V.given V.pages e.fault e.page) }
-        ensures empty { OnOk result (self.new.walk.stack.items ≡ []) }
-        ensures same { SameSource V.pages V.size V.right V.given (S.pages source.new) (S.size source.new)
-            (S.reads_right source.new) (S.gives_pages source.new) }
+            → Walks V.Snapshot T.saw result late visited rest self.new.uses self.new.walk visitor.old visitor.new }
+        ensures same { Keeps V.Snapshot S.PageSource source.new }
     {
         self.walk.leaf_level = None;
+        self.walk.stack.clear();
         push(&mut self.walk.stack, item)?;
         self.walk_on(source, visitor, tree)
     }
@@ -117,17 +107,11 @@ impl<V: Snapshot> Walker<V> {
         visitor: &mut T,
         first: u32,
     ) -> Result<(), CheckError>
-        requires empty { self.old.walk.stack.items ≡ [] }
-        requires same { SameSource V.pages V.size V.right V.given (S.pages source.old) (S.size source.old)
-            (S.reads_right source.old) (S.gives_pages source.old) }
-        ensures ok { V.right × V.judged → first ≡ first_trunk V.pages → IsNew V.pages self.old.uses self.old.walk
-            → OnOk result (VisitsMore T.saw V.pages false [] (first_root_spot ∷ []) self.new.uses self.new.walk
-            visitor.old visitor.new) }
-        ensures err { V.right × V.judged → first ≡ first_trunk V.pages → IsNew V.pages self.old.uses self.old.walk
-            → IfErr result (λ e. StandsNow V.given V.pages e.fault e.page) }
-        ensures empty { OnOk result (self.new.walk.stack.items ≡ []) }
-        ensures same { SameSource V.pages V.size V.right V.given (S.pages source.new) (S.size source.new)
-            (S.reads_right source.new) (S.gives_pages source.new) }
+        requires same { Keeps V.Snapshot S.PageSource source.old }
+        ensures walks { V.right × V.judged → first ≡ first_trunk V.pages → IsNew V.pages self.old.uses self.old.walk
+            → Walks V.Snapshot T.saw result false [] (first_root_spot ∷ []) self.new.uses self.new.walk visitor.old
+            visitor.new }
+        ensures same { Keeps V.Snapshot S.PageSource source.new }
     {
         if first == 0 {
             return Ok(());
@@ -161,19 +145,11 @@ impl<V: Snapshot> Walker<V> {
         source: &mut S,
         visitor: &mut T,
     ) -> Result<(), CheckError>
-        requires empty { self.old.walk.stack.items ≡ [] }
-        requires same { SameSource V.pages V.size V.right V.given (S.pages source.old) (S.size source.old)
-            (S.reads_right source.old) (S.gives_pages source.old) }
-        ensures ok { V.right × V.judged → (visited : List Spot)
+        requires same { Keeps V.Snapshot S.PageSource source.old }
+        ensures walks { V.right × V.judged → (visited : List Spot)
             → Visited V.pages false visited (first_root_spot ∷ []) self.old.uses self.old.walk
-            → OnOk result (VisitsMore T.saw V.pages false visited [] self.new.uses self.new.walk
-            visitor.old visitor.new) }
-        ensures err { V.right × V.judged → (visited : List Spot)
-            → Visited V.pages false visited (first_root_spot ∷ []) self.old.uses self.old.walk
-            → IfErr result (λ e. StandsNow V.given V.pages e.fault e.page) }
-        ensures empty { OnOk result (self.new.walk.stack.items ≡ []) }
-        ensures same { SameSource V.pages V.size V.right V.given (S.pages source.new) (S.size source.new)
-            (S.reads_right source.new) (S.gives_pages source.new) }
+            → Walks V.Snapshot T.saw result false visited [] self.new.uses self.new.walk visitor.old visitor.new }
+        ensures same { Keeps V.Snapshot S.PageSource source.new }
     {
         let item = Item {
             holder: 1,
@@ -190,19 +166,11 @@ impl<V: Snapshot> Walker<V> {
         visitor: &mut T,
         root: Root,
     ) -> Result<(), CheckError>
-        requires empty { self.old.walk.stack.items ≡ [] }
-        requires same { SameSource V.pages V.size V.right V.given (S.pages source.old) (S.size source.old)
-            (S.reads_right source.old) (S.gives_pages source.old) }
-        ensures ok { V.right × V.judged → (visited rest : List Spot) (s : Spot)
+        requires same { Keeps V.Snapshot S.PageSource source.old }
+        ensures walks { V.right × V.judged → (visited rest : List Spot) (s : Spot)
             → Visited V.pages true visited (s ∷ rest) self.old.uses self.old.walk → IsRootAt V.pages root s
-            → OnOk result (VisitsMore T.saw V.pages true visited rest self.new.uses self.new.walk
-            visitor.old visitor.new) }
-        ensures err { V.right × V.judged → (visited rest : List Spot) (s : Spot)
-            → Visited V.pages true visited (s ∷ rest) self.old.uses self.old.walk → IsRootAt V.pages root s
-            → IfErr result (λ e. StandsNow V.given V.pages e.fault e.page) }
-        ensures empty { OnOk result (self.new.walk.stack.items ≡ []) }
-        ensures same { SameSource V.pages V.size V.right V.given (S.pages source.new) (S.size source.new)
-            (S.reads_right source.new) (S.gives_pages source.new) }
+            → Walks V.Snapshot T.saw result true visited rest self.new.uses self.new.walk visitor.old visitor.new }
+        ensures same { Keeps V.Snapshot S.PageSource source.new }
     {
         if root.page == 0 || root.page > u64::from(source.count()) {
             return Err(CheckError {
@@ -232,21 +200,12 @@ impl<V: Snapshot> Walker<V> {
         visitor: &mut T,
         roots: &[Root],
     ) -> Result<(), CheckError>
-        requires empty { self.old.walk.stack.items ≡ [] }
-        requires same { SameSource V.pages V.size V.right V.given (S.pages source.old) (S.size source.old)
-            (S.reads_right source.old) (S.gives_pages source.old) }
-        ensures ok { V.right × V.judged → (visited spots rest : List Spot)
+        requires same { Keeps V.Snapshot S.PageSource source.old }
+        ensures walks { V.right × V.judged → (visited spots rest : List Spot)
             → Visited V.pages true visited (spots ++ rest) self.old.uses self.old.walk
             → RootsMatch V.pages roots.now spots
-            → OnOk result (VisitsMore T.saw V.pages true visited rest self.new.uses self.new.walk
-            visitor.old visitor.new) }
-        ensures err { V.right × V.judged → (visited spots rest : List Spot)
-            → Visited V.pages true visited (spots ++ rest) self.old.uses self.old.walk
-            → RootsMatch V.pages roots.now spots
-            → IfErr result (λ e. StandsNow V.given V.pages e.fault e.page) }
-        ensures empty { OnOk result (self.new.walk.stack.items ≡ []) }
-        ensures same { SameSource V.pages V.size V.right V.given (S.pages source.new) (S.size source.new)
-            (S.reads_right source.new) (S.gives_pages source.new) }
+            → Walks V.Snapshot T.saw result true visited rest self.new.uses self.new.walk visitor.old visitor.new }
+        ensures same { Keeps V.Snapshot S.PageSource source.new }
     {
         'roots: for root in roots {
             self.follow_root(source, visitor, *root)?;
@@ -262,17 +221,10 @@ impl<V: Snapshot> Walker<V> {
         visitor: &mut T,
         header: &DbHeader,
     ) -> Result<(), CheckError>
-        requires empty { self.old.walk.stack.items ≡ [] }
-        requires same { SameSource V.pages V.size V.right V.given (S.pages source.old) (S.size source.old)
-            (S.reads_right source.old) (S.gives_pages source.old) }
-        ensures ok { V.right × V.judged → HasLists header.now V.pages → IsNew V.pages self.old.uses self.old.walk
-            → OnOk result (VisitsMore T.saw V.pages false [] [] self.new.uses self.new.walk
-            visitor.old visitor.new) }
-        ensures err { V.right × V.judged → HasLists header.now V.pages → IsNew V.pages self.old.uses self.old.walk
-            → IfErr result (λ e. StandsNow V.given V.pages e.fault e.page) }
-        ensures empty { OnOk result (self.new.walk.stack.items ≡ []) }
-        ensures same { SameSource V.pages V.size V.right V.given (S.pages source.new) (S.size source.new)
-            (S.reads_right source.new) (S.gives_pages source.new) }
+        requires same { Keeps V.Snapshot S.PageSource source.old }
+        ensures walks { V.right × V.judged → HasLists header.now V.pages → IsNew V.pages self.old.uses self.old.walk
+            → Walks V.Snapshot T.saw result false [] [] self.new.uses self.new.walk visitor.old visitor.new }
+        ensures same { Keeps V.Snapshot S.PageSource source.new }
     {
         self.follow_trunks(source, visitor, header.first_trunk)?;
         self.judge_free_count(header.free_pages)?;
@@ -286,19 +238,11 @@ impl<V: Snapshot> Walker<V> {
         source: &mut S,
         visitor: &mut T,
     ) -> Result<(), CheckError>
-        requires empty { self.old.walk.stack.items ≡ [] }
-        requires same { SameSource V.pages V.size V.right V.given (S.pages source.old) (S.size source.old)
-            (S.reads_right source.old) (S.gives_pages source.old) }
-        ensures ok { V.right × V.judged → Every (λ b. length b ≡ V.size) V.pages → (visited : List Spot)
+        requires same { Keeps V.Snapshot S.PageSource source.old }
+        ensures walks { V.right × V.judged → Every (λ b. length b ≡ V.size) V.pages → (visited : List Spot)
             → Visited V.pages false visited [] self.old.uses self.old.walk
-            → OnOk result (VisitsMore T.saw V.pages true visited [] self.new.uses self.new.walk
-            visitor.old visitor.new) }
-        ensures err { V.right × V.judged → Every (λ b. length b ≡ V.size) V.pages → (visited : List Spot)
-            → Visited V.pages false visited [] self.old.uses self.old.walk
-            → IfErr result (λ e. StandsNow V.given V.pages e.fault e.page) }
-        ensures empty { OnOk result (self.new.walk.stack.items ≡ []) }
-        ensures same { SameSource V.pages V.size V.right V.given (S.pages source.new) (S.size source.new)
-            (S.reads_right source.new) (S.gives_pages source.new) }
+            → Walks V.Snapshot T.saw result true visited [] self.new.uses self.new.walk visitor.old visitor.new }
+        ensures same { Keeps V.Snapshot S.PageSource source.new }
     {
         let roots = roots_in(alloc, source, &mut self.reader, &self.walk.rows)?;
         self.follow_roots(source, visitor, &roots)
@@ -328,7 +272,7 @@ impl<V: Snapshot> Walker<V> {
             header.now.largest_root) }
         ensures err { V.right × V.judged → (visited : List Spot) → HasLists header.now V.pages
             → Visited V.pages true visited [] self.now.uses self.now.walk
-            → IfErr result (λ e. StandsNow V.given V.pages e.fault e.page) }
+            → IfErr result (StandsAt V.Snapshot) }
     {
         judge_unused(&self.uses.marks)?;
         self.judge_free_count(header.free_pages)?;
@@ -360,18 +304,12 @@ impl<V: Snapshot> Walker<V> {
         visitor: &mut T,
         header: &DbHeader,
     ) -> Result<Report, CheckError>
-        requires empty { self.old.walk.stack.items ≡ [] }
-        requires same { SameSource V.pages V.size V.right V.given (S.pages source.old) (S.size source.old)
-            (S.reads_right source.old) (S.gives_pages source.old) }
-        ensures ok { V.right × V.judged → (maps : Bool) → Every (λ b. length b ≡ V.size) V.pages
+        requires same { Keeps V.Snapshot S.PageSource source.old }
+        ensures checks { V.right × V.judged → (maps : Bool) → Every (λ b. length b ≡ V.size) V.pages
             → HasLists header.now V.pages → IsNew V.pages self.old.uses self.old.walk
-            → HasSoundHeader maps V.pages V.size → IfOk result (λ report.
-            (w : WellFormedWith maps V.pages V.size) × IsReport V.pages w.places report × (visits : List Visit) ×
-            Told T.saw visitor.old visits visitor.new × AreRoles V.pages V.size visits) }
-        ensures err { V.right × V.judged → Every (λ b. length b ≡ V.size) V.pages → HasLists header.now V.pages
-            → IsNew V.pages self.old.uses self.old.walk → IfErr result (λ e. StandsNow V.given V.pages e.fault e.page) }
-        ensures same { SameSource V.pages V.size V.right V.given (S.pages source.new) (S.size source.new)
-            (S.reads_right source.new) (S.gives_pages source.new) }
+            → HasSoundHeader maps V.pages V.size
+            → MatchResult result (IsReportOf T.saw maps V.pages V.size visitor.old visitor.new) (StandsAt V.Snapshot) }
+        ensures same { Keeps V.Snapshot S.PageSource source.new }
     {
         self.follow_first(source, visitor, header)?;
         self.follow_others(alloc, source, visitor)?;
@@ -441,7 +379,7 @@ pub(crate) fn new_walker<V: Snapshot>(
 ) -> Result<Walker<V>, AllocError>
     requires { count ≡ length V.pages }
     ensures new { V.right × V.judged → IfOk result (λ w. IsNew V.pages w.uses w.walk) }
-    ensures empty { IfOk result (λ w. (w.walk.stack.items ≡ []) × (w.walk.rows.items ≡ [])) }
+    ensures rows { IfOk result (λ w. w.walk.rows.items ≡ []) }
     ensures none { IfOk result (λ w. AreCounted [] w.uses.counts) }
     ensures barred { V.right → IfOk result (λ w. (p : ℕ) → IsPage V.pages p
         → is_marked w.uses.marks.items p ≡ true → IsAsideWith V.maps V.pages V.size p) }
@@ -488,15 +426,12 @@ fn check_snapshot<V: Snapshot, S: PageSource, T: Visitor>(
 ) -> Result<Report, CheckError>
     requires judged { V.right ↔ V.judged }
     requires maps { V.maps ≡ options.pointer_maps }
-    requires same { (S.pages source.old ≡ V.pages) × (S.size source.old ≡ V.size) ×
-        (V.right → S.reads_right source.old) × (V.given → S.gives_pages source.old) }
-    ensures ok { V.right → IfOk result (λ report.
-        (w : WellFormedWith options.pointer_maps V.pages V.size) × IsReport V.pages w.places report ×
-        (visits : List Visit) × Told T.saw visitor.old visits visitor.new × AreRoles V.pages V.size visits) }
+    requires same { IsSourceOf V.Snapshot S.PageSource source.old }
+    ensures ok { V.right
+        → IfOk result (IsReportOf T.saw options.pointer_maps V.pages V.size visitor.old visitor.new) }
     ensures err { V.right → IfErr result (λ e. UnlessUnread V.given e.fault
         (StandsWith options.pointer_maps V.pages V.size e.fault e.page)) }
-    ensures same { (S.pages source.new ≡ V.pages) × (S.size source.new ≡ V.size) ×
-        (V.right → S.reads_right source.new) × (V.given → S.gives_pages source.new) }
+    ensures same { IsSourceOf V.Snapshot S.PageSource source.new }
 {
     let count = source.count();
     if count == 0 {

@@ -7,7 +7,7 @@ ghost use Rattle.sqpage.specs.Header.{byte};
 ghost use Rattle.sqpage.specs.PointerMaps.{kind_code};
 ghost use Rattle.sqpage.specs.declared.fault.Fault.{Fault};
 ghost use Rattle.sqcheck.specs.internal.Checking.{KnowsMaps};
-ghost use Rattle.sqcheck.specs.internal.Snapshots.{SameSource};
+ghost use Rattle.sqcheck.specs.internal.Snapshots.{Keeps};
 ghost use Rattle.sqcheck.specs.internal.Walking.{kind_of, IsMapped, EntryRefused};
 ghost use Rattle.sqcheck.specs.WellFormed.{IsAutoVacuum, parent_by};
 
@@ -120,12 +120,10 @@ impl<V: Snapshot> Maps<V> {
     /// Reads a map, unless it was read last. Refused by Source where it could not be read.
     fn read<S: PageSource>(&mut self, source: &mut S, map: u32) -> Result<(), CheckError>
         requires page { IsPage V.pages map }
-        requires same { SameSource V.pages V.size V.right V.given (S.pages source.old) (S.size source.old)
-            (S.reads_right source.old) (S.gives_pages source.old) }
+        requires same { Keeps V.Snapshot S.PageSource source.old }
         ensures read { V.right → OnOk result (self.new.bytes.items ≡ page V.pages map) }
         ensures err { IfErr result (λ e. (e.fault ≡ Fault.Source) × ¬ V.given) }
-        ensures same { SameSource V.pages V.size V.right V.given (S.pages source.new) (S.size source.new)
-            (S.reads_right source.new) (S.gives_pages source.new) }
+        ensures same { Keeps V.Snapshot S.PageSource source.new }
     {
         if map == self.held {
             return Ok(());
@@ -140,14 +138,12 @@ impl<V: Snapshot> Maps<V> {
     /// map where it says otherwise, and by Source where that could not be read.
     pub fn judge<S: PageSource>(&mut self, source: &mut S, item: Item) -> Result<(), CheckError>
         requires page { IsPage V.pages item.page }
-        requires same { SameSource V.pages V.size V.right V.given (S.pages source.old) (S.size source.old)
-            (S.reads_right source.old) (S.gives_pages source.old) }
+        requires same { Keeps V.Snapshot S.PageSource source.old }
         ensures ok { V.right × V.judged → OnOk result (IsMapped V.pages item) }
         ensures err { V.right → IfErr result (λ e. e.fault ≢ Fault.Source
             → (self.old.used ≡ true) × EntryRefused V.pages item e.fault e.page) }
         ensures source { IfErr result (λ e. e.fault ≡ Fault.Source → ¬ V.given) }
-        ensures same { SameSource V.pages V.size V.right V.given (S.pages source.new) (S.size source.new)
-            (S.reads_right source.new) (S.gives_pages source.new) }
+        ensures same { Keeps V.Snapshot S.PageSource source.new }
     {
         if !self.used {
             return Ok(());

@@ -6,11 +6,12 @@ ghost use Rattle.sqpage.specs.declared.fault.Fault.{Fault};
 ghost use Rattle.sqpage.specs.declared.kind.Kind.{Kind};
 ghost use Rattle.sqpage.specs.Header.{byte};
 ghost use Rattle.sqpage.specs.Page.{Page, HasPartsOf, IsUsable, code_of, is_interior, is_table, head_at};
-ghost use Rattle.sqcheck.specs.Places.{Node, HasKind, InCell, used_in};
+ghost use Rattle.sqcheck.specs.Places.{Node, HasKind, InCell};
 ghost use Rattle.sqcheck.specs.WellFormed.{IsBefore, IsAtMost, KeysRise, FirstLeaf, first_child};
 ghost use Rattle.sqcheck.specs.internal.Room.{HoldsPage};
 ghost use Rattle.sqcheck.specs.Stands.{HasKeyOutOfOrder, NodeRefusedBy};
-ghost use Rattle.sqcheck.specs.internal.Walking.{node_in, Pushes, IsChild, IsBelow, TopLeads, Judged};
+ghost use Rattle.sqcheck.specs.internal.Walking.{node_of, Pushes, IsChild, IsBelow, IsRead, Judged};
+ghost use Rattle.sqcheck.specs.internal.Walking.{KeepsLead, TopLeads};
 ghost use Rattle.sqcheck.specs.internal.Walking.{KnowsAt, IsPutDown, LevelAt};
 ghost use Rattle.sqcheck.specs.internal.Walking.{Enters, Opens, KeepsWalk};
 ghost use Rattle.sqcheck.specs.declared.tree.Tree.{Tree};
@@ -131,8 +132,7 @@ pub(crate) fn push_chains(
     requires number { number ≡ page.now.number }
     requires parts { HasPartsOf page.now parts.now }
     ensures ok { OnOk result ((tree : Tree) → Pushes tree (InCell page.now) stack.old.items stack.new.items) }
-    ensures leads { OnOk result ((d : Database) (root : ℕ) → TopLeads d root (reverse stack.old.items) → TopLeads d
-        root (reverse stack.new.items)) }
+    ensures leads { OnOk result (KeepsLead stack.old.items stack.new.items) }
     ensures err { IfErr result (λ e. e.fault ≡ Fault.NoMemory) }
 {
     let mut left = page.len();
@@ -169,8 +169,8 @@ pub(crate) fn push_children(
     requires cells { (number ≡ page.now.number) × HasPartsOf page.now parts.now }
     requires interior { is_interior page.now.kind ≡ true }
     requires shallow { bounds.level ≤ 20 }
-    ensures ok { OnOk result ((tree : Tree) → Pushes tree (IsChild page.now
-        (node_in tree bounds.level bounds.low bounds.high)) stack.old.items stack.new.items) }
+    ensures ok { OnOk result ((tree : Tree)
+        → Pushes tree (IsChild page.now (node_of tree bounds)) stack.old.items stack.new.items) }
     ensures leads { OnOk result ((d : Database) (root : ℕ) → ((on : ℕ) → FirstLeaf d (first_child page.now)
         (suc bounds.level) on → FirstLeaf d root 1 on) → TopLeads d root (reverse stack.new.items)) }
     ensures err { IfErr result (λ e. e.fault ≡ Fault.NoMemory) }
@@ -225,11 +225,10 @@ pub(crate) fn judge<'a>(
     requires raw { IsUsable raw.number (length raw.bytes.now) raw.usable }
     requires room { HoldsPage raw.usable room.old }
     ensures ok { IfOk result (λ page. (page.number ≡ raw.entry.number) × (page.used ≡ take raw.entry.usable
-        raw.entry.bytes.now) × Judged page (node_in tree.now bounds.level bounds.low bounds.high) first.old first.new) }
-    ensures err { (d : Database) → used_in d raw.entry.number ≡ take raw.entry.usable raw.entry.bytes.now
-        → IfErr result (λ fault. NodeRefusedBy (IsPutDown first.old tree.now.root) d fault raw.entry.number
-        (node_in tree.now bounds.level bounds.low bounds.high)) }
-    ensures level { (d : Database) → used_in d raw.entry.number ≡ take raw.entry.usable raw.entry.bytes.now
+        raw.entry.bytes.now) × Judged page (node_of tree.now bounds) first.old first.new) }
+    ensures err { (d : Database) → IsRead d raw.entry → IfErr result (λ fault.
+        NodeRefusedBy (IsPutDown first.old tree.now.root) d fault raw.entry.number (node_of tree.now bounds)) }
+    ensures level { (d : Database) → IsRead d raw.entry
         → LevelAt d raw.entry.number bounds.level first.old first.new }
     ensures parts { IfOk result (λ page. HasPartsOf page room.new.parts.items) }
     ensures room { HoldsPage raw.entry.usable room.new }
@@ -288,8 +287,8 @@ fn push_below(
     requires number { number ≡ page.now.number }
     requires parts { HasPartsOf page.now parts.now }
     requires shallow { bounds.level ≤ 20 }
-    ensures ok { OnOk result ((tree : Tree) → Pushes tree (IsBelow page.now
-        (node_in tree bounds.level bounds.low bounds.high)) stack.old.items stack.new.items) }
+    ensures ok { OnOk result ((tree : Tree)
+        → Pushes tree (IsBelow page.now (node_of tree bounds)) stack.old.items stack.new.items) }
     ensures leads { OnOk result ((d : Database) (root : ℕ) → is_interior page.now.kind ≡ true → ((on : ℕ) → FirstLeaf
         d (first_child page.now) (suc bounds.level) on → FirstLeaf d root 1 on) → TopLeads d root (reverse
         stack.new.items)) }
@@ -314,18 +313,17 @@ pub(crate) fn enter(
     requires raw { IsUsable raw.number (length raw.bytes.now) raw.usable }
     requires room { HoldsPage raw.usable room.old }
     requires shallow { bounds.level ≤ 20 }
-    ensures ok { (d : Database) → used_in d raw.entry.number ≡ take raw.entry.usable raw.entry.bytes.now
+    ensures ok { (d : Database) → IsRead d raw.entry
         → KnowsAt d tree.now.root walk.old.leaf_level raw.entry.number bounds.level
-        → IfOk result (λ kind. HasKind d kind raw.entry.number × Enters d tree.now raw.entry.number
-        (node_in tree.now bounds.level bounds.low bounds.high) walk.old walk.new) }
-    ensures behind { (d : Database) → used_in d raw.entry.number ≡ take raw.entry.usable raw.entry.bytes.now
-        → IfOk result (λ kind. HasKind d kind raw.entry.number × Opens d tree.now raw.entry.number
-        (node_in tree.now bounds.level bounds.low bounds.high) walk.old walk.new) }
-    ensures err { (d : Database) → used_in d raw.entry.number ≡ take raw.entry.usable raw.entry.bytes.now
+        → IfOk result (λ kind. HasKind d kind raw.entry.number
+        × Enters d tree.now raw.entry.number (node_of tree.now bounds) walk.old walk.new) }
+    ensures behind { (d : Database) → IsRead d raw.entry
+        → IfOk result (λ kind. HasKind d kind raw.entry.number
+        × Opens d tree.now raw.entry.number (node_of tree.now bounds) walk.old walk.new) }
+    ensures err { (d : Database) → IsRead d raw.entry
         → IfErr result (λ e. ((e.page ≡ raw.entry.number) × NodeRefusedBy (IsPutDown walk.old.leaf_level tree.now.root)
-        d e.fault raw.entry.number (node_in tree.now bounds.level bounds.low bounds.high)) ⊎
-        (e.fault ≡ Fault.NoMemory)) }
-    ensures level { (d : Database) → used_in d raw.entry.number ≡ take raw.entry.usable raw.entry.bytes.now
+        d e.fault raw.entry.number (node_of tree.now bounds)) ⊎ (e.fault ≡ Fault.NoMemory)) }
+    ensures level { (d : Database) → IsRead d raw.entry
         → LevelAt d raw.entry.number bounds.level walk.old.leaf_level walk.new.leaf_level }
     ensures room { HoldsPage raw.entry.usable room.new }
     ensures source { IfErr result (λ e. (e.fault ≢ Fault.Source) × (e.fault ≢ Fault.SchemaRecord)) }

@@ -5,7 +5,7 @@ ghost use Rattle.sqval.specs.Database.{page};
 ghost use Rattle.sqpage.specs.Freelist.{IsPage};
 ghost use Rattle.sqpage.specs.Lists.{Every};
 ghost use Rattle.sqpage.specs.declared.fault.Fault.{Fault};
-ghost use Rattle.sqcheck.specs.internal.Snapshots.{SameSource};
+ghost use Rattle.sqcheck.specs.internal.Snapshots.{Keeps};
 
 use crate::snapshot::Snapshot;
 use byteorder::{BigEndian, ByteOrder};
@@ -19,11 +19,9 @@ pub(crate) fn read_page<V: Snapshot, S: PageSource>(
 ) -> Result<(), CheckError>
     requires page { IsPage V.pages p }
     requires room { length out.old ≡ V.size }
-    requires same { SameSource V.pages V.size V.right V.given (S.pages source.old) (S.size source.old)
-        (S.reads_right source.old) (S.gives_pages source.old) }
+    requires same { Keeps V.Snapshot S.PageSource source.old }
     ensures read { V.right → OnOk result ((out.new ≡ page V.pages p) × Every (λ b. length b ≡ V.size) V.pages) }
-    ensures same { SameSource V.pages V.size V.right V.given (S.pages source.new) (S.size source.new)
-        (S.reads_right source.new) (S.gives_pages source.new) }
+    ensures same { Keeps V.Snapshot S.PageSource source.new }
     ensures err { IfErr result (λ e. (e.page ≡ p) × (e.fault ≡ Fault.Source) × ¬ V.given) }
 {
     source.page(p, out).map_err(|_| CheckError {

@@ -7,11 +7,11 @@ ghost use Rattle.sqpage.specs.Chain.{IsPayload};
 ghost use Rattle.sqpage.specs.declared.fault.Fault.{Fault};
 ghost use Rattle.sqpage.specs.declared.kind.Kind.TheVariants.{TableLeaf};
 ghost use Rattle.sqcheck.specs.Places.{IsRootOf, IsSchemaRow, InRow, page_as};
-ghost use Rattle.sqcheck.specs.internal.Agenda.{StandsNow};
+ghost use Rattle.sqcheck.specs.internal.Checking.{StandsAt};
 ghost use Rattle.sqcheck.specs.internal.Schema.{IsRowsPage, AreSchemaRows, AllSchemaRows, InRowBelow, InRowsOf};
 ghost use Rattle.sqcheck.specs.internal.Schema.{KeepsFound};
-ghost use Rattle.sqcheck.specs.internal.Schema.{HasPayloadWithin};
-ghost use Rattle.sqcheck.specs.internal.Snapshots.{SameSource};
+ghost use Rattle.sqcheck.specs.internal.Schema.{HasPayloadWithin, IsRootBy, IsNoRow, IsRowRefused};
+ghost use Rattle.sqcheck.specs.internal.Snapshots.{Keeps};
 
 use crate::snapshot::Snapshot;
 use crate::walker::Reader;
@@ -60,19 +60,13 @@ pub(crate) fn row_root<V: Snapshot, S: PageSource>(
     content: &mut Vec<u8>,
 ) -> Result<u64, CheckError>
     requires cell { HasPayloadWithin V.size cell.now }
-    requires same { SameSource V.pages V.size V.right V.given (S.pages source.old) (S.size source.old)
-        (S.reads_right source.old) (S.gives_pages source.old) }
-    ensures ok { V.right → IfOk result (λ r. (bytes : List ℕ) × IsPayload V.pages cell.now bytes × IsSchemaRow bytes r ×
-        ((q : ℕ) → IsSchemaRow bytes q → q ≡ r)) }
+    requires same { Keeps V.Snapshot S.PageSource source.old }
+    ensures ok { V.right → IfOk result (IsRootBy V.pages cell.now) }
     ensures err { V.right → (bytes : List ℕ) → IsPayload V.pages cell.now bytes → IfErr result (λ e.
-        e.fault ≢ Fault.Source → (e.fault ≡ Fault.NoMemory) ⊎ ((e.fault ≡ Fault.SchemaRecord)
-        × (e.page ≡ cell.now.page) × (bytes : List ℕ) × IsPayload V.pages cell.now bytes
-        × ((r : ℕ) → ¬ IsSchemaRow bytes r))) }
-    ensures row { V.right → IfErr result (λ e. e.fault ≡ Fault.SchemaRecord → (e.page ≡ cell.now.page)
-        × (bytes : List ℕ) × IsPayload V.pages cell.now bytes × ((r : ℕ) → ¬ IsSchemaRow bytes r)) }
+        e.fault ≢ Fault.Source → (e.fault ≡ Fault.NoMemory) ⊎ IsRowRefused V.pages cell.now e) }
+    ensures row { V.right → IfErr result (λ e. e.fault ≡ Fault.SchemaRecord → IsNoRow V.pages cell.now e) }
     ensures source { IfErr result (λ e. e.fault ≡ Fault.Source → ¬ V.given) }
-    ensures same { SameSource V.pages V.size V.right V.given (S.pages source.new) (S.size source.new)
-        (S.reads_right source.new) (S.gives_pages source.new) }
+    ensures same { Keeps V.Snapshot S.PageSource source.new }
 {
     content.clear();
     payload(alloc, source, cell, content)?;
@@ -121,16 +115,14 @@ fn take_rows<V: Snapshot, S: PageSource>(
 ) -> Result<(), CheckError>
     requires leaf { page.now.kind ≡ TableLeaf }
     requires most { length page.now.used ≤ V.size }
-    requires same { SameSource V.pages V.size V.right V.given (S.pages source.old) (S.size source.old)
-        (S.reads_right source.old) (S.gives_pages source.old) }
+    requires same { Keeps V.Snapshot S.PageSource source.old }
     ensures ok { V.right → page.now ≡ page_as V.pages TableLeaf page.now.number → OnOk result
         (KeepsFound V.pages (InRowBelow V.pages page.now.number (cell_count page.now)) roots.old.items roots.new.items ×
         AreSchemaRows V.pages page.now.number (cell_count page.now)) }
     ensures err { V.right → page.now ≡ page_as V.pages TableLeaf page.now.number
         → IsRowsPage V.pages page.now.number
-        → IfErr result (λ e. StandsNow V.given V.pages e.fault e.page) }
-    ensures same { SameSource V.pages V.size V.right V.given (S.pages source.new) (S.size source.new)
-        (S.reads_right source.new) (S.gives_pages source.new) }
+        → IfErr result (StandsAt V.Snapshot) }
+    ensures same { Keeps V.Snapshot S.PageSource source.new }
 {
     let count = source.count();
     'rows: for i in 0..page.len() {
@@ -151,15 +143,13 @@ fn page_roots<V: Snapshot, S: PageSource>(
     content: &mut Vec<u8>,
     roots: &mut Vec<Root>,
 ) -> Result<(), CheckError>
-    requires same { SameSource V.pages V.size V.right V.given (S.pages source.old) (S.size source.old)
-        (S.reads_right source.old) (S.gives_pages source.old) }
+    requires same { Keeps V.Snapshot S.PageSource source.old }
     ensures ok { V.right → IsRowsPage V.pages number → OnOk result (KeepsFound V.pages (InRow V.pages number)
         roots.old.items roots.new.items × AllSchemaRows V.pages number) }
     ensures err { V.right → IsRowsPage V.pages number
-        → IfErr result (λ e. StandsNow V.given V.pages e.fault e.page) }
+        → IfErr result (StandsAt V.Snapshot) }
     ensures usable { reader.new.usable ≡ reader.old.usable }
-    ensures same { SameSource V.pages V.size V.right V.given (S.pages source.new) (S.size source.new)
-        (S.reads_right source.new) (S.gives_pages source.new) }
+    ensures same { Keeps V.Snapshot S.PageSource source.new }
 {
     if number == 0 || number > source.count() {
         return Err(CheckError {
@@ -192,15 +182,13 @@ pub(crate) fn roots_in<V: Snapshot, S: PageSource>(
     reader: &mut Reader<V>,
     rows: &[u32],
 ) -> Result<Vec<Root>, CheckError>
-    requires same { SameSource V.pages V.size V.right V.given (S.pages source.old) (S.size source.old)
-        (S.reads_right source.old) (S.gives_pages source.old) }
+    requires same { Keeps V.Snapshot S.PageSource source.old }
     ensures ok { V.right → Every (IsRowsPage V.pages) rows.now → Apart rows.now → IfOk result (λ roots. KeepsFound
         V.pages (InRowsOf V.pages rows.now) [] roots.items × Every (AllSchemaRows V.pages) rows.now) }
     ensures err { V.right → Every (IsRowsPage V.pages) rows.now
-        → IfErr result (λ e. StandsNow V.given V.pages e.fault e.page) }
+        → IfErr result (StandsAt V.Snapshot) }
     ensures usable { reader.new.usable ≡ reader.old.usable }
-    ensures same { SameSource V.pages V.size V.right V.given (S.pages source.new) (S.size source.new)
-        (S.reads_right source.new) (S.gives_pages source.new) }
+    ensures same { Keeps V.Snapshot S.PageSource source.new }
 {
     let mut roots = Vec::new(alloc);
     let mut content = Vec::new(alloc);

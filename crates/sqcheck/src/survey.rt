@@ -16,7 +16,7 @@ ghost use Rattle.sqcheck.specs.Surveys.{FindsCleanWith, FindsDamagedWith, Survey
 ghost use Rattle.sqcheck.specs.internal.Charting.{ArePutDown};
 ghost use Rattle.sqcheck.specs.internal.Surveys.{AreSetDown, Ends, IsEnd, IsReserved, KnowsReserved};
 ghost use Rattle.sqcheck.specs.internal.Surveys.{Charts};
-ghost use Rattle.sqcheck.specs.internal.Snapshots.{SameSource};
+ghost use Rattle.sqcheck.specs.internal.Snapshots.{IsSourceOf, Keeps};
 ghost use Rattle.sqcheck.specs.internal.Found.{IsItemFound, HasFound, HasAll};
 ghost use Rattle.sqcheck.specs.internal.Found.{AreFound, ComesNext, Begins, TellsLargest};
 ghost use Rattle.sqcheck.specs.internal.Found.{TellsFound, IsFreeCount, IsHeaderNamed, IsSurveyed, HasNoFree, PutsRole};
@@ -136,14 +136,12 @@ impl<V: Snapshot> Reader<V> {
         table: bool,
     ) -> Result<Kind, CheckError>
         requires page { IsPage V.pages page }
-        requires same { SameSource V.pages V.size V.right V.given (S.pages source.old) (S.size source.old)
-            (S.reads_right source.old) (S.gives_pages source.old) }
+        requires same { Keeps V.Snapshot S.PageSource source.old }
         ensures ok { V.right → IfOk result (λ kind. HasKind V.pages kind page
             ⊎ (((other : Kind) → ¬ HasKind V.pages other page) × (kind ≡ leaf_of table))) }
         ensures source { IfErr result (λ e. (e.fault ≡ Fault.Source) × ¬ V.given) }
         ensures usable { self.new.usable ≡ self.old.usable }
-        ensures same { SameSource V.pages V.size V.right V.given (S.pages source.new) (S.size source.new)
-            (S.reads_right source.new) (S.gives_pages source.new) }
+        ensures same { Keeps V.Snapshot S.PageSource source.new }
     {
         self.read(source, page)?;
         let head = if page == 1 { 100 } else { 0 };
@@ -158,13 +156,11 @@ impl<V: Snapshot> Reader<V> {
         item: Item,
     ) -> Result<Role, CheckError>
         requires page { IsPage V.pages item.page }
-        requires same { SameSource V.pages V.size V.right V.given (S.pages source.old) (S.size source.old)
-            (S.reads_right source.old) (S.gives_pages source.old) }
+        requires same { Keeps V.Snapshot S.PageSource source.old }
         ensures ends { IfErr result (λ e. Ends V.given e.fault) }
         ensures role { V.right → IfOk result (IsRoleIn V.pages item.page (role_of tree.now item.task)) }
         ensures usable { self.new.usable ≡ self.old.usable }
-        ensures same { SameSource V.pages V.size V.right V.given (S.pages source.new) (S.size source.new)
-            (S.reads_right source.new) (S.gives_pages source.new) }
+        ensures same { Keeps V.Snapshot S.PageSource source.new }
     {
         match item.task {
             Task::Trunk => Ok(Role::FreeTrunk),
@@ -191,15 +187,13 @@ impl<V: Snapshot> Maps<V> {
         role: Role,
     ) -> Result<(), CheckError>
         requires page { IsPage V.pages item.page }
-        requires same { SameSource V.pages V.size V.right V.given (S.pages source.old) (S.size source.old)
-            (S.reads_right source.old) (S.gives_pages source.old) }
+        requires same { Keeps V.Snapshot S.PageSource source.old }
         ensures ends { IfErr result (λ e. Ends V.given e.fault) }
         ensures long { length chart.new.roles.items ≡ length chart.old.roles.items }
         ensures put { OnOk result (Charts chart.old.roles.items item.page role chart.new.roles.items) }
         ensures tells { V.right → (tree : Tree) → IsItemFound V.pages tree item → OnOk result
             (TellsFound V.maps V.pages V.size chart.old.faults.items chart.new.faults.items) }
-        ensures same { SameSource V.pages V.size V.right V.given (S.pages source.new) (S.size source.new)
-            (S.reads_right source.new) (S.gives_pages source.new) }
+        ensures same { Keeps V.Snapshot S.PageSource source.new }
     {
         chart.put(item.page, role);
         match self.judge(source, item) {
@@ -219,8 +213,7 @@ impl<V: Snapshot> Walker<V> {
         item: Item,
     ) -> Result<(), CheckError>
         requires page { IsPage V.pages item.page }
-        requires same { SameSource V.pages V.size V.right V.given (S.pages source.old) (S.size source.old)
-            (S.reads_right source.old) (S.gives_pages source.old) }
+        requires same { Keeps V.Snapshot S.PageSource source.old }
         ensures ends { IfErr result (λ e. Ends V.given e.fault) }
         ensures long { length chart.new.roles.items ≡ length chart.old.roles.items }
         ensures put { V.right → OnOk result
@@ -228,8 +221,7 @@ impl<V: Snapshot> Walker<V> {
         ensures tells { V.right → (named : Tree) → IsItemFound V.pages named item → OnOk result
             (TellsFound V.maps V.pages V.size chart.old.faults.items chart.new.faults.items) }
         ensures walk { (self.new.walk ≡ self.old.walk) × (self.new.uses ≡ self.old.uses) }
-        ensures same { SameSource V.pages V.size V.right V.given (S.pages source.new) (S.size source.new)
-            (S.reads_right source.new) (S.gives_pages source.new) }
+        ensures same { Keeps V.Snapshot S.PageSource source.new }
     {
         let role = self.reader.role_named(source, tree, item)?;
         self.maps.put_down(source, chart, item, role)
@@ -243,8 +235,7 @@ impl<V: Snapshot> Walker<V> {
         tree: &Tree,
         item: Item,
     ) -> Result<bool, CheckError>
-        requires same { SameSource V.pages V.size V.right V.given (S.pages source.old) (S.size source.old)
-            (S.reads_right source.old) (S.gives_pages source.old) }
+        requires same { Keeps V.Snapshot S.PageSource source.old }
         ensures ends { IfErr result (λ e. Ends V.given e.fault) }
         ensures long { length chart.new.roles.items ≡ length chart.old.roles.items }
         ensures found { V.right → (first : Chart) (bars : List Bool) (counted late : Bool) (rest : List Spot)
@@ -255,8 +246,7 @@ impl<V: Snapshot> Walker<V> {
         ensures fewer { IfOk result (λ on. on ≡ true
             → count_by not self.new.uses.marks.items < count_by not self.old.uses.marks.items) }
         ensures no_more { count_by not self.new.uses.marks.items ≤ count_by not self.old.uses.marks.items }
-        ensures same { SameSource V.pages V.size V.right V.given (S.pages source.new) (S.size source.new)
-            (S.reads_right source.new) (S.gives_pages source.new) }
+        ensures same { Keeps V.Snapshot S.PageSource source.new }
     {
         let before = self.uses.is_taken(item.page);
         match self.follow(source, tree, item) {
@@ -282,8 +272,7 @@ impl<V: Snapshot> Walker<V> {
         chart: &mut Chart,
         tree: &Tree,
     ) -> Result<bool, CheckError>
-        requires same { SameSource V.pages V.size V.right V.given (S.pages source.old) (S.size source.old)
-            (S.reads_right source.old) (S.gives_pages source.old) }
+        requires same { Keeps V.Snapshot S.PageSource source.old }
         ensures ends { IfErr result (λ e. Ends V.given e.fault) }
         ensures long { length chart.new.roles.items ≡ length chart.old.roles.items }
         ensures found { V.right → (first : Chart) (bars : List Bool) (counted late : Bool) (rest : List Spot)
@@ -293,8 +282,7 @@ impl<V: Snapshot> Walker<V> {
         ensures fewer { IfOk result (λ on. on ≡ true
             → count_by not self.new.uses.marks.items < count_by not self.old.uses.marks.items) }
         ensures all { IfOk result (λ on. on ≡ false → self.new.walk.stack.items ≡ []) }
-        ensures same { SameSource V.pages V.size V.right V.given (S.pages source.new) (S.size source.new)
-            (S.reads_right source.new) (S.gives_pages source.new) }
+        ensures same { Keeps V.Snapshot S.PageSource source.new }
     {
         'places: while let Some(item) = self.walk.stack.pop() {
             if self.step(source, chart, tree, item)? {
@@ -312,8 +300,7 @@ impl<V: Snapshot> Walker<V> {
         tree: &Tree,
         item: Item,
     ) -> Result<(), CheckError>
-        requires same { SameSource V.pages V.size V.right V.given (S.pages source.old) (S.size source.old)
-            (S.reads_right source.old) (S.gives_pages source.old) }
+        requires same { Keeps V.Snapshot S.PageSource source.old }
         ensures ends { IfErr result (λ e. Ends V.given e.fault) }
         ensures long { length chart.new.roles.items ≡ length chart.old.roles.items }
         ensures found { V.right → (first : Chart) (bars : List Bool) (counted late : Bool) (rest : List Spot) (s : Spot)
@@ -321,8 +308,7 @@ impl<V: Snapshot> Walker<V> {
             → HasFound V.maps V.pages V.size first bars counted late (s ∷ rest) self.old.uses self.old.walk chart.old
             → OnOk result (HasFound V.maps V.pages V.size first bars counted late rest self.new.uses self.new.walk
             chart.new) }
-        ensures same { SameSource V.pages V.size V.right V.given (S.pages source.new) (S.size source.new)
-            (S.reads_right source.new) (S.gives_pages source.new) }
+        ensures same { Keeps V.Snapshot S.PageSource source.new }
     {
         self.walk.leaf_level = None;
         self.walk.stack.clear();
@@ -338,16 +324,14 @@ impl<V: Snapshot> Walker<V> {
         chart: &mut Chart,
         first: u32,
     ) -> Result<(), CheckError>
-        requires same { SameSource V.pages V.size V.right V.given (S.pages source.old) (S.size source.old)
-            (S.reads_right source.old) (S.gives_pages source.old) }
+        requires same { Keeps V.Snapshot S.PageSource source.old }
         ensures ends { IfErr result (λ e. Ends V.given e.fault) }
         ensures long { length chart.new.roles.items ≡ length chart.old.roles.items }
         ensures found { V.right → first ≡ first_trunk V.pages
             → Begins V.maps V.pages V.size self.old.uses self.old.walk chart.old
             → OnOk result (HasFound V.maps V.pages V.size chart.old self.old.uses.marks.items false false
             (first_root_spot ∷ []) self.new.uses self.new.walk chart.new) }
-        ensures same { SameSource V.pages V.size V.right V.given (S.pages source.new) (S.size source.new)
-            (S.reads_right source.new) (S.gives_pages source.new) }
+        ensures same { Keeps V.Snapshot S.PageSource source.new }
     {
         if first == 0 {
             return Ok(());
@@ -382,8 +366,7 @@ impl<V: Snapshot> Walker<V> {
         chart: &mut Chart,
         start: &Start,
     ) -> Result<(), CheckError>
-        requires same { SameSource V.pages V.size V.right V.given (S.pages source.old) (S.size source.old)
-            (S.reads_right source.old) (S.gives_pages source.old) }
+        requires same { Keeps V.Snapshot S.PageSource source.old }
         ensures ends { IfErr result (λ e. Ends V.given e.fault) }
         ensures long { length chart.new.roles.items ≡ length chart.old.roles.items }
         ensures found { V.right → start.now.first_trunk ≡ first_trunk V.pages
@@ -391,8 +374,7 @@ impl<V: Snapshot> Walker<V> {
             → Begins V.maps V.pages V.size self.old.uses self.old.walk chart.old
             → OnOk result (HasFound V.maps V.pages V.size chart.old self.old.uses.marks.items true false []
             self.new.uses self.new.walk chart.new) }
-        ensures same { SameSource V.pages V.size V.right V.given (S.pages source.new) (S.size source.new)
-            (S.reads_right source.new) (S.gives_pages source.new) }
+        ensures same { Keeps V.Snapshot S.PageSource source.new }
     {
         self.survey_trunks(source, chart, start.first_trunk)?;
         self.survey_free_count(chart, start.free_pages)?;
@@ -411,8 +393,7 @@ impl<V: Snapshot> Walker<V> {
         chart: &mut Chart,
         root: Root,
     ) -> Result<(), CheckError>
-        requires same { SameSource V.pages V.size V.right V.given (S.pages source.old) (S.size source.old)
-            (S.reads_right source.old) (S.gives_pages source.old) }
+        requires same { Keeps V.Snapshot S.PageSource source.old }
         ensures ends { IfErr result (λ e. Ends V.given e.fault) }
         ensures long { length chart.new.roles.items ≡ length chart.old.roles.items }
         ensures found { V.right → (first : Chart) (bars : List Bool) (rest : List Spot) (s : Spot)
@@ -420,8 +401,7 @@ impl<V: Snapshot> Walker<V> {
             → HasFound V.maps V.pages V.size first bars true true (s ∷ rest) self.old.uses self.old.walk chart.old
             → OnOk result (HasFound V.maps V.pages V.size first bars true true rest self.new.uses self.new.walk
             chart.new) }
-        ensures same { SameSource V.pages V.size V.right V.given (S.pages source.new) (S.size source.new)
-            (S.reads_right source.new) (S.gives_pages source.new) }
+        ensures same { Keeps V.Snapshot S.PageSource source.new }
     {
         if root.page == 0 || root.page > u64::from(source.count()) {
             return chart.tell(CheckError {
@@ -451,8 +431,7 @@ impl<V: Snapshot> Walker<V> {
         chart: &mut Chart,
         roots: &[Root],
     ) -> Result<(), CheckError>
-        requires same { SameSource V.pages V.size V.right V.given (S.pages source.old) (S.size source.old)
-            (S.reads_right source.old) (S.gives_pages source.old) }
+        requires same { Keeps V.Snapshot S.PageSource source.old }
         ensures ends { IfErr result (λ e. Ends V.given e.fault) }
         ensures long { length chart.new.roles.items ≡ length chart.old.roles.items }
         ensures found { V.right → (first : Chart) (bars : List Bool) (spots : List Spot)
@@ -460,8 +439,7 @@ impl<V: Snapshot> Walker<V> {
             → HasFound V.maps V.pages V.size first bars true true spots self.old.uses self.old.walk chart.old
             → OnOk result (HasFound V.maps V.pages V.size first bars true true [] self.new.uses self.new.walk
             chart.new) }
-        ensures same { SameSource V.pages V.size V.right V.given (S.pages source.new) (S.size source.new)
-            (S.reads_right source.new) (S.gives_pages source.new) }
+        ensures same { Keeps V.Snapshot S.PageSource source.new }
     {
         'roots: for root in roots {
             self.survey_root(source, chart, *root)?;
@@ -476,16 +454,14 @@ impl<V: Snapshot> Walker<V> {
         source: &mut S,
         chart: &mut Chart,
     ) -> Result<(), CheckError>
-        requires same { SameSource V.pages V.size V.right V.given (S.pages source.old) (S.size source.old)
-            (S.reads_right source.old) (S.gives_pages source.old) }
+        requires same { Keeps V.Snapshot S.PageSource source.old }
         ensures ends { IfErr result (λ e. Ends V.given e.fault) }
         ensures long { length chart.new.roles.items ≡ length chart.old.roles.items }
         ensures found { V.right → (first : Chart) (bars : List Bool)
             → HasFound V.maps V.pages V.size first bars true false [] self.old.uses self.old.walk chart.old
             → OnOk result (HasFound V.maps V.pages V.size first bars true true [] self.new.uses self.new.walk
             chart.new) }
-        ensures same { SameSource V.pages V.size V.right V.given (S.pages source.new) (S.size source.new)
-            (S.reads_right source.new) (S.gives_pages source.new) }
+        ensures same { Keeps V.Snapshot S.PageSource source.new }
     {
         let roots = sound_roots(alloc, source, &mut self.reader, chart, &self.walk.rows)?;
         self.survey_roots(source, chart, &roots)
@@ -512,8 +488,7 @@ impl<V: Snapshot> Walker<V> {
         chart: &mut Chart,
         start: &Start,
     ) -> Result<(), CheckError>
-        requires same { SameSource V.pages V.size V.right V.given (S.pages source.old) (S.size source.old)
-            (S.reads_right source.old) (S.gives_pages source.old) }
+        requires same { Keeps V.Snapshot S.PageSource source.old }
         ensures ends { IfErr result (λ e. Ends V.given e.fault) }
         ensures long { length chart.new.roles.items ≡ length chart.old.roles.items }
         ensures found { V.right → start.now.first_trunk ≡ first_trunk V.pages
@@ -522,8 +497,7 @@ impl<V: Snapshot> Walker<V> {
             → Begins V.maps V.pages V.size self.old.uses self.old.walk chart.old
             → OnOk result (HasAll V.maps V.pages V.size chart.old self.old.uses.marks.items
             self.new.uses self.new.walk chart.new) }
-        ensures same { SameSource V.pages V.size V.right V.given (S.pages source.new) (S.size source.new)
-            (S.reads_right source.new) (S.gives_pages source.new) }
+        ensures same { Keeps V.Snapshot S.PageSource source.new }
     {
         self.survey_first(source, chart, start)?;
         self.survey_others(alloc, source, chart)?;
@@ -563,16 +537,14 @@ fn survey_snapshot<V: Snapshot, S: PageSource>(
     requires unjudged { ¬ V.judged }
     requires maps { V.maps ≡ options.pointer_maps }
     requires none { chart.old.faults.items ≡ [] }
-    requires same { (S.pages source.old ≡ V.pages) × (S.size source.old ≡ V.size) ×
-        (V.right → S.reads_right source.old) × (V.given → S.gives_pages source.old) }
+    requires same { IsSourceOf V.Snapshot S.PageSource source.old }
     ensures not { V.right → IfOk result (λ walked. walked ≡ false → usable_size V.pages < 480) }
     ensures found { V.right → length chart.old.roles.items ≡ length V.pages
         → HasNoFree V.pages chart.old.roles.items → IfOk result (λ walked. walked ≡ true
         → IsSurveyed V.maps V.pages V.size chart.old.roles.items chart.new.roles.items chart.new.faults.items) }
     ensures ends { IfErr result (λ e. Ends V.given e.fault) }
     ensures long { length chart.new.roles.items ≡ length chart.old.roles.items }
-    ensures same { (S.pages source.new ≡ V.pages) × (S.size source.new ≡ V.size) ×
-        (V.right → S.reads_right source.new) × (V.given → S.gives_pages source.new) }
+    ensures same { IsSourceOf V.Snapshot S.PageSource source.new }
 {
     let count = source.count();
     if count == 0 {

@@ -4,7 +4,7 @@ ghost use Rattle.std.specs.Prelude.{Err, IfOk, IfErr};
 ghost use Rattle.sqpage.specs.declared.fault.Fault.{Fault};
 ghost use Rattle.sqpage.specs.declared.kind.Kind.TheVariants.{TableLeaf};
 ghost use Rattle.sqcheck.specs.internal.Surveys.{Ends, IsEnd};
-ghost use Rattle.sqcheck.specs.internal.Snapshots.{SameSource};
+ghost use Rattle.sqcheck.specs.internal.Snapshots.{Keeps};
 ghost use Rattle.sqcheck.specs.Places.{InRow};
 ghost use Rattle.sqcheck.specs.internal.Schema.{HasPayloadWithin, InRowAt, InRowsOf};
 ghost use Rattle.sqcheck.specs.internal.Found.{AddsRoot, AddsRoots, IsCellFound, IsPageFound, IsLeafFound};
@@ -94,8 +94,7 @@ fn survey_row<V: Snapshot, S: PageSource>(
 ) -> Result<(), CheckError>
     requires cell { HasPayloadWithin V.size cell.now }
     requires room { length rows.old.page.items ≡ V.size }
-    requires same { SameSource V.pages V.size V.right V.given (S.pages source.old) (S.size source.old)
-        (S.reads_right source.old) (S.gives_pages source.old) }
+    requires same { Keeps V.Snapshot S.PageSource source.old }
     ensures ends { IfErr result (λ e. Ends V.given e.fault) }
     ensures roles { chart.new.roles.items ≡ chart.old.roles.items }
     ensures found { V.right → (c : IsCellFound V.pages cell.now) → OnOk result
@@ -103,8 +102,7 @@ fn survey_row<V: Snapshot, S: PageSource>(
     ensures tells { V.right → IsCellFound V.pages cell.now → OnOk result
         (TellsFound V.maps V.pages V.size chart.old.faults.items chart.new.faults.items) }
     ensures room { length rows.new.page.items ≡ V.size }
-    ensures same { SameSource V.pages V.size V.right V.given (S.pages source.new) (S.size source.new)
-        (S.reads_right source.new) (S.gives_pages source.new) }
+    ensures same { Keeps V.Snapshot S.PageSource source.new }
 {
     if !rows
         .chains
@@ -128,8 +126,7 @@ fn survey_cells<V: Snapshot, S: PageSource>(
     requires leaf { page.now.kind ≡ TableLeaf }
     requires most { length page.now.used ≤ V.size }
     requires room { length rows.old.page.items ≡ V.size }
-    requires same { SameSource V.pages V.size V.right V.given (S.pages source.old) (S.size source.old)
-        (S.reads_right source.old) (S.gives_pages source.old) }
+    requires same { Keeps V.Snapshot S.PageSource source.old }
     ensures ends { IfErr result (λ e. Ends V.given e.fault) }
     ensures roles { chart.new.roles.items ≡ chart.old.roles.items }
     ensures found { V.right → IsPageFound V.pages page.now → OnOk result
@@ -137,8 +134,7 @@ fn survey_cells<V: Snapshot, S: PageSource>(
     ensures tells { V.right → IsPageFound V.pages page.now → OnOk result
         (TellsFound V.maps V.pages V.size chart.old.faults.items chart.new.faults.items) }
     ensures room { length rows.new.page.items ≡ V.size }
-    ensures same { SameSource V.pages V.size V.right V.given (S.pages source.new) (S.size source.new)
-        (S.reads_right source.new) (S.gives_pages source.new) }
+    ensures same { Keeps V.Snapshot S.PageSource source.new }
 {
     'rows: for i in 0..page.len() {
         let cell = page.cell(i);
@@ -157,8 +153,7 @@ fn survey_rows<V: Snapshot, S: PageSource>(
     rows: &mut Rows,
 ) -> Result<(), CheckError>
     requires room { length rows.old.page.items ≡ V.size }
-    requires same { SameSource V.pages V.size V.right V.given (S.pages source.old) (S.size source.old)
-        (S.reads_right source.old) (S.gives_pages source.old) }
+    requires same { Keeps V.Snapshot S.PageSource source.old }
     ensures ends { IfErr result (λ e. Ends V.given e.fault) }
     ensures roles { chart.new.roles.items ≡ chart.old.roles.items }
     ensures found { V.right → IsLeafFound V.pages number → OnOk result
@@ -167,8 +162,7 @@ fn survey_rows<V: Snapshot, S: PageSource>(
         (TellsFound V.maps V.pages V.size chart.old.faults.items chart.new.faults.items) }
     ensures usable { reader.new.usable ≡ reader.old.usable }
     ensures room { length rows.new.page.items ≡ V.size }
-    ensures same { SameSource V.pages V.size V.right V.given (S.pages source.new) (S.size source.new)
-        (S.reads_right source.new) (S.gives_pages source.new) }
+    ensures same { Keeps V.Snapshot S.PageSource source.new }
 {
     if number == 0 || number > source.count() {
         return Ok(());
@@ -192,8 +186,7 @@ pub(crate) fn sound_roots<V: Snapshot, S: PageSource>(
     chart: &mut Chart,
     leaves: &[u32],
 ) -> Result<Vec<Root>, CheckError>
-    requires same { SameSource V.pages V.size V.right V.given (S.pages source.old) (S.size source.old)
-        (S.reads_right source.old) (S.gives_pages source.old) }
+    requires same { Keeps V.Snapshot S.PageSource source.old }
     ensures ends { IfErr result (λ e. Ends V.given e.fault) }
     ensures roles { chart.new.roles.items ≡ chart.old.roles.items }
     ensures found { V.right → Every (IsLeafFound V.pages) leaves.now → Apart leaves.now → IfOk result
@@ -201,8 +194,7 @@ pub(crate) fn sound_roots<V: Snapshot, S: PageSource>(
     ensures tells { V.right → Every (IsLeafFound V.pages) leaves.now → OnOk result
         (TellsFound V.maps V.pages V.size chart.old.faults.items chart.new.faults.items) }
     ensures usable { reader.new.usable ≡ reader.old.usable }
-    ensures same { SameSource V.pages V.size V.right V.given (S.pages source.new) (S.size source.new)
-        (S.reads_right source.new) (S.gives_pages source.new) }
+    ensures same { Keeps V.Snapshot S.PageSource source.new }
 {
     let mut rows = match Rows::none(alloc, source.count(), source.page_size()) {
         Ok(rows) => rows,

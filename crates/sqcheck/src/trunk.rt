@@ -1,17 +1,12 @@
 //! Trunks of the freelist, and links of overflow chains (fileformat2, 1.5 and 1.7).
 ghost use Rattle.std.specs.Prelude.{◌≡◌, ◌≢◌, ◌+◌, ◌-◌, ◌*◌, ◌/◌, ◌<◌, ◌≤◌, ◌∷◌, ℕ, Bool, length, reverse, IfErr, OnOk};
 ghost use Rattle.std.specs.Prelude.{OnErr};
-ghost use Rattle.sqval.specs.Database.{Database};
 ghost use Rattle.sqpage.specs.Freelist.{leaf_count_in};
 ghost use Rattle.sqpage.specs.declared.fault.Fault.{Fault};
-ghost use Rattle.sqpage.specs.internal.Taking.{Marks};
-ghost use Rattle.sqcheck.specs.internal.Walking.{Pushes, IsNextTrunk, IsLeafFrom, Follows, Knows};
-ghost use Rattle.sqcheck.specs.internal.Walking.{FollowRefusedBy, IsPutDown};
-ghost use Rattle.sqcheck.specs.internal.Walking.{Passes, KeepsWalk};
-ghost use Rattle.sqcheck.specs.internal.Walking.{TopLeads};
-ghost use Rattle.sqcheck.specs.internal.Counting.{AddsItem};
-ghost use Rattle.sqcheck.specs.internal.Found.{TakesOrNot};
-ghost use Rattle.sqcheck.specs.internal.Snapshots.{SameSource};
+ghost use Rattle.sqcheck.specs.internal.Walking.{Pushes, IsNextTrunk, IsLeafFrom, Follows, KnowsNext};
+ghost use Rattle.sqcheck.specs.internal.Walking.{IsRefusal, KeepsLead, KeepsWalk, Passes};
+ghost use Rattle.sqcheck.specs.internal.Walking.{Takes, TakesOrNot};
+ghost use Rattle.sqcheck.specs.internal.Snapshots.{Keeps};
 ghost use Rattle.sqcheck.specs.declared.item.Task.TheVariants.{Trunk, Link};
 ghost use Rattle.sqcheck.specs.declared.tree.Tree.{Tree};
 
@@ -26,8 +21,7 @@ fn push_next(trunk: u32, bytes: &[u8], stack: &mut Vec<Item>) -> Result<(), Chec
     requires { 8 ≤ length bytes.now }
     ensures ok { OnOk result ((tree : Tree)
         → Pushes tree (IsNextTrunk bytes.now trunk) stack.old.items stack.new.items) }
-    ensures leads { OnOk result ((d : Database) (root : ℕ) → TopLeads d root (reverse stack.old.items) → TopLeads d
-        root (reverse stack.new.items)) }
+    ensures leads { OnOk result (KeepsLead stack.old.items stack.new.items) }
     ensures err { IfErr result (λ e. e.fault ≡ Fault.NoMemory) }
 {
     let next = word_at(bytes, 0);
@@ -49,8 +43,7 @@ fn push_leaves(trunk: u32, bytes: &[u8], stack: &mut Vec<Item>) -> Result<(), Ch
     requires room { 8 + 4 * leaf_count_in bytes.now ≤ length bytes.now }
     ensures ok { OnOk result ((tree : Tree)
         → Pushes tree (IsLeafFrom bytes.now trunk 0) stack.old.items stack.new.items) }
-    ensures leads { OnOk result ((d : Database) (root : ℕ) → TopLeads d root (reverse stack.old.items) → TopLeads d
-        root (reverse stack.new.items)) }
+    ensures leads { OnOk result (KeepsLead stack.old.items stack.new.items) }
     ensures err { IfErr result (λ e. e.fault ≡ Fault.NoMemory) }
 {
     let mut left = word_at(bytes, 4);
@@ -77,24 +70,20 @@ impl<V: Snapshot> Walker<V> {
         item: Item,
     ) -> Result<(), CheckError>
         requires task { item.task ≡ Trunk }
-        requires same { SameSource V.pages V.size V.right V.given (S.pages source.old) (S.size source.old)
-            (S.reads_right source.old) (S.gives_pages source.old) }
+        requires same { Keeps V.Snapshot S.PageSource source.old }
         ensures ok { V.right → OnOk result ((tree : Tree)
-            → Knows V.pages tree.root self.old.walk.leaf_level (item ∷ reverse self.old.walk.stack.items)
+            → KnowsNext V.pages tree item self.old.walk
             → Follows V.pages tree item self.old.uses self.new.uses self.old.walk self.new.walk) }
         ensures behind { V.right → OnOk result ((tree : Tree) → Passes V.pages tree item self.old.walk self.new.walk) }
-        ensures err { V.right → IfErr result (λ e. e.fault ≢ Fault.Source → (tree : Tree)
-            → FollowRefusedBy (IsPutDown self.old.walk.leaf_level) V.pages tree item self.old.uses.marks.items
-            e.fault e.page) }
+        ensures err { V.right → IfErr result (λ e. e.fault ≢ Fault.Source
+            → (tree : Tree) → IsRefusal V.pages tree item self.old.uses self.old.walk e) }
         ensures level { self.new.walk.leaf_level ≡ self.old.walk.leaf_level }
         ensures source { IfErr result (λ e. e.fault ≡ Fault.Source → ¬ V.given) }
-        ensures marks { OnOk result (Marks self.old.uses.marks.items self.new.uses.marks.items item.page) }
+        ensures taken { OnOk result (Takes self.old.uses self.new.uses item) }
         ensures takes { TakesOrNot self.old.uses self.new.uses item }
-        ensures counts { OnOk result (AddsItem self.old.uses.counts self.new.uses.counts item) }
         ensures rows { IfErr result (λ e. e.fault ≢ Fault.SchemaRecord) }
         ensures left { IfErr result (λ e. e.fault ≢ Fault.NoMemory → KeepsWalk self.old.walk self.new.walk) }
-        ensures same { SameSource V.pages V.size V.right V.given (S.pages source.new) (S.size source.new)
-            (S.reads_right source.new) (S.gives_pages source.new) }
+        ensures same { Keeps V.Snapshot S.PageSource source.new }
     {
         self.uses.take(item)?;
         self.reader.read(source, item.page)?;
@@ -120,24 +109,20 @@ impl<V: Snapshot> Walker<V> {
         needed: u64,
     ) -> Result<(), CheckError>
         requires task { (first : Bool) × (item.task ≡ Link owner needed first) }
-        requires same { SameSource V.pages V.size V.right V.given (S.pages source.old) (S.size source.old)
-            (S.reads_right source.old) (S.gives_pages source.old) }
+        requires same { Keeps V.Snapshot S.PageSource source.old }
         ensures ok { V.right → OnOk result ((tree : Tree)
-            → Knows V.pages tree.root self.old.walk.leaf_level (item ∷ reverse self.old.walk.stack.items)
+            → KnowsNext V.pages tree item self.old.walk
             → Follows V.pages tree item self.old.uses self.new.uses self.old.walk self.new.walk) }
         ensures behind { V.right → OnOk result ((tree : Tree) → Passes V.pages tree item self.old.walk self.new.walk) }
-        ensures err { V.right → 0 < needed → IfErr result (λ e. e.fault ≢ Fault.Source → (tree : Tree)
-            → FollowRefusedBy (IsPutDown self.old.walk.leaf_level) V.pages tree item self.old.uses.marks.items
-            e.fault e.page) }
+        ensures err { V.right → 0 < needed → IfErr result (λ e. e.fault ≢ Fault.Source
+            → (tree : Tree) → IsRefusal V.pages tree item self.old.uses self.old.walk e) }
         ensures level { self.new.walk.leaf_level ≡ self.old.walk.leaf_level }
         ensures source { IfErr result (λ e. e.fault ≡ Fault.Source → ¬ V.given) }
-        ensures marks { OnOk result (Marks self.old.uses.marks.items self.new.uses.marks.items item.page) }
+        ensures taken { OnOk result (Takes self.old.uses self.new.uses item) }
         ensures takes { TakesOrNot self.old.uses self.new.uses item }
-        ensures counts { OnOk result (AddsItem self.old.uses.counts self.new.uses.counts item) }
         ensures rows { IfErr result (λ e. e.fault ≢ Fault.SchemaRecord) }
         ensures left { IfErr result (λ e. e.fault ≢ Fault.NoMemory → KeepsWalk self.old.walk self.new.walk) }
-        ensures same { SameSource V.pages V.size V.right V.given (S.pages source.new) (S.size source.new)
-            (S.reads_right source.new) (S.gives_pages source.new) }
+        ensures same { Keeps V.Snapshot S.PageSource source.new }
     {
         if item.page == 0 || needed > u64::from(source.count()) {
             return Err(CheckError {

@@ -4,7 +4,7 @@ ghost use Rattle.sqval.specs.Database.{page};
 ghost use Rattle.sqpage.specs.Freelist.{IsPage, usable_size};
 ghost use Rattle.sqpage.specs.declared.fault.Fault.{Fault};
 ghost use Rattle.sqcheck.specs.internal.Room.{HoldsPage};
-ghost use Rattle.sqcheck.specs.internal.Snapshots.{SameSource};
+ghost use Rattle.sqcheck.specs.internal.Snapshots.{Keeps};
 
 use crate::maps::Maps;
 use crate::node::{Room, Walk};
@@ -30,13 +30,11 @@ impl<V: Snapshot> Reader<V> {
     /// Reads page `p`. Refused by Source where it could not be read.
     pub fn read<S: PageSource>(&mut self, source: &mut S, p: u32) -> Result<(), CheckError>
         requires page { IsPage V.pages p }
-        requires same { SameSource V.pages V.size V.right V.given (S.pages source.old) (S.size source.old)
-            (S.reads_right source.old) (S.gives_pages source.old) }
+        requires same { Keeps V.Snapshot S.PageSource source.old }
         ensures read { V.right → OnOk result (self.new.bytes.items ≡ page V.pages p) }
         ensures err { IfErr result (λ e. (e.fault ≡ Fault.Source) × ¬ V.given) }
         ensures usable { self.new.usable ≡ self.old.usable }
-        ensures same { SameSource V.pages V.size V.right V.given (S.pages source.new) (S.size source.new)
-            (S.reads_right source.new) (S.gives_pages source.new) }
+        ensures same { Keeps V.Snapshot S.PageSource source.new }
     {
         read_page::<V, S>(source, p, &mut self.bytes)
     }

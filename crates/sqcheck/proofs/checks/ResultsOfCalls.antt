@@ -1,5 +1,5 @@
 -- Results of calls.
-use Rattle.sqcheck.proofs.Words.{Bool, Err, IfErr, IfOk, IsErrAnd, Ok, OnOk, Result, false, is_err, subst, sym, true, ◌∙◌, ◌≡◌}
+use Rattle.sqcheck.proofs.Words.{Bool, Err, IfErr, IfOk, IsErrAnd, MatchResult, Ok, OnOk, Result, false, is_err, subst, sym, true, ◌∙◌, ◌≡◌}
 
 pub on_ok : {A E : Type 0} (P Q : Type 0) (r : Result A E) → (P → Q) → OnOk r P → OnOk r Q
 on_ok P Q (Ok x) f h = f h
@@ -31,6 +31,25 @@ if_err P Q (Err e) f h = f e h
 pub exits : {T E : Type 0} (R : E → Type 0) (x : E) (r : Result T E) → IsErrAnd r (λ y. y ≡ x) → R x → IfErr r R
 exits R x (Ok v) h p = absurd h
 exits R x (Err y) h p = subst R (sym h) p
+
+-- The same of a result of which something is said where it is Ok too.
+pub exits_as : {T E : Type 0} (P : T → Type 0) (R : E → Type 0) (x : E) (r : Result T E) → IsErrAnd r (λ y. y ≡ x) → R x → MatchResult r P R
+exits_as P R x (Ok v) h p = absurd h
+exits_as P R x (Err y) h p = subst R (sym h) p
+
+-- Of a result that is Ok more is said, and of an error the same.
+pub on_match : {A E : Type 0} (P Q : Type 0) (R : E → Type 0) (r : Result A E) → (P → Q) → MatchResult r (λ _. P) R → MatchResult r (λ _. Q) R
+on_match P Q R (Ok x) f h = f h
+on_match P Q R (Err e) f h = h
+
+-- what is said of a result where it is Ok, and where it is an error
+pub ok_of : {A E : Type 0} (P : A → Type 0) (R : E → Type 0) (r : Result A E) → MatchResult r P R → IfOk r P
+ok_of P R (Ok x) h = h
+ok_of P R (Err e) h = tt
+
+pub err_of : {A E : Type 0} (P : A → Type 0) (R : E → Type 0) (r : Result A E) → MatchResult r P R → IfErr r R
+err_of P R (Ok x) h = tt
+err_of P R (Err e) h = h
 
 pub both_ok : {A E : Type 0} (P Q : Type 0) (r : Result A E) → OnOk r P → OnOk r Q → OnOk r (P × Q)
 both_ok P Q (Ok x) h k = (h, k)

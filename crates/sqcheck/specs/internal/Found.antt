@@ -10,7 +10,7 @@ use Rattle.sqpage.specs.declared.fault.Fault.TheVariants as faults
 use Rattle.sqpage.specs.Lists.{In, Every, Apart}
 use Rattle.sqpage.specs.Freelist.{IsPage, free_pages}
 use Rattle.sqpage.specs.Page.{Page}
-use Rattle.sqpage.specs.internal.Taking.{Marks, is_marked}
+use Rattle.sqpage.specs.internal.Taking.{is_marked}
 use Rattle.sqcheck.specs.declared.chart.Chart.{Chart}
 use Rattle.sqcheck.specs.declared.item.Item.{Item}
 use Rattle.sqcheck.specs.declared.node.Walk.{Walk}
@@ -27,7 +27,6 @@ use Rattle.sqcheck.specs.Stands.{is_of_header, IsAsideWith}
 use Rattle.sqcheck.specs.WellFormed.{IsAutoVacuum, HasSoundHeader, is_free, numbers}
 use Rattle.sqcheck.specs.internal.Agenda.{AreCounted, NotRoot, NotSchema, Tour}
 use Rattle.sqcheck.specs.internal.Charting.{ArePutDown}
-use Rattle.sqcheck.specs.internal.Counting.{AddsItem}
 use Rattle.sqcheck.specs.internal.Schema.{IsRootAt, RootsMatch}
 use Rattle.sqcheck.specs.internal.Surveys.{Charts, IsEnd}
 use Rattle.sqcheck.specs.internal.Walking.{IsItemOf, Match, IsSchemaLeaf}
@@ -186,11 +185,6 @@ pub record Begins (maps : Bool) (d : Database) (size : ℕ) (uses : Uses) (walk 
   pub rows : walk.rows.items ≡ []
   pub counts : AreCounted [] uses.counts
   pub told : AreToldFound maps d size chart.faults.items
-
--- The page of an item was taken and counted, or nothing was.
-abbrev pub TakesOrNot : (old new : Uses) → Item → Type 0
-TakesOrNot old new it = (Marks old.marks.items new.marks.items it.page × AddsItem old.counts new.counts it)
-    ⊎ ((new.marks.items ≡ old.marks.items) × (new.counts ≡ old.counts))
 
 -- a role that the page has as one of its role is charted
 abbrev pub PutsRole : Database → (p : ℕ) → places.Role → (old new : List Role) → Type 0

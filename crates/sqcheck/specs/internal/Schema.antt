@@ -2,6 +2,8 @@
 use Rattle.std.specs.Prelude.{◌≡◌, ◌≢◌, ℕ, suc, ◌<◌, ◌≤◌, IsSome, List, [], ◌∷◌, ◌++◌, length, map, take, true}
 use Rattle.sqval.specs.Database.{Database}
 use Rattle.sqpage.specs.declared.cell.Cell.{Cell}
+use Rattle.sqpage.specs.declared.fault.CheckError.{CheckError}
+use Rattle.sqpage.specs.declared.fault.Fault.TheVariants.{SchemaRecord}
 use Rattle.sqpage.specs.declared.kind.Kind.TheVariants.{TableLeaf}
 use Rattle.sqpage.specs.Lists.{In, Every, Apart}
 use Rattle.sqpage.specs.Freelist.{IsPage}
@@ -76,6 +78,18 @@ pub record HasPayloadWithin (size : ℕ) (cell : Cell) : Type 0 where
   pub least : 480 ≤ cell.usable
   pub most : cell.usable ≤ size
   pub part : length cell.local.now ≤ payload_size cell
+
+-- the row in a cell names this root, and no other
+abbrev pub IsRootBy : Database → Cell → (r : ℕ) → Type 0
+IsRootBy d cell r = (bytes : List ℕ) × IsPayload d cell bytes × IsSchemaRow bytes r × ((q : ℕ) → IsSchemaRow bytes q → q ≡ r)
+
+-- at the cell's page: what is in the cell is no row of the schema
+abbrev pub IsNoRow : Database → Cell → CheckError → Type 0
+IsNoRow d cell e = (e.page ≡ cell.page) × (bytes : List ℕ) × IsPayload d cell bytes × ((r : ℕ) → ¬ IsSchemaRow bytes r)
+
+-- the same with the fault that says so
+abbrev pub IsRowRefused : Database → Cell → CheckError → Type 0
+IsRowRefused d cell e = (e.fault ≡ SchemaRecord) × (e.page ≡ cell.page) × (bytes : List ℕ) × IsPayload d cell bytes × ((r : ℕ) → ¬ IsSchemaRow bytes r)
 
 -- each row of page p is one of the schema
 abbrev pub AllSchemaRows : Database → (p : ℕ) → Type 0

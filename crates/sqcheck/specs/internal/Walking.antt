@@ -1,7 +1,8 @@
 -- Words of the helper functions that walk over the places (own). No public contract cites them.
-use Rattle.std.specs.Prelude.{◌≡◌, ◌≢◌, ℕ, ◌+◌, ◌<◌, ◌≤◌, ◌⊎◌, ◌==◌, if◌then◌else◌, Bool, true, false, List, [], ◌∷◌, ◌++◌, length, map, reverse, Option, Some, None, ℤ}
+use Rattle.std.specs.Prelude.{◌≡◌, ◌≢◌, ℕ, ◌+◌, ◌<◌, ◌≤◌, ◌⊎◌, ◌==◌, if◌then◌else◌, Bool, true, false, List, [], ◌∷◌, ◌++◌, length, map, reverse, take, Option, Some, None, ℤ}
 use Rattle.sqval.specs.Bytes.{word}
 use Rattle.sqval.specs.Database.{Database, page}
+use Rattle.sqpage.specs.declared.fault.CheckError.{CheckError}
 use Rattle.sqpage.specs.declared.fault.Fault.{Fault}
 use Rattle.sqpage.specs.declared.fault.Fault.TheVariants as faults
 use Rattle.sqpage.specs.declared.kind.Kind.{Kind}
@@ -21,17 +22,29 @@ use Rattle.sqcheck.specs.declared.item.Item.{Item}
 use Rattle.sqcheck.specs.declared.item.Task.{Task}
 use Rattle.sqcheck.specs.declared.item.Task.TheVariants.{Trunk, Leaf, Link, Node}
 use Rattle.sqcheck.specs.declared.tree.Tree.{Tree}
+use Rattle.sqcheck.specs.declared.node.Bounds.{Bounds}
+use Rattle.sqcheck.specs.declared.node.RawPage.{RawPage}
 use Rattle.sqcheck.specs.declared.node.Walk.{Walk}
+use Rattle.sqcheck.specs.declared.role.Role as roles
 use Rattle.sqcheck.specs.declared.uses.Uses.{Uses}
 use Rattle.sqcheck.specs.internal.Counting.{AddsItem}
-use Rattle.sqcheck.specs.Places.{Place, holder, Role, trunk, free_leaf, link, node, Spot, page_as, HasKind, InPageAs, InNode, InCell, IsLeftChild, IsRightChild, IsCellAt, spot, overflow, next, leaf}
+use Rattle.sqcheck.specs.Places.{Place, holder, Role, trunk, free_leaf, link, node, Spot, page_as, HasKind, used_in, InPageAs, InNode, InCell, IsLeftChild, IsRightChild, IsCellAt, spot, overflow, next, leaf}
 use Rattle.sqcheck.specs.Places as places
 use Rattle.sqcheck.specs.WellFormed.{IsAutoVacuum, IsSoundAs, IsSoundWith, IsSoundPage, IsSoundNode, KeysRise, FirstLeaf, kind_named, parent_by}
+use Rattle.sqcheck.specs.Roles.{IsRoleOf}
 use Rattle.sqcheck.specs.Stands.{PageWrongBy}
 
 -- a page of the tree, on this level and with these bounds
 abbrev pub node_in : Tree → (level : ℕ) (low high : Option ℤ) → places.Node
 node_in tree level low high = record { tree = tree.root; table = tree.table; schema = tree.schema; level = level; low = low; high = high }
+
+-- the same with what is known of it
+abbrev pub node_of : Tree → Bounds → places.Node
+node_of tree bounds = node_in tree bounds.level bounds.low bounds.high
+
+-- the page was read of a database
+abbrev pub IsRead : Database → RawPage → Type 0
+IsRead d raw = used_in d raw.number ≡ take raw.usable raw.bytes.now
 
 -- what an item's page is named as
 abbrev pub role_of : Tree → Task → Role
@@ -39,6 +52,10 @@ role_of tree Trunk = trunk
 role_of tree Leaf = free_leaf
 role_of tree (Link owner needed first) = link owner needed
 role_of tree (Node level low high) = node (node_in tree level low high)
+
+-- the role of an item's page
+abbrev pub IsRoleBy : Database → Tree → Item → roles.Role → Type 0
+IsRoleBy d tree it role = IsRoleOf d it.page (role_of tree it.task) role
 
 -- a link is the first of one page or more
 abbrev pub IsProper : Task → Type 0
@@ -97,6 +114,10 @@ abbrev pub TopLeads : Database → (root : ℕ) → List Item → Type 0
 TopLeads d root [] = Unit {0}
 TopLeads d root (it ∷ its) = LeadsOn d root it.page it.task (TopLeads d root its)
 
+-- If it did, it does still.
+abbrev pub KeepsLead : (old new : List Item) → Type 0
+KeepsLead old new = (d : Database) (root : ℕ) → TopLeads d root (reverse old) → TopLeads d root (reverse new)
+
 -- The level of the first leaf where it is known; and where it isn't, the next page leads to it.
 abbrev pub IsLevelOf : Database → (root : ℕ) → (known : Option ℕ) → Type 0
 IsLevelOf d root known = (on : ℕ) → known ≡ Some on → FirstLeaf d root 1 on
@@ -116,6 +137,14 @@ IsNextTrunk b p t = (next_in b ≢ 0) × (t ≡ spot (next p) (next_in b) trunk)
 
 abbrev pub IsLeafFrom : List ℕ → (p from : ℕ) → Spot → Type 0
 IsLeafFrom b p from t = (i : ℕ) × (from ≤ i) × (i < leaf_count_in b) × (t ≡ spot (leaf p i) (leaf_in b i) free_leaf)
+
+-- The page of an item was taken and counted.
+abbrev pub Takes : (old new : Uses) → Item → Type 0
+Takes old new it = Marks old.marks.items new.marks.items it.page × AddsItem old.counts new.counts it
+
+-- It was, or nothing was.
+abbrev pub TakesOrNot : (old new : Uses) → Item → Type 0
+TakesOrNot old new it = Takes old new it ⊎ ((new.marks.items ≡ old.marks.items) × (new.counts ≡ old.counts))
 
 -- An item was followed: its page is marked and as its role wants it, and the places in it are on the stack.
 pub record Visits (d : Database) (tree : Tree) (it : Item) (marks new_marks : List Bool) (old new : List Item) : Type 0 where
@@ -154,6 +183,14 @@ FollowRefused d = FollowRefusedBy (IsFirstLevel d) d
 abbrev pub IsPutDown : (level : Option ℕ) → (tree on : ℕ) → Type 0
 IsPutDown level tree on = level ≡ Some on
 
+-- the same of a fault, where the level of leaves is the one that was put down
+abbrev pub IsRefusal : Database → Tree → Item → Uses → Walk → CheckError → Type 0
+IsRefusal d tree it uses walk e = FollowRefusedBy (IsPutDown walk.leaf_level) d tree it uses.marks.items e.fault e.page
+
+-- it is so, unless a page couldn't be read
+abbrev pub IsRefused : Database → Tree → Item → Uses → Walk → CheckError → Type 0
+IsRefused d tree it uses walk e = e.fault ≢ faults.Source → IsRefusal d tree it uses walk e
+
 -- The level of a tree's leaves is what it was, or that of page p, which is one of them.
 abbrev pub LevelAt : Database → (p level : ℕ) → (old new : Option ℕ) → Type 0
 LevelAt d p level old new = (new ≡ old) ⊎ ((kind : Kind) × HasKind d kind p × (is_interior kind ≡ false) × (new ≡ Some level))
@@ -182,6 +219,10 @@ pub record Passes (d : Database) (tree : Tree) (it : Item) (old new : Walk) : Ty
 pub record Knows (d : Database) (root : ℕ) (known : Option ℕ) (stack : List Item) : Type 0 where
   pub level : IsLevelOf d root known
   pub leads : known ≡ None → TopLeads d root stack
+
+-- the same where this item comes next
+abbrev pub KnowsNext : Database → Tree → Item → Walk → Type 0
+KnowsNext d tree it walk = Knows d tree.root walk.leaf_level (it ∷ reverse walk.stack.items)
 
 -- A page of a tree was entered: it is sound, what stands in it is on the stack, and its rows are put aside.
 pub record Enters (d : Database) (tree : Tree) (p : ℕ) (x : places.Node) (old new : Walk) : Type 0 where

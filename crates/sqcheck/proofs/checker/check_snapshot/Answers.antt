@@ -1,4 +1,4 @@
-use Rattle.sqcheck.proofs.Between.{Database, HasHeaderOf, HeaderFault, IsPageSize, List, StandsWith, UnlessUnread, ap, exits, first_sized, header_sound, header_stands, if_err, knows_maps, least_page_size, length, maps_all, maps_used, no_magic, page, page_stands, refl, stands_read, subst, sym, with_items_is, ℕ, ◌∙◌, ◌≡◌}
+use Rattle.sqcheck.proofs.Between.{Database, HasHeaderOf, HeaderFault, IsPageSize, IsReportOf, List, StandsWith, StandsAt, UnlessUnread, ap, err_of, exits, first_sized, header_sound, header_stands, if_err, knows_maps, least_page_size, length, maps_all, maps_used, no_magic, ok_of, page, page_stands, refl, stands_read, subst, sym, with_items_is, ℕ, ◌∙◌, ◌≡◌}
 use Rattle.sqpage.specs.declared.fault.Fault.TheVariants as faults
 use Rattle.sqcheck.proofs.checker.check_snapshot.Goals as goal
 
@@ -27,8 +27,8 @@ returns-in-Ok-new_walker-clause-ok g c = λ right.
     let hd = subst (λ (l : List ℕ). HasHeaderOf c.args.options.pointer_maps c.in_ok-header.header c.page_size-size.result l) first c.in_ok-header.ensures.ok in
     let size = c.page_size-size.ensures ∙ c.requires.same.1 in
     let long = first_sized d g.V.Snapshot.size c.count-count.result (c.count-count.ensures ∙ ap (λ (q : Database). length q) c.requires.same.0) c.if-count-eq0.false read.1 in
-    c.check_pages.ensures.ok both c.args.options.pointer_maps read.1 (record { first = hd.first_trunk; said = hd.free_pages; largest = hd.largest_root }) (c.in-Ok-new_walker.ensures.new both)
-    (header_sound c.args.options.pointer_maps d c.in_ok-header.header c.page_size-size.result g.V.Snapshot.size size hd)
+    ok_of _ (StandsAt g.V.Snapshot) c.check_pages.result (c.check_pages.ensures.checks both c.args.options.pointer_maps read.1 (record { first = hd.first_trunk; said = hd.free_pages; largest = hd.largest_root }) (c.in-Ok-new_walker.ensures.new both)
+    (header_sound c.args.options.pointer_maps d c.in_ok-header.header c.page_size-size.result g.V.Snapshot.size size hd))
 
 pub returns-in-Ok-new_walker-clause-err : goal.returns-in-Ok-new_walker-clause-err
 returns-in-Ok-new_walker-clause-err g c = λ right.
@@ -41,7 +41,8 @@ returns-in-Ok-new_walker-clause-err g c = λ right.
     let long = first_sized d g.V.Snapshot.size c.count-count.result (c.count-count.ensures ∙ ap (λ (q : Database). length q) c.requires.same.0) c.if-count-eq0.false read.1 in
     let sound = header_sound c.args.options.pointer_maps d c.in_ok-header.header c.page_size-size.result g.V.Snapshot.size size hd in
     if_err _ (λ e. UnlessUnread g.V.Snapshot.given e.fault (StandsWith c.args.options.pointer_maps d g.V.Snapshot.size e.fault e.page)) c.check_pages.result (λ e h. page_stands g.V.Snapshot.given c.args.options.pointer_maps d g.V.Snapshot.size e.fault e.page long sound h)
-    (c.check_pages.ensures.err both read.1 (record { first = hd.first_trunk; said = hd.free_pages; largest = hd.largest_root }) (c.in-Ok-new_walker.ensures.new both))
+    (err_of (IsReportOf g.T.Visitor.saw c.args.options.pointer_maps d g.V.Snapshot.size c.args.visitor.now c.check_pages.new.visitor) _ c.check_pages.result
+    (c.check_pages.ensures.checks both c.args.options.pointer_maps read.1 (record { first = hd.first_trunk; said = hd.free_pages; largest = hd.largest_root }) (c.in-Ok-new_walker.ensures.new both) sound))
 
 pub new-requires-clause-known : goal.new-requires-clause-known
 new-requires-clause-known g c = λ right.

@@ -37,7 +37,7 @@ returns-clause-found g c = λ right long none is.
       sized = walker.marks;
       barred = c.in-Ok-new_walker.ensures.barred right;
       long = ap (λ (l : List Role). length l) same ∙ long;
-      rows = c.in-Ok-new_walker.ensures.empty.1;
+      rows = c.in-Ok-new_walker.ensures.rows;
       counts = c.in-Ok-new_walker.ensures.none;
       told = told;
     } in

@@ -1,4 +1,4 @@
-use Rattle.sqcheck.proofs.Words.{AddsRoots, Apart, Every, InRowsOf, IsLeafFound, SameSource, TellsFound, [], length, take, ◌≡◌}
+use Rattle.sqcheck.proofs.Words.{AddsRoots, Apart, Every, InRowsOf, IsLeafFound, Keeps, TellsFound, [], length, take, ◌≡◌}
 use Rattle.sqcheck.proofs.survey_rows.sound_roots.Given as goal
 
 abbrev pub invariant-pages : goal.invariant-pages
@@ -8,5 +8,5 @@ invariant-pages g l = record {
   tells : g.V.Snapshot.right → Every (IsLeafFound g.V.Snapshot.pages) l.leaves → TellsFound g.V.Snapshot.maps g.V.Snapshot.pages g.V.Snapshot.size l.fn.chart.faults.items l.chart.faults.items;
   usable : l.reader.usable ≡ l.fn.reader.usable;
   room : length l.rows.page.items ≡ g.V.Snapshot.size;
-  same : SameSource g.V.Snapshot.pages g.V.Snapshot.size g.V.Snapshot.right g.V.Snapshot.given (g.S.PageSource.pages l.source) (g.S.PageSource.size l.source) (g.S.PageSource.reads_right l.source) (g.S.PageSource.gives_pages l.source);
+  same : Keeps g.V.Snapshot g.S.PageSource l.source;
 }

@@ -1,4 +1,4 @@
-use Rattle.sqcheck.proofs.Words.{AreFound, Bool, Chart, List, SameSource, Spot, count_by, length, not, vec_len, ◌≡◌, ◌≤◌}
+use Rattle.sqcheck.proofs.Words.{AreFound, Bool, Chart, List, Keeps, Spot, count_by, length, not, vec_len, ◌≡◌, ◌≤◌}
 use Rattle.sqcheck.proofs.walker.Walker.advance.Given as goal
 
 abbrev pub invariant-places : goal.invariant-places
@@ -8,7 +8,7 @@ invariant-places g l = record {
       → AreFound g.V.Snapshot.maps g.V.Snapshot.pages g.V.Snapshot.size first bars counted late rest l.tree l.fn.self.uses l.fn.self.walk l.fn.chart
       → AreFound g.V.Snapshot.maps g.V.Snapshot.pages g.V.Snapshot.size first bars counted late rest l.tree l.self.uses l.self.walk l.chart;
   fewer : count_by not l.self.uses.marks.items ≤ count_by not l.fn.self.uses.marks.items;
-  same : SameSource g.V.Snapshot.pages g.V.Snapshot.size g.V.Snapshot.right g.V.Snapshot.given (g.S.PageSource.pages l.source) (g.S.PageSource.size l.source) (g.S.PageSource.reads_right l.source) (g.S.PageSource.gives_pages l.source);
+  same : Keeps g.V.Snapshot g.S.PageSource l.source;
 }
 
 abbrev pub decreases-places : goal.decreases-places

@@ -1,4 +1,4 @@
-use Rattle.sqcheck.proofs.Facts.{AllSchemaRows, Apart, Database, Every, Finds, InRowsOf, IsRowsPage, KeepsFound, List, Root, RootsMatch, Spot, StandsNow, Uses, Visited, Walk, [], ap, arith, becomes_late, drop, exits, false, first_roots, is_long, length, none_left, on_ok, refl, rows_pages, subst, suc, sym, take, take-append-drop, true, usable_size, ℕ, ◌++◌, ◌∙◌, ◌≡◌, ◌≤◌}
+use Rattle.sqcheck.proofs.Facts.{AllSchemaRows, Apart, Database, Every, Finds, InRowsOf, IsRowsPage, KeepsFound, List, Root, RootsMatch, Spot, StandsAt, Uses, Visited, Walk, [], ap, arith, becomes_late, drop, exits_as, false, first_roots, is_long, length, none_left, on_match, refl, rows_pages, subst, suc, sym, take, take-append-drop, true, usable_size, ℕ, ◌++◌, ◌∙◌, ◌≡◌, ◌≤◌}
 use Rattle.sqcheck.proofs.walker.Walker.follow_others.Goals as goal
 
 -- The roots that were kept, and those that weren't.
@@ -26,31 +26,22 @@ pages_of d size usable visited uses walk rows e used least most sized w =
     let least' : 480 ≤ usable_size d = omega (arith, used, least) in
     subst (Every (IsRowsPage d)) (sym e) (rows_pages d uses.marks.items visited walk.rows.items uses.counts least' (is_long d size (usable_size d) (omega (arith, used, most)) sized) w)
 
-pub returns-in_err-roots-clause-err : goal.returns-in_err-roots-clause-err
-returns-in_err-roots-clause-err g c = λ right sized visited w.
+pub returns-in_err-roots-clause-walks : goal.returns-in_err-roots-clause-walks
+returns-in_err-roots-clause-walks g c = λ right sized visited w.
     let d = g.V.Snapshot.pages in
     let s = c.args.self.now in
     let e = c.in_err-roots.field-0.0 in
-    exits (λ e. StandsNow g.V.Snapshot.given d e.fault e.page) e c.from_residual.result c.from_residual.ensures.1
+    exits_as _ (StandsAt g.V.Snapshot) e c.from_residual.result c.from_residual.ensures.1
     (c.in_err-roots.ensures.err right.0 (pages_of d g.V.Snapshot.size s.reader.usable visited s.uses s.walk c.deref.result.now c.deref.ensures.value (s.reader.used right.0) s.reader.least s.reader.most sized w))
 
-pub returns-clause-ok : goal.returns-clause-ok
-returns-clause-ok g c = λ right sized visited w.
+pub returns-clause-walks : goal.returns-clause-walks
+returns-clause-walks g c = λ right sized visited w.
     let d = g.V.Snapshot.pages in
     let s = c.args.self.now in
     let n : ℕ = suc (length d) in
     let pages = pages_of d g.V.Snapshot.size s.reader.usable visited s.uses s.walk c.deref.result.now c.deref.ensures.value (s.reader.used right.0) s.reader.least s.reader.most sized w in
     let k = kept_of d visited s.uses s.walk c.deref.result.now _ c.deref.ensures.value w (c.in_ok-roots.ensures.ok right.0 pages (subst Apart (sym c.deref.ensures.value) w.rows.distinct)) in
     let f = c.follow_roots.new.self in
-    on_ok _ _ c.follow_roots.result
+    on_match _ _ _ c.follow_roots.result
     (λ done. (done.0, none_left d s.uses.marks.items f.uses.marks.items visited (visited ++ done.0) s.walk.rows.items f.walk.rows.items s.uses.counts f.uses.counts k.all w k.found done.1, done.2))
-    (c.follow_roots.ensures.ok right visited (take n k.found.spots) (drop n k.found.spots) k.parts (subst (λ l. RootsMatch d l (take n k.found.spots)) (sym c.deref-2.ensures.value) k.match))
-
-pub returns-clause-err : goal.returns-clause-err
-returns-clause-err g c = λ right sized visited w.
-    let d = g.V.Snapshot.pages in
-    let s = c.args.self.now in
-    let n : ℕ = suc (length d) in
-    let pages = pages_of d g.V.Snapshot.size s.reader.usable visited s.uses s.walk c.deref.result.now c.deref.ensures.value (s.reader.used right.0) s.reader.least s.reader.most sized w in
-    let k = kept_of d visited s.uses s.walk c.deref.result.now _ c.deref.ensures.value w (c.in_ok-roots.ensures.ok right.0 pages (subst Apart (sym c.deref.ensures.value) w.rows.distinct)) in
-    c.follow_roots.ensures.err right visited (take n k.found.spots) (drop n k.found.spots) k.parts (subst (λ l. RootsMatch d l (take n k.found.spots)) (sym c.deref-2.ensures.value) k.match)
+    (c.follow_roots.ensures.walks right visited (take n k.found.spots) (drop n k.found.spots) k.parts (subst (λ l. RootsMatch d l (take n k.found.spots)) (sym c.deref-2.ensures.value) k.match))

@@ -1,4 +1,4 @@
-use Rattle.sqcheck.proofs.Below.{Bool, Database, IsItemOf, IsRootAt, None, Root, Spot, StandsNow, ap, exits, false, kind_named, names_table, node, root_of_tree, sym, true, ◌∙◌, ◌≡◌}
+use Rattle.sqcheck.proofs.Below.{Bool, Database, IsItemOf, IsRootAt, None, Root, Spot, StandsAt, ap, exits_as, false, kind_named, names_table, node, root_of_tree, sym, true, ◌∙◌, ◌≡◌}
 use Rattle.sqcheck.specs.declared.item.Task.TheVariants as tasks
 use Rattle.sqcheck.proofs.walker.Walker.follow_root.Goals as goal
 
@@ -13,16 +13,12 @@ item_of d root s table is e = record {
   kind = sym (ap (kind_named s.place) is.role);
 }
 
-pub returns-clause-ok : goal.returns-clause-ok
-returns-clause-ok g c = λ right visited rest s w is.
-    c.follow_from.ensures.ok right true visited rest s w (item_of g.V.Snapshot.pages c.args.root s c.in_ok-table.table is (c.in_ok-table.ensures.ok right.0)) (λ on f. f)
+pub returns-clause-walks : goal.returns-clause-walks
+returns-clause-walks g c = λ right visited rest s w is.
+    c.follow_from.ensures.walks right true visited rest s w (item_of g.V.Snapshot.pages c.args.root s c.in_ok-table.table is (c.in_ok-table.ensures.ok right.0)) (λ on f. f)
 
-pub returns-clause-err : goal.returns-clause-err
-returns-clause-err g c = λ right visited rest s w is.
-    c.follow_from.ensures.err right true visited rest s w (item_of g.V.Snapshot.pages c.args.root s c.in_ok-table.table is (c.in_ok-table.ensures.ok right.0)) (λ on f. f)
-
-pub returns-in_err-table-clause-err : goal.returns-in_err-table-clause-err
-returns-in_err-table-clause-err g c = λ right visited rest s w is.
+pub returns-in_err-table-clause-walks : goal.returns-in_err-table-clause-walks
+returns-in_err-table-clause-walks g c = λ right visited rest s w is.
     let h = c.in_err-table.ensures.source in
-    exits (λ e. StandsNow g.V.Snapshot.given g.V.Snapshot.pages e.fault e.page) c.in_err-table.field-0.0 c.from_residual.result c.from_residual.ensures.1
+    exits_as _ (StandsAt g.V.Snapshot) c.in_err-table.field-0.0 c.from_residual.result c.from_residual.ensures.1
     (λ unread. h.1, λ read. absurd (read h.0))

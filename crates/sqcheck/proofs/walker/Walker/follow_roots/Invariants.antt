@@ -1,4 +1,4 @@
-use Rattle.sqcheck.proofs.Words.{List, RootsMatch, SameSource, Spot, TellsOf, Visited, [], drop, true, ◌++◌, ◌≡◌}
+use Rattle.sqcheck.proofs.Words.{List, RootsMatch, Keeps, Spot, TellsOf, Visited, drop, true, ◌++◌, ◌≡◌}
 use Rattle.sqcheck.proofs.walker.Walker.follow_roots.Given as goal
 
 abbrev pub invariant-roots : goal.invariant-roots
@@ -7,6 +7,5 @@ invariant-roots g l =
     record {
       walks : g.V.Snapshot.right × g.V.Snapshot.judged → (visited spots rest : List Spot) → Visited d true visited (spots ++ rest) l.fn.self.uses l.fn.self.walk → RootsMatch d l.roots spots
           → (more left : List Spot) × Visited d true (visited ++ more) (left ++ rest) l.self.uses l.self.walk × RootsMatch d (drop l.root-index l.roots) left × TellsOf g.T.Visitor.saw d l.fn.visitor more l.visitor;
-      empty : l.self.walk.stack.items ≡ [];
-      same : SameSource d g.V.Snapshot.size g.V.Snapshot.right g.V.Snapshot.given (g.S.PageSource.pages l.source) (g.S.PageSource.size l.source) (g.S.PageSource.reads_right l.source) (g.S.PageSource.gives_pages l.source);
+      same : Keeps g.V.Snapshot g.S.PageSource l.source;
     }

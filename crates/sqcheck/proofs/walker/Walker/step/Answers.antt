@@ -9,7 +9,7 @@ returns-in_ok-put_down-in-Ok-clause-found g c = λ right first bars counted late
     let h = c.in-Ok.ensures in
     let passed = h.behind right n.is.proper in
     step_on g.V.Snapshot.maps g.V.Snapshot.pages g.V.Snapshot.size first bars counted late rest c.args.tree.now c.args.item c.args.self.now.uses c.args.self.now.walk c.args.chart.now n c.follow.new.self.uses c.follow.new.self.walk c.put_down.new.chart c.in-Ok.role
-    h.marks h.counts passed.0 passed.1 (h.level right) c.in_ok-put_down-in-Ok.ensures.put (c.in_ok-put_down-in-Ok.ensures.tells right c.args.tree.now (n.spot, n.mapped.tour.waiting.0, n.is))
+    h.taken.0 h.taken.1 passed.0 passed.1 (h.level right) c.in_ok-put_down-in-Ok.ensures.put (c.in_ok-put_down-in-Ok.ensures.tells right c.args.tree.now (n.spot, n.mapped.tour.waiting.0, n.is))
 
 pub returns-in_ok-put_refused-in-Err-clause-found : goal.returns-in_ok-put_refused-in-Err-clause-found
 returns-in_ok-put_refused-in-Err-clause-found g c = λ right first bars counted late rest n.

@@ -1,4 +1,4 @@
-use Rattle.sqcheck.proofs.Words.{AreFound, Bool, Chart, HasFound, IsItemOf, List, SameSource, Spot, count_by, length, not, ◌∷◌, ◌≡◌}
+use Rattle.sqcheck.proofs.Words.{AreFound, Bool, Chart, HasFound, IsItemOf, List, Keeps, Spot, count_by, length, not, ◌∷◌, ◌≡◌}
 use Rattle.sqcheck.proofs.walker.Walker.survey_from.Given as goal
 
 abbrev pub invariant-pages : goal.invariant-pages
@@ -7,7 +7,7 @@ invariant-pages g l = record {
   found : g.V.Snapshot.right → (first : Chart) (bars : List Bool) (counted late : Bool) (rest : List Spot) (s : Spot) → IsItemOf l.tree l.fn.item s
       → HasFound g.V.Snapshot.maps g.V.Snapshot.pages g.V.Snapshot.size first bars counted late (s ∷ rest) l.fn.self.uses l.fn.self.walk l.fn.chart
       → AreFound g.V.Snapshot.maps g.V.Snapshot.pages g.V.Snapshot.size first bars counted late rest l.tree l.self.uses l.self.walk l.chart;
-  same : SameSource g.V.Snapshot.pages g.V.Snapshot.size g.V.Snapshot.right g.V.Snapshot.given (g.S.PageSource.pages l.source) (g.S.PageSource.size l.source) (g.S.PageSource.reads_right l.source) (g.S.PageSource.gives_pages l.source);
+  same : Keeps g.V.Snapshot g.S.PageSource l.source;
 }
 
 abbrev pub decreases-pages : goal.decreases-pages

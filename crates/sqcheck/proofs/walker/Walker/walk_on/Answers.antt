@@ -1,4 +1,5 @@
-use Rattle.sqcheck.proofs.Facts.{StandsNow, Walk, Walking, [], append-nil, entry_stands, exits, fewer_unmarked, knows_top, nothing_popped, proper_top, refl, subst, sym, walk_refused, walks_more, walks_on, ◌++◌, ◌≤◌}
+use Rattle.sqcheck.proofs.Facts.{StandsAt, Walk, Walking, [], append-nil, arith, ends_walk, entry_stands, exits_as, fewer_unmarked, knows_top, nothing_popped, proper_top, refl, subst, sym, walk_refused, walks_more, walks_on, ◌++◌, ◌≡◌, ◌≤◌}
+use Rattle.std.proofs.lemmas.List.{nil_from_length}
 use Rattle.sqcheck.proofs.walker.Walker.walk_on.Goals as goal
 
 pub places-init : goal.places-init
@@ -7,8 +8,8 @@ places-init g c = record {
   same = c.requires.same;
 }
 
-pub returns-in_err-role-clause-err : goal.returns-in_err-role-clause-err
-returns-in_err-role-clause-err g c = λ right late visited rest start.
+pub returns-in_err-role-clause-walks : goal.returns-in_err-role-clause-walks
+returns-in_err-role-clause-walks g c = λ right late visited rest start.
     let d = g.V.Snapshot.pages in
     let tree = c.args.tree.now in
     let s = c.places.self in
@@ -18,24 +19,24 @@ returns-in_err-role-clause-err g c = λ right late visited rest start.
     let e = c.in_err-role.field-0.0 in
     let items = c.in-Some.ensures.items in
     let refused = c.in_err-role.ensures.err right.0 (proper_top d late tree (visited ++ w.0) rest s.uses s.walk popped it w.1 items refl refl) in
-    exits (λ e. StandsNow g.V.Snapshot.given d e.fault e.page) e c.from_residual.result c.from_residual.ensures.1
+    exits_as _ (StandsAt g.V.Snapshot) e c.from_residual.result c.from_residual.ensures.1
     (c.in_err-role.ensures.source, λ read. walk_refused d late tree (visited ++ w.0) rest s.uses s.walk popped it w.1 items refl refl e.fault e.page (refused read))
 
 pub judge-requires-clause-page : goal.judge-requires-clause-page
-judge-requires-clause-page g c = let m = c.in_ok-role.ensures.marks in (m.above, subst (λ n. c.in-Some.item.page ≤ n) c.places.self.marks m.within)
+judge-requires-clause-page g c = let m = c.in_ok-role.ensures.taken.0 in (m.above, subst (λ n. c.in-Some.item.page ≤ n) c.places.self.marks m.within)
 
-pub returns-in_err-judge-clause-err : goal.returns-in_err-judge-clause-err
-returns-in_err-judge-clause-err g c = λ right late visited rest start.
+pub returns-in_err-judge-clause-walks : goal.returns-in_err-judge-clause-walks
+returns-in_err-judge-clause-walks g c = λ right late visited rest start.
     let d = g.V.Snapshot.pages in
     let s = c.places.self in
     let w = c.places.invariant.walks right late visited rest start in
     let popped : Walk = record { stack = c.pop.new.self; rows = s.walk.rows; leaf_level = s.walk.leaf_level } in
     let e = c.in_err-judge.field-0.0 in
-    exits (λ e. StandsNow g.V.Snapshot.given d e.fault e.page) e c.from_residual-in_err-judge.result c.from_residual-in_err-judge.ensures.1
+    exits_as _ (StandsAt g.V.Snapshot) e c.from_residual-in_err-judge.result c.from_residual-in_err-judge.ensures.1
     (c.in_err-judge.ensures.source, λ read. entry_stands d late c.args.tree.now (visited ++ w.0) rest s.uses s.walk popped c.in-Some.item w.1 c.in-Some.ensures.items refl refl e.fault e.page (c.in_err-judge.ensures.err right.0 read).1)
 
 pub places-smaller : goal.places-smaller
-places-smaller g c = fewer_unmarked c.places.self.uses.marks.items c.follow.new.self.uses.marks.items c.in-Some.item.page c.in_ok-role.ensures.marks
+places-smaller g c = fewer_unmarked c.places.self.uses.marks.items c.follow.new.self.uses.marks.items c.in-Some.item.page c.in_ok-role.ensures.taken.0
 
 pub places-preserved : goal.places-preserved
 places-preserved g c =
@@ -55,9 +56,13 @@ places-preserved g c =
       same = c.judge.ensures.same;
     }
 
-pub returns-clause-ok : goal.returns-clause-ok
-returns-clause-ok g c = λ right late visited rest start.
+pub returns-clause-walks : goal.returns-clause-walks
+returns-clause-walks g c = λ right late visited rest start.
+    let d = g.V.Snapshot.pages in
+    let tree = c.args.tree.now in
     let s = c.places.self in
-    let popped : Walk = record { stack = c.pop.new.self; rows = s.walk.rows; leaf_level = s.walk.leaf_level } in
+    let stack = c.pop.new.self in
+    let popped : Walk = record { stack = stack; rows = s.walk.rows; leaf_level = s.walk.leaf_level } in
     let w = c.places.invariant.walks right late visited rest start in
-    (w.0, nothing_popped g.V.Snapshot.pages late c.args.tree.now (visited ++ w.0) rest s.uses s.walk popped w.1 c.in_default.ensures.items refl refl, w.2)
+    let empty : stack.items ≡ [] = nil_from_length stack.items (let same = stack.ok.0 in let none = c.in_default.ensures.cases.1 in omega (arith, same, none)) in
+    (w.0, ends_walk d late tree (visited ++ w.0) rest s.uses popped empty (nothing_popped d late tree (visited ++ w.0) rest s.uses s.walk popped w.1 c.in_default.ensures.items refl refl), w.2)
