@@ -7,3 +7,6 @@ pub mod commit
 pub mod openings
 pub mod machine
 pub mod read
+pub mod Below
+pub mod Between
+pub mod Facts

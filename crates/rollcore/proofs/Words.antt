@@ -43,7 +43,7 @@ pub use Rattle.rollcore.specs.Rows.{CallsRefused, Committed, IsRunOn, NoHalf, No
 pub use Rattle.rollcore.specs.declared.changes.Change.{Change}
 pub use Rattle.rollcore.specs.declared.copying.Records.{Records}
 pub use Rattle.rollcore.specs.declared.error.RollError.{RollError}
-pub use Rattle.rollcore.specs.declared.error.RollError.TheVariants.{BadLength, Closed, Device, NoMemory, PageAboveSize, PageSize, SectorAbovePage, TooLarge}
+pub use Rattle.rollcore.specs.declared.error.RollError.TheVariants.{BadLength, Closed, Device, NoMemory, NoMemory as WalNoMemory, PageAboveSize, PageSize, SectorAbovePage, TooLarge}
 pub use Rattle.rollcore.specs.declared.plan.Plan.{Plan}
 pub use Rattle.rollcore.specs.declared.replaying.Replayed.{Replayed}
 pub use Rattle.rollcore.specs.declared.state.Core.{Core}
@@ -86,6 +86,7 @@ pub use Rattle.sqval.proofs.page.PageNumbers.{distinct}
 pub use Rattle.sqval.proofs.page.PageSizes.{is_page_size}
 unfoldable pub use Rattle.sqval.specs.Database.{file_page, page}
 pub use Rattle.sqval.specs.internal.JudgedPages.{numbers_of}
+pub use Rattle.std.proofs.Common.{Bool, Err, IfErr, IsTrue, List, MatchOption, MatchResult, None, Ok, OnOk, Option, Result, Some, [], ap, append-nil, append_assoc, arith, cond, drop, drop-drop, drop_at, ext_get_or, false, get_or, get_or-drop, get_or-take, if◌then◌else◌, inl, inr, length, length-append, length-drop, length-take, length-take-le, lit<, lit≤, map, max, min, nat_le, nat_lt, refl, replicate, reverse, rules, slice_get, subst, suc, sym, take, take-append-drop, take-take, take_all, take_at, true, unwrap_or, zero, zero-add, ℕ, ⊎_elim, ◌%◌, ◌*◌, ◌++◌, ◌+◌, ◌-◌, ◌/◌, ◌<◌, ◌==◌, ◌^◌, ◌↔◌, ◌∙◌, ◌∷◌, ◌≡◌, ◌≢◌, ◌≤◌, ◌⊎◌}
 pub use Rattle.std.proofs.Math.Nat.{div-lt_iff_lt-mul, div-mul-le_self, lt-div-mul-add, mod-eq-sub-div-mul, mul-le-mul_left, mul-le-mul_right}
 pub use Rattle.std.proofs.Math.Seq.{take-add, take-suc}
 pub use Rattle.std.proofs.lemmas.Bool.{cases_Bool, cases_eq, cases_lt}

@@ -10,3 +10,6 @@ pub mod checkpoint
 pub mod restart
 pub mod sync
 pub mod openings
+pub mod Below
+pub mod Between
+pub mod Facts

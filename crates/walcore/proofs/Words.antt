@@ -7,7 +7,7 @@ pub use Rattle.crashdisk.proofs.call.EffectsOfCalls.{fixed_synced, fixed_syncs, 
 pub use Rattle.crashdisk.proofs.image.OriginOfImages.{not_torn}
 pub use Rattle.crashdisk.proofs.page.RecoverablePages.{suits_same}
 pub use Rattle.crashdisk.proofs.sync.BytesOfSyncedLog.{settled_present}
-pub use Rattle.crashdisk.specs.Call.{Nothing, of, set_len}
+pub use Rattle.crashdisk.specs.Call.{Nothing, Syncs as CallSyncs, of, set_len}
 pub use Rattle.crashdisk.specs.State.{CutTouches, cut_to}
 unfoldable pub use Rattle.crashdisk.specs.internal.Keeps.{PlaceAnswer}
 pub use Rattle.recovery.proofs.AnswersOfSteps.{no_memory}
@@ -27,7 +27,7 @@ pub use Rattle.recovery.specs.internal.Steps.{EndSteps}
 pub use Rattle.sqval.proofs.database.CommittedDatabase.{supplied_at, supplied_found, supplied_none}
 pub use Rattle.sqval.proofs.database.FaultlessCommit.{above_some, number_once}
 pub use Rattle.sqval.proofs.page.PageSizes.{IsOneOf}
-pub use Rattle.sqval.specs.Answers.{is_accepted}
+pub use Rattle.sqval.specs.Answers.{Reader as ReaderAnswer, is_accepted}
 unfoldable pub use Rattle.sqval.specs.Database.{file_page, page}
 pub use Rattle.sqwal.proofs.checksum.Sums.{goes_on_none, goes_on_pair}
 pub use Rattle.sqwal.proofs.feed.ScanAnswers.{few_frames}
@@ -56,6 +56,7 @@ pub use Rattle.sqwal.specs.declared.scan.Scan.{Scan}
 pub use Rattle.sqwal.specs.declared.sum.Order.{Order}
 pub use Rattle.sqwal.specs.declared.sum.Order.TheVariants.{Big, Little}
 pub use Rattle.sqwal.specs.declared.sum.Sum.{Sum}
+pub use Rattle.std.proofs.Common.{Bool, Bor, Err, IfErr, IsFalse, IsOk, IsTrue, List, None, Ok, OnErr, OnOk, Option, Result, Some, [], ap, arith, below_more, cond, drop, drop_at, ext_get_or, false, get_or, get_or-append-add, get_or-drop, get_or-set_other, get_or-set_same, get_or-take, if◌then◌else◌, inl, inr, is_some, length, length-append, length-drop, length-set, length-take, length-take-le, lit<, lit≤, map, max, min, nat_eq, nat_lt, ne_eqb, not, refl, replicate, rules, set, slice_get, slice_index, subst, suc, sym, take, take-append-drop, take-take, take_all, take_at, true, true≢false, unwrap_or, zero, ℕ, ⊎_elim, ◌%◌, ◌&&◌, ◌*◌, ◌++◌, ◌+◌, ◌-◌, ◌/◌, ◌<◌, ◌==◌, ◌^◌, ◌↔◌, ◌∙◌, ◌∷◌, ◌≡◌, ◌≢◌, ◌≤◌, ◌⊎◌}
 pub use Rattle.std.proofs.Math.ListN.{get_or-append}
 pub use Rattle.std.proofs.Math.Nat.{div-eq_of_lt, div-mul-le_self, lt-div-mul-add, mod-eq-sub-div-mul, mul-le-mul_left, mul-le-mul_right}
 pub use Rattle.std.proofs.Math.Pow.{pow_mono}
@@ -93,7 +94,7 @@ pub use Rattle.walcore.specs.Standing.{AreMarks, HasMadeHeader, HoldsFrames, IsB
 pub use Rattle.walcore.specs.Uncommitted.{IsUncommitted, KeepsUncommitted}
 pub use Rattle.walcore.specs.declared.copying.Frames.{Frames}
 pub use Rattle.walcore.specs.declared.error.WalError.{WalError}
-pub use Rattle.walcore.specs.declared.error.WalError.TheVariants.{BadLength, Closed, Device, NoMemory, NotDrained, PageAboveSize, PageSize, PageZero, ReadersOpen, SectorAbovePage, TooLarge}
+pub use Rattle.walcore.specs.declared.error.WalError.TheVariants.{BadLength, Closed, Device, NoMemory, NoMemory as WalNoMemory, NotDrained, PageAboveSize, PageSize, PageZero, ReadersOpen, SectorAbovePage, TooLarge}
 pub use Rattle.walcore.specs.declared.folding.Folded.{Folded}
 pub use Rattle.walcore.specs.declared.opening.NewLog.{NewLog}
 pub use Rattle.walcore.specs.declared.plan.Plan.{Plan}

@@ -1,6 +1,5 @@
 -- A commit that isn't refused.
-use Rattle.std.proofs.Common.{◌≡◌, ℕ, ◌≤◌, false, ◌∷◌, [], arith, nat_lt, None}
-use Rattle.rollcore.proofs.Words.{nat_tests, Pages, page_faults, IsFaultless, faultless, none_both, one_none, recorded, segments_of, refusal_of}
+use Rattle.rollcore.proofs.Words.{IsFaultless, None, Pages, [], arith, false, faultless, nat_lt, nat_tests, none_both, one_none, page_faults, recorded, refusal_of, segments_of, ℕ, ◌∷◌, ◌≡◌, ◌≤◌}
 
 module _ (old_size page_size : ℕ) (pages : Pages) (size nonces : ℕ) (none : refusal_of old_size page_size pages size nonces ≡ None) where
   pub granted : IsFaultless old_size page_size pages size

@@ -1,6 +1,5 @@
 -- Pages go into the file that the database doesn't have yet.
-use Rattle.std.proofs.Common.{◌≡◌, inr, ⊎_elim, ℕ, ◌+◌, ◌-◌, ◌*◌, ◌<◌, ◌≤◌, true, false, cond, List, ◌∷◌, ◌++◌, length, get_or, take, refl, sym, ◌∙◌, ap, subst, arith, append_assoc, [], Result, Ok, Err, Bool, nat_lt, append-nil, take_all}
-use Rattle.rollcore.proofs.Words.{Contains, Bor, nat_tests, take_more, get_or-map, length-map, Contains-append_cases, Contains-push_cases, most_bytes, Database, Pages, page, lent, DiskState, Writes, Db, DiskError, refusal_after, Journaled, Harmless, ArePut, PageStep, AreSome, AreOf, new_numbers, RollError}
+use Rattle.rollcore.proofs.Between.{AreOf, ArePut, AreSome, Bool, Bor, Contains, Contains-append_cases, Contains-push_cases, Database, Db, DiskError, DiskState, Err, Harmless, Journaled, List, Ok, PageStep, Pages, Result, RollError, Writes, [], ap, append-nil, append_assoc, arith, cond, false, get_or, get_or-map, inr, length, length-map, lent, most_bytes, nat_lt, nat_tests, new_numbers, page, refl, refusal_after, subst, sym, take, take_all, take_more, true, ℕ, ⊎_elim, ◌*◌, ◌++◌, ◌+◌, ◌-◌, ◌<◌, ◌∙◌, ◌∷◌, ◌≡◌, ◌≤◌}
 use Rattle.rollcore.proofs.commit.OverwrittenPages.{journaled_writes, journaled_unharmed, put_writes, page_refused, page_done}
 
 new_more : (n : ℕ) (xs : Pages) (x : ℕ × List ℕ) → n < x.0 → new_numbers n (xs ++ x ∷ []) ≡ new_numbers n xs ++ x.0 ∷ []

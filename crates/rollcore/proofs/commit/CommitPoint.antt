@@ -1,12 +1,5 @@
 -- The end of a commit: zeros are written over the journal's first header, and come durable.
-use Rattle.std.proofs.Common.{◌≡◌, ◌⊎◌, inl, inr, ⊎_elim, ℕ, ◌<◌, ◌≤◌, true, false, List, ◌∷◌, length, get_or, replicate, refl, sym, ◌∙◌, subst, arith, [], Result, Ok}
-use Rattle.rollcore.proofs.Words.{cases_lt, get_or-replicate, get_or_past, length-replicate, word, IsPageSize, Database, IsJust, FileState, IsImage, IsSound, IsSettled, DiskState, Writes, Syncs, Log, DiskError, settled_one, sector_some, file_count, down_present, MayBeRead, ShowsWhole, Overwritten, written_read, IsHot, AreWhole, journal_log, Rests, ShowsEither, zeroed, IsJournaled, IsAt, Journaled}
-use Rattle.rollcore.proofs.journal.EquivalentJournals.{hot_long}
-use Rattle.rollcore.proofs.replays.ZeroedHeader.{zeroed_listed, zeroed_torn}
-use Rattle.rollcore.proofs.replays.FinalSteps.{zero_done}
-use Rattle.rollcore.proofs.journal.UnharmedOldDatabase.{sectors_of, has_others}
-use Rattle.rollcore.proofs.journal.JournalWithNewHeader.{hot_or, journaled_front}
-use Rattle.rollcore.proofs.journal.RestoredDatabase.{journaled_hot, shows, sector_told, zeroed_gate}
+use Rattle.rollcore.proofs.Between.{AreWhole, Database, DiskError, DiskState, FileState, IsAt, IsHot, IsImage, IsJournaled, IsJust, IsPageSize, IsSettled, IsSound, Journaled, List, Log, MayBeRead, Ok, Overwritten, Rests, Result, ShowsEither, ShowsWhole, Syncs, Writes, [], arith, cases_lt, down_present, false, file_count, get_or, get_or-replicate, get_or_past, has_others, hot_long, hot_or, inl, inr, journal_log, journaled_front, journaled_hot, length, length-replicate, refl, replicate, sector_some, sector_told, sectors_of, settled_one, shows, subst, sym, true, word, written_read, zero_done, zeroed, zeroed_gate, zeroed_listed, zeroed_torn, ℕ, ⊎_elim, ◌<◌, ◌∙◌, ◌∷◌, ◌≡◌, ◌≤◌, ◌⊎◌}
 
 zeros_at : (i : ℕ) → ◌≡◌ {A = ℕ} (get_or (replicate 28 0) i 0) 0
 zeros_at i = ⊎_elim (λ lt. get_or-replicate 28 i 0 0 lt) (λ past. get_or_past (replicate 28 0) i 0 (omega (arith, length-replicate {A = ℕ} 28 0))) (cases_lt i 28)

@@ -1,17 +1,8 @@
 -- A commit whose pages are all in the file: it becomes durable, and the journal ends.
-use Rattle.std.proofs.Common.{◌≡◌, ◌⊎◌, inl, ⊎_elim, ℕ, ◌*◌, ◌<◌, ◌≤◌, List, ◌++◌, length, replicate, refl, sym, ◌∙◌, ap, subst, arith, lit≤, Result, Ok, Err, None, OnOk}
-use Rattle.rollcore.proofs.Words.{length-map, get_or-map, Database, Pages, apply, IsJust, IsHeld, length-apply, IsFaultless, held_applied, FileState, IsSettled, DiskState, Writes, Cuts, Syncs, Db, Log, DiskError, counted_grows, steady_syncs, IsLogDurable, SyncStep, down_syncs, down_present, told_ok, sync_refused, none_ok, had_refusal, refusal_after, suits_writes, suits_syncs, ArePages, ZeroSteps, zero_refused, MayBeRead, IsHot, EndSteps, ended, end_later, tells_end, Finishes, IsSoundDisk, change_at, AreChanges, PutAnswer, IsJournaled, refusal_of, IsAt, Harmless, Journaled, ArePut, AreOf, AreSome, pages_of, new_numbers, zeroed, EndAnswer, Change, RollError, Device, journal_log}
-use Rattle.rollcore.proofs.replays.FinalSteps.{end_answer}
-use Rattle.rollcore.proofs.replays.ZeroedHeader.{end_shows}
-use Rattle.rollcore.proofs.replays.LengthOfDatabaseFile.{ends_ended}
+use Rattle.rollcore.proofs.Between.{AreChanges, AreOf, ArePages, ArePut, AreSome, Change, Cuts, Database, Db, Device, DiskError, DiskState, EndAnswer, EndSteps, Err, FileState, Finishes, Harmless, IsAt, IsFaultless, IsHeld, IsHot, IsJournaled, IsJust, IsLogDurable, IsSettled, IsSoundDisk, Journaled, List, Log, MayBeRead, None, Ok, OnOk, Pages, PutAnswer, Result, RollError, SyncStep, Syncs, Writes, ZeroSteps, ap, apply, arith, at_by, change_at, counted_grows, cut_by, down_present, down_syncs, each_page, end_answer, end_later, end_shows, ended, ends_ended, get_or-map, granted, had_refusal, held_applied, hot_long, inl, journal_log, journaled_hot, just_after, length, length-apply, length-map, lit≤, new_numbers, none_ok, of_by, pages_after, pages_of, refl, refusal_after, refusal_of, replicate, sectors_of, steady_syncs, subst, suits_syncs, suits_writes, sym, sync_refused, tells_end, told_ok, zero_refused, zeroed, ℕ, ⊎_elim, ◌*◌, ◌++◌, ◌<◌, ◌∙◌, ◌≡◌, ◌≤◌, ◌⊎◌}
 use Rattle.rollcore.proofs.commit.CommitPoint.{closing_left, closing_down, closing_shows, closing_sectors}
-use Rattle.rollcore.proofs.commit.AcceptedCommit.{granted}
 use Rattle.rollcore.proofs.journal.WrittenSegmentHeader.{read_syncs}
-use Rattle.rollcore.proofs.commit.DatabaseOfWrittenPages.{pages_after, just_after, of_by, cut_by, each_page}
 use Rattle.rollcore.proofs.commit.OverwrittenPages.{journaled_cuts, journaled_unharmed}
-use Rattle.rollcore.proofs.journal.UnharmedOldDatabase.{at_by, sectors_of}
-use Rattle.rollcore.proofs.journal.EquivalentJournals.{hot_long}
-use Rattle.rollcore.proofs.journal.RestoredDatabase.{journaled_hot}
 
 -- a refusal that leaves the database from before the commit
 pub put_harmless : (T : Type 0) (size : ℕ) (d e : Database) (error : RollError) (old new : DiskState) → Harmless size d error old new → PutAnswer {T = T} size d e (Err error) old new

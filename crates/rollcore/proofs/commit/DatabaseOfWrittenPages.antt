@@ -1,6 +1,5 @@
 -- The new database, once all its pages are in the file.
-use Rattle.std.proofs.Common.{◌≡◌, ◌⊎◌, inl, inr, ⊎_elim, ℕ, zero, suc, ◌+◌, ◌-◌, ◌*◌, ◌<◌, ◌≤◌, List, ◌∷◌, ◌++◌, length, get_or, take, drop, refl, sym, ◌∙◌, ap, subst, arith, length-take, length-drop, [], Ok, Option, Some, None, unwrap_or, get_or-take, get_or-drop}
-use Rattle.rollcore.proofs.Words.{Contains, cases_lt, nat_tests, length-map, get_or-map, Contains-append_left, Contains-append_right, mul-le-mul_right, most_bytes, Database, Pages, page, supplied, apply, IsJust, IsHeld, byte, IsSettled, DiskState, IsSoundDisk, Cuts, Syncs, Db, table, cut_below, present_cut, present_list, present_steady, settled_sync, page_at, page_within, page_by_bytes, present_byte, ArePages, number_at, length-apply, page-apply, IsFaultless, supplied_here, above_supplied, AreChanged, change_at, AreChanges, Journaled, ArePut, Becomes, AreTurned, AreOf, AreFresh, pages_of, new_numbers, Change}
+use Rattle.rollcore.proofs.Words.{AreChanged, AreChanges, AreFresh, AreOf, ArePages, ArePut, AreTurned, Becomes, Change, Contains, Contains-append_left, Contains-append_right, Cuts, Database, Db, DiskState, IsFaultless, IsHeld, IsJust, IsSettled, IsSoundDisk, Journaled, List, None, Ok, Option, Pages, Some, Syncs, [], above_supplied, ap, apply, arith, byte, cases_lt, change_at, cut_below, drop, get_or, get_or-drop, get_or-map, get_or-take, inl, inr, length, length-apply, length-drop, length-map, length-take, most_bytes, mul-le-mul_right, nat_tests, new_numbers, number_at, page, page-apply, page_at, page_by_bytes, page_within, pages_of, present_byte, present_cut, present_list, present_steady, refl, settled_sync, subst, suc, supplied, supplied_here, sym, table, take, unwrap_or, zero, ℕ, ⊎_elim, ◌*◌, ◌++◌, ◌+◌, ◌-◌, ◌<◌, ◌∙◌, ◌∷◌, ◌≡◌, ◌≤◌, ◌⊎◌}
 use Rattle.sqval.proofs.database.CommittedDatabase.{content_at}
 
 -- ---- The file has all pages.

@@ -1,6 +1,5 @@
 -- The changes of a commit, as they are listed, are those that it makes.
-use Rattle.std.proofs.Common.{◌≡◌, ◌≢◌, ◌⊎◌, inl, inr, ⊎_elim, ℕ, zero, suc, ◌+◌, ◌-◌, ◌<◌, ◌≤◌, Bool, true, false, cond, List, [], ◌∷◌, ◌++◌, map, length, get_or, refl, sym, ◌∙◌, ap, subst, arith, length-append, append-nil, zero-add, ◌==◌, nat_le, if◌then◌else◌, Option, Some, None}
-use Rattle.rollcore.proofs.Words.{All, Contains, AllByRecursion, IsDistinct, sum_by, IsPermutation, IsNonDecreasing, IsNonDecreasingBy, IsStrictlyIncreasing, cases_eq, cases_lt, nat_tests, get_or-map, get_or_append_left, get_or-append_right, length-map, length_push, get_or_at, All-permutation, Contains-permutation, IsPermutation-map, length_permutation, sum_by-cons, IsDistinct-IsPermutation, IsStrictlyIncreasing-from_distinct, sorted_from_strictly_increasing, below_from_sorted, Pages, supplied, number_at, IsFaultless, numbers_of, distinct, recorded, change_at, AreChanges, cut_off, Change}
+use Rattle.rollcore.proofs.Words.{All, All-permutation, AllByRecursion, AreChanges, Bool, Change, Contains, Contains-permutation, IsDistinct, IsDistinct-IsPermutation, IsFaultless, IsNonDecreasing, IsNonDecreasingBy, IsPermutation, IsPermutation-map, IsStrictlyIncreasing, IsStrictlyIncreasing-from_distinct, List, None, Option, Pages, Some, [], ap, append-nil, arith, below_from_sorted, cases_eq, cases_lt, change_at, cond, cut_off, distinct, false, get_or, get_or-append_right, get_or-map, get_or_append_left, get_or_at, if◌then◌else◌, inl, inr, length, length-append, length-map, length_permutation, length_push, map, nat_le, nat_tests, number_at, numbers_of, recorded, refl, sorted_from_strictly_increasing, subst, suc, sum_by, sum_by-cons, supplied, sym, true, zero, zero-add, ℕ, ⊎_elim, ◌++◌, ◌+◌, ◌-◌, ◌<◌, ◌==◌, ◌∙◌, ◌∷◌, ◌≡◌, ◌≢◌, ◌≤◌, ◌⊎◌}
 use Rattle.rollcore.specs.internal.Listing.{written}
 
 -- ---- Pages that are there already.

@@ -1,8 +1,6 @@
 -- Pages go into the file whose old contents stand in the journal.
-use Rattle.std.proofs.Common.{◌≡◌, ◌≢◌, ◌⊎◌, inl, inr, ⊎_elim, ℕ, ◌+◌, ◌-◌, ◌*◌, ◌<◌, ◌≤◌, List, ◌∷◌, ◌++◌, length, get_or, take, sym, ◌∙◌, ap, subst, arith, append_assoc, length-take, [], Result, Ok, Err, Option, Some, None, append-nil, take_all, get_or-take}
-use Rattle.rollcore.proofs.Words.{Bor, Contains, cases_eq, cases_lt, take_more, length-map, get_or-map, Contains-push_cases, Contains-append_cases, most_bytes, Database, Pages, page, lent, FileState, DiskState, IsSoundDisk, Writes, Cuts, Spreads, IsClear, Db, DiskError, HadRefusal, down_writes, down_cuts, down_one, told_err, told_ok, had_refusal, refusal_after, written_inside, written_outside, where_at, steady_writes, steady_cuts, present_written, IsJournaled, IsAt, Unharmed, Harmless, Journaled, ArePut, PageStep, Becomes, AreTurned, AreSome, pages_of, change_at, Change, RollError, Device, page_at, page_end, page_apart, page_within, page_clear, cut_clear, sector_some, suits_writes, suits_cuts, whole_pages, page_is_clear}
+use Rattle.rollcore.proofs.Between.{ArePut, AreSome, AreTurned, Becomes, Bor, Change, Contains, Contains-append_cases, Contains-push_cases, Cuts, Database, Db, Device, DiskError, DiskState, Err, FileState, HadRefusal, Harmless, IsAt, IsClear, IsJournaled, IsSoundDisk, Journaled, List, None, Ok, Option, PageStep, Pages, Result, RollError, Some, Spreads, Unharmed, Writes, [], ap, append-nil, append_assoc, arith, cases_eq, cases_lt, change_at, cut_clear, down_cuts, down_one, down_writes, get_or, get_or-map, get_or-take, had_refusal, image_read, inl, inr, length, length-map, length-take, lent, most_bytes, page, page_apart, page_at, page_clear, page_end, page_is_clear, page_within, pages_of, present_written, refusal_after, sector_some, steady_cuts, steady_writes, subst, suits_cuts, suits_writes, sym, take, take_all, take_more, told_err, told_ok, unharmed_still, where_at, whole_pages, written_inside, written_outside, ℕ, ⊎_elim, ◌*◌, ◌++◌, ◌+◌, ◌-◌, ◌<◌, ◌∙◌, ◌∷◌, ◌≡◌, ◌≢◌, ◌≤◌, ◌⊎◌}
 use Rattle.rollcore.proofs.journal.RecordsOfOldPages.{page_in}
-use Rattle.rollcore.proofs.journal.UnharmedOldDatabase.{image_read, unharmed_still}
 
 module _ (size sector : ℕ) (d : Database) (named : List ℕ) (place : ℕ) (w : List ℕ) (begun : 0 < place) where
   clear : (s : DiskState) → IsAt size sector d named place s → (p i : ℕ) → 1 ≤ p → p ≤ length d → (Contains named p → ⊥) → i < size → IsClear s.sector s.tears s.db (page_at size p + i)

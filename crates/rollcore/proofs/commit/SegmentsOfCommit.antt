@@ -1,11 +1,6 @@
 -- What a commit changes is cut into parts, and each is a segment.
-use Rattle.std.proofs.Common.{◌≡◌, ◌⊎◌, inl, inr, ⊎_elim, ℕ, suc, ◌+◌, ◌-◌, ◌*◌, ◌^◌, ◌<◌, ◌≤◌, List, [], ◌∷◌, ◌++◌, length, get_or, take, drop, replicate, refl, sym, ◌∙◌, ap, subst, arith, length-take, length-drop, Result, Ok, Err, Some, None, min, take_all, get_or-take, length-take-le, drop-drop}
-use Rattle.rollcore.proofs.Words.{Bor, Contains, take-map, drop-map, length-map, length-replicate, get_or-map, cases_lt, mul-le-mul_left, mul-le-mul_right, take-add, take-suc, Database, Pages, apply, IsJust, IsHeld, most_bytes, lent, IsFaultless, DiskState, Suits, get_or-file_page, Rests, old_pages, sizes, HasParts, parts_of, segments_of, refusal_of, KeepsCore, AreChanges, ArePlaced, AreWithin, IsReady, change_at, Journaled, SegmentAnswer, Parted, PartAnswer, SegmentsAnswer, ArePut, AreSome, AreFresh, AreTurned, pages_of, Change, RollError, Core}
-use Rattle.rollcore.proofs.commit.AcceptedCommit.{granted, segments_enough}
+use Rattle.rollcore.proofs.Between.{AreChanges, AreFresh, ArePlaced, ArePut, AreSome, AreTurned, AreWithin, Bor, Change, Contains, Core, Database, DiskState, Err, HasParts, IsFaultless, IsHeld, IsJust, IsReady, Journaled, KeepsCore, List, None, Ok, Pages, PartAnswer, Parted, Rests, Result, RollError, SegmentAnswer, SegmentsAnswer, Some, Suits, [], ap, apply, arith, begins, cases_lt, change_at, changes_few, drop, drop-drop, drop-map, fresh_by, get_or, get_or-file_page, get_or-map, get_or-take, granted, inl, inr, length, length-drop, length-map, length-replicate, length-take, length-take-le, lent, min, most_bytes, mul-le-mul_left, mul-le-mul_right, next_of, old_pages, pages_of, parts_of, refl, refusal_of, replicate, segments_enough, segments_of, sizes, slice_at, slice_within, subst, suc, sym, take, take-add, take-map, take-suc, take_all, turned_slice, ℕ, ⊎_elim, ◌*◌, ◌++◌, ◌+◌, ◌-◌, ◌<◌, ◌^◌, ◌∙◌, ◌∷◌, ◌≡◌, ◌≤◌, ◌⊎◌}
 use Rattle.rollcore.proofs.commit.AppendedPages.{lent_length, lent_at}
-use Rattle.rollcore.proofs.commit.DatabaseOfWrittenPages.{changes_few, fresh_by, turned_slice, slice_at, slice_within}
-use Rattle.rollcore.proofs.journal.RestoredDatabase.{begins}
-use Rattle.rollcore.proofs.journal.WholeSegments.{next_of}
 
 -- ---- How many parts there are.
 

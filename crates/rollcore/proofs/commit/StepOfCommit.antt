@@ -1,12 +1,6 @@
 -- A commit is judged, carried out or refused: what the machine steps to, and what fits then.
-use Rattle.std.proofs.Common.{◌≡◌, ◌⊎◌, inl, inr, ⊎_elim, ℕ, ◌+◌, ◌-◌, ◌^◌, ◌<◌, Bool, true, false, List, ◌∷◌, ◌++◌, length, get_or, refl, sym, ◌∙◌, ap, subst, arith, length-append, [], cond, IsTrue, Result, Ok, Err, Option, Some, None}
-use Rattle.rollcore.proofs.Words.{Bor, cases_lt, get_or_append_left, get_or-append_right, Database, Pages, apply, IsHeld, first_true, page_faults, lent, Done, Refused, Refuses, IsFaultless, faultless, held_applied, length-apply, DiskState, HasCalls, Suits, HadRefusal, IsSameDisk, Later, TellsRefusal, no_calls, answered, ShowsWhole, last, newest, MayChange, MayCommit, State, closed, appended, committed, recorded, refusal_of, commit_refusal, Commits, number_of, RestsAt, NamesSectors, Rests, FitsCore, StepsTo, KeepsCore, AreChanged, ShowsEither, AreChanges, PutAnswer, IsReady, Ends, Closes, RollError, NoMemory, Device, Core, pages_of, journal_log}
+use Rattle.rollcore.proofs.Between.{AreChanged, AreChanges, Bool, Bor, Closes, Commits, Core, Database, Device, DiskState, Done, Ends, Err, FitsCore, HadRefusal, HasCalls, IsFaultless, IsHeld, IsReady, IsSameDisk, IsTrue, KeepsCore, Later, List, MayChange, MayCommit, NamesSectors, NoMemory, None, Ok, Option, Pages, PutAnswer, Refused, Refuses, Rests, RestsAt, Result, RollError, ShowsEither, ShowsWhole, Some, State, StepsTo, Suits, TellsRefusal, [], answered, ap, appended, apply, are_changed, arith, cases_lt, closed, commit_refusal, committed, cond, false, faultless, first_true, fits_rested, get_or, get_or-append_right, get_or_append_left, granted, held_applied, inl, inr, journal_log, last, length, length-append, length-apply, lent, newest, no_calls, number_of, page_faults, pages_of, recorded, recorded_few, refl, refusal_of, subst, suits_go, sym, true, ℕ, ⊎_elim, ◌++◌, ◌+◌, ◌-◌, ◌<◌, ◌^◌, ◌∙◌, ◌∷◌, ◌≡◌, ◌⊎◌}
 use Rattle.rollcore.specs.internal.Commits.{EndAnswer}
-use Rattle.rollcore.proofs.commit.AcceptedCommit.{granted}
-use Rattle.rollcore.proofs.commit.ListedChanges.{recorded_few}
-use Rattle.rollcore.proofs.openings.RecoveredFiles.{fits_rested}
-use Rattle.rollcore.proofs.disk.InvariantsOfCalls.{suits_go}
-use Rattle.rollcore.proofs.commit.DatabaseOfWrittenPages.{are_changed}
 
 -- pages that aren't refused have few records
 pub few_records : (old_size page_size : ℕ) (pages : Pages) (size : ℕ) → first_true (page_faults old_size page_size pages size) ≡ None → old_size < 2 ^ 32 → recorded pages old_size size < 2 ^ 64

@@ -1,7 +1,5 @@
 -- What fits a disk fits it after a crash, as the machine is then.
-use Rattle.std.proofs.Common.{◌≡◌, ℕ, true, List}
-use Rattle.rollcore.proofs.Words.{DiskState, IsCrash, sound_crash, suits_by, AreWhole, journal_log, State, closed, FitsDisk, narrows_crash}
-use Rattle.rollcore.proofs.crash.NarrowedImages.{history_narrows, sectors_narrow}
+use Rattle.rollcore.proofs.Below.{AreWhole, DiskState, FitsDisk, IsCrash, List, State, closed, history_narrows, journal_log, narrows_crash, sectors_narrow, sound_crash, suits_by, true, ℕ, ◌≡◌}
 
 pub fits_crash : (past : State) (db log : List ℕ) (s t : DiskState) → IsCrash db log s t → (s.tears ≡ true → AreWhole s.kept s.handed log) → FitsDisk past s → FitsDisk (closed past) t
 fits_crash past db log s t crashed whole fits =

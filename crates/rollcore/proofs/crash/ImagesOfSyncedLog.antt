@@ -1,7 +1,5 @@
 -- A log of which nothing is unsynced, and what it takes that all shows one database.
-use Rattle.std.proofs.Common.{inl, ℕ, List, refl, sym, subst}
-use Rattle.rollcore.proofs.Words.{DiskState, settled_image, IsLogDurable, MayBeLeft, AreWhole, journal_log}
-use Rattle.rollcore.proofs.journal.EquivalentJournals.{hot_within, header_within}
+use Rattle.rollcore.proofs.Below.{AreWhole, DiskState, IsLogDurable, List, MayBeLeft, header_within, hot_within, inl, journal_log, refl, settled_image, subst, sym, ℕ}
 
 -- the log itself may be left
 pub down_left : (w : List ℕ) (s : DiskState) → IsLogDurable s w → MayBeLeft journal_log s w

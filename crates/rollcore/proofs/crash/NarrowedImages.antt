@@ -1,6 +1,5 @@
 -- A call that adds no log to those that may be read adds none that shows less.
-use Rattle.std.proofs.Common.{ℕ, ◌≤◌, List, sym, ◌∙◌, subst}
-use Rattle.rollcore.proofs.Words.{DiskState, word, Database, Narrows, journal_log, ShowsHistory, NamesSectors, EndsBy}
+use Rattle.rollcore.proofs.Words.{Database, DiskState, EndsBy, List, NamesSectors, Narrows, ShowsHistory, journal_log, subst, sym, word, ℕ, ◌∙◌, ◌≤◌}
 
 module _ (s t : DiskState) (narrows : Narrows journal_log s t) where
   pub history_narrows : (size : ℕ) (h : List Database) (floor : ℕ) → ShowsHistory size h floor s → ShowsHistory size h floor t

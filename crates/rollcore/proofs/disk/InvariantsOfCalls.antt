@@ -1,6 +1,5 @@
 -- What calls of a disk leave as it was.
-use Rattle.std.proofs.Common.{⊎_elim, ℕ, ◌∷◌, sym, subst, [], Result, Ok, Err, Bool, true, false}
-use Rattle.rollcore.proofs.Words.{IsSectorSize, DiskState, IsSoundDisk, write, Log, DiskError, Suits, Later, TellsRefusal, suits_by, later_still, later_then, later_write, Asks, PutsZero, BreakSteps, RollError, Device}
+use Rattle.rollcore.proofs.Words.{Asks, Bool, BreakSteps, Device, DiskError, DiskState, Err, IsSectorSize, IsSoundDisk, Later, Log, Ok, PutsZero, Result, RollError, Suits, TellsRefusal, [], false, later_still, later_then, later_write, subst, suits_by, sym, true, write, ℕ, ⊎_elim, ◌∷◌}
 use Rattle.recovery.proofs.Words.{Change}
 
 pub sectors_go : {May : Change → Type 0} (a b : DiskState) → Later May a b → IsSectorSize a.sector → IsSectorSize b.sector

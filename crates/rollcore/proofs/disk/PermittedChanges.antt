@@ -1,6 +1,5 @@
 -- What may be asked of a disk, among more that may.
-use Rattle.std.proofs.Common.{◌≡◌, inl, inr, ℕ, ◌+◌, ◌-◌, ◌≤◌, List, [], ◌∷◌, ◌++◌, length, replicate, refl}
-use Rattle.rollcore.proofs.Words.{header_bytes, JournalHeader, longest, write, Log, MayReplay, MayRecover, MayCommit, record_bytes}
+use Rattle.rollcore.proofs.Words.{JournalHeader, List, Log, MayCommit, MayRecover, MayReplay, [], header_bytes, inl, inr, length, longest, record_bytes, refl, replicate, write, ℕ, ◌++◌, ◌+◌, ◌-◌, ◌∷◌, ◌≡◌, ◌≤◌}
 use Rattle.recovery.proofs.Words.{Change}
 
 pub recover_may : (size : ℕ) (change : Change) → MayReplay size change → MayRecover size change

@@ -1,6 +1,5 @@
 -- Calls of a disk, one after another: that one was refused is told.
-use Rattle.std.proofs.Common.{◌≡◌, ⊎_elim, ℕ, ◌≤◌, ◌*◌, List, length, sym, subst, arith, Result, Ok, Err}
-use Rattle.rollcore.proofs.Words.{cases_lt, most_bytes, DiskState, IsSoundDisk, sync, counted, File, DiskError, Still, Later, TellsRefusal, SyncStep, later_same, later_then, later_still, later_wider, sync_later, tells_called, tells_ok, tells_again, Asks, RollError, Device}
+use Rattle.rollcore.proofs.Words.{Asks, Device, DiskError, DiskState, Err, File, IsSoundDisk, Later, List, Ok, Result, RollError, Still, SyncStep, TellsRefusal, arith, cases_lt, counted, later_same, later_still, later_then, later_wider, length, most_bytes, subst, sym, sync, sync_later, tells_again, tells_called, tells_ok, ℕ, ⊎_elim, ◌*◌, ◌≡◌, ◌≤◌}
 use Rattle.recovery.proofs.Words.{Change}
 
 -- ---- That a call was refused is told.

@@ -1,12 +1,6 @@
 -- The records of a segment come durable.
-use Rattle.std.proofs.Common.{◌≡◌, ◌⊎◌, inl, inr, ⊎_elim, ℕ, ◌+◌, ◌-◌, ◌≤◌, true, false, List, ◌∷◌, length, get_or, sym, ◌∙◌, ap, subst, arith, [], Result, Ok, Err, Bool}
-use Rattle.rollcore.proofs.Words.{Database, FileState, byte, written, DiskState, ArePresent, Log, DiskError, table, written_inside, written_outside, present_steady, present_written, present_list, Still, SyncStep, present_byte, sync_refused, sector_some, refusal_after, suits_syncs, records_end, AreRecords, PutsZero, BreakSteps, old_pages, sizes, next_place, SameBelow, IsAt, Recording, Recorded, Ended, Prepared, KeepsParts, Harmless, RollError, Device}
-use Rattle.rollcore.proofs.replays.FinalSteps.{sync_down}
-use Rattle.rollcore.proofs.journal.UnharmedOldDatabase.{at_by}
+use Rattle.rollcore.proofs.Between.{ArePresent, AreRecords, Bool, BreakSteps, Database, Device, DiskError, DiskState, Ended, Err, FileState, Harmless, IsAt, KeepsParts, List, Log, Ok, Prepared, PutsZero, Recorded, Recording, Result, RollError, SameBelow, Still, SyncStep, [], ap, arith, at_by, byte, false, get_or, inl, inr, journaled_same, length, next_above, next_of, next_place, old_pages, parts_kept, present_byte, present_list, present_steady, present_written, records_end, records_same, refusal_after, sector_some, sizes, subst, suits_syncs, sym, sync_down, sync_refused, table, true, written, written_inside, written_outside, zero_gate, ℕ, ⊎_elim, ◌+◌, ◌-◌, ◌∙◌, ◌∷◌, ◌≡◌, ◌≤◌, ◌⊎◌}
 use Rattle.rollcore.proofs.journal.WritesBehindHeader.{recording_still, recording_writes, recording_syncs, recording_unharmed}
-use Rattle.rollcore.proofs.journal.WholeSegments.{records_same, next_above, next_of}
-use Rattle.rollcore.proofs.journal.JournalWithNewHeader.{journaled_same, parts_kept}
-use Rattle.rollcore.proofs.journal.RestoredDatabase.{zero_gate}
 
 module _ (size sector : ℕ) (d : Database) (named : List ℕ) (place : ℕ) (w part : List ℕ) (nonce : ℕ) where
   abbrev pub next : ℕ

@@ -1,6 +1,5 @@
 -- The headers of a journal, and journals that say the same.
-use Rattle.std.proofs.Common.{◌≡◌, ◌⊎◌, inl, inr, ⊎_elim, ℕ, ◌+◌, ◌-◌, ◌*◌, ◌/◌, ◌<◌, ◌≤◌, min, List, [], ◌∷◌, length, get_or, take, drop, refl, sym, ◌∙◌, ap, subst, arith, length-drop, ext_get_or, get_or-take, get_or-drop, length-take, unwrap_or}
-use Rattle.rollcore.proofs.Words.{le-div, mul-le-mul_right, big_number, part, word, IsPageSize, Database, Pages, file_page, nonce_sum, next_header, Segment, Sizes, sizes_of, record_len, records_end, IsHeader, IsRecord, AreRecords, AreSegments, StopsAtHeader, StopsAtRecord, IsHot, IsJournal, all_records, last_content, IsRolledBack, Why, End, Header, Short, PageZero, Sum, size_bounds, HasHeaderAt}
+use Rattle.rollcore.proofs.Words.{AreRecords, AreSegments, Database, End, HasHeaderAt, Header, IsHeader, IsHot, IsJournal, IsPageSize, IsRecord, IsRolledBack, List, PageZero, Pages, Segment, Short, Sizes, StopsAtHeader, StopsAtRecord, Sum, Why, [], all_records, ap, arith, big_number, drop, ext_get_or, file_page, get_or, get_or-drop, get_or-take, inl, inr, last_content, le-div, length, length-drop, length-take, min, mul-le-mul_right, next_header, nonce_sum, part, record_len, records_end, refl, size_bounds, sizes_of, subst, sym, take, unwrap_or, word, ℕ, ⊎_elim, ◌*◌, ◌+◌, ◌-◌, ◌/◌, ◌<◌, ◌∙◌, ◌∷◌, ◌≡◌, ◌≤◌, ◌⊎◌}
 
 -- ---- Headers lie in the journal.
 

@@ -1,8 +1,5 @@
 -- A log that journals pages does so while nothing below the next header changes; and once the header of a segment stands, it journals that too.
-use Rattle.std.proofs.Common.{◌≡◌, ◌⊎◌, inl, inr, ⊎_elim, ℕ, suc, ◌+◌, ◌-◌, ◌<◌, ◌≤◌, List, ◌∷◌, ◌++◌, length, get_or, drop, refl, sym, ◌∙◌, ap, subst, arith, [], append-nil, append_assoc, get_or-take, get_or-drop}
-use Rattle.rollcore.proofs.Words.{Contains, cases_eq, cases_lt, map-append, length-map, Contains-push_cases, part, word, IsPageSize, Database, Pages, page, one_of, is_page_size, HasMagic, Names, header_bytes, Segment, Sizes, sizes_of, IsHeader, AreRecords, AreAll, AreSegments, IsHot, IsJournal, all_records, JournalHeader, size_bounds, part_front, HasHeaderAt, AreWhole, StandsWhole, old_pages, sizes, next_place, AreFull, HasParts, IsJournaled, Tells, IsHeaderOf, IsPrepared, SameBelow}
-use Rattle.rollcore.proofs.journal.EquivalentJournals.{hot_long}
-use Rattle.rollcore.proofs.journal.WholeSegments.{part_at, word_at, end_within, next_of, records_kept, full_kept, full_begun, full_none, full_more, full_join, full_header}
+use Rattle.rollcore.proofs.Below.{AreAll, AreFull, AreRecords, AreSegments, AreWhole, Contains, Contains-push_cases, Database, HasHeaderAt, HasMagic, HasParts, IsHeader, IsHeaderOf, IsHot, IsJournal, IsJournaled, IsPageSize, IsPrepared, JournalHeader, List, Names, Pages, SameBelow, Segment, Sizes, StandsWhole, Tells, [], all_records, ap, append-nil, append_assoc, arith, cases_eq, cases_lt, drop, end_within, full_begun, full_header, full_join, full_kept, full_more, full_none, get_or, get_or-drop, get_or-take, header_bytes, hot_long, inl, inr, is_page_size, length, length-map, map-append, next_of, next_place, old_pages, one_of, page, part, part_at, part_front, records_kept, refl, size_bounds, sizes, sizes_of, subst, suc, sym, word, word_at, ℕ, ⊎_elim, ◌++◌, ◌+◌, ◌-◌, ◌<◌, ◌∙◌, ◌∷◌, ◌≡◌, ◌≤◌, ◌⊎◌}
 use Rattle.rollcore.proofs.journal.SegmentsFromAnyPlace.{magic_or, read, read_header}
 use Rattle.rollcore.proofs.journal.RecordAndHeaderBytes.{gate_same}
 

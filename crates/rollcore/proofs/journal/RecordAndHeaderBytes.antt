@@ -1,7 +1,5 @@
 -- Records and headers as they are written, and what is a header's magic.
-use Rattle.std.proofs.Common.{◌≡◌, ⊎_elim, ℕ, ◌+◌, ◌^◌, ◌<◌, ◌≤◌, List, length, get_or, take, drop, refl, sym, ◌∙◌, ap, arith, length-append, length-drop, take_at, drop_at, drop-drop, get_or-take, get_or-drop, length-take}
-use Rattle.rollcore.proofs.Words.{get_or_past, cases_lt, big_bytes, big_number, part, word, nonce_sum, magic, HasMagic, Sizes, record_len, IsRecord, four, record_bytes}
-use Rattle.rollcore.proofs.journal.WholeSegments.{part_at, word_at}
+use Rattle.rollcore.proofs.Below.{HasMagic, IsRecord, List, Sizes, ap, arith, big_bytes, big_number, cases_lt, drop, drop-drop, drop_at, four, get_or, get_or-drop, get_or-take, get_or_past, length, length-append, length-drop, length-take, magic, nonce_sum, part, part_at, record_bytes, record_len, refl, sym, take, take_at, word, word_at, ℕ, ⊎_elim, ◌+◌, ◌<◌, ◌^◌, ◌∙◌, ◌≡◌, ◌≤◌}
 
 -- ---- The magic.
 

@@ -1,9 +1,6 @@
 -- Records of old pages go into the journal.
-use Rattle.std.proofs.Common.{◌≡◌, inl, inr, ⊎_elim, ℕ, suc, ◌+◌, ◌-◌, ◌*◌, ◌^◌, ◌<◌, ◌≤◌, List, ◌∷◌, ◌++◌, length, get_or, take, drop, refl, sym, ◌∙◌, ap, subst, arith, length-append, length-drop, [], Result, Ok, Err, take_all, drop_at, take_at, length-take-le, append-nil}
-use Rattle.rollcore.proofs.Words.{Contains, drop_all, take_more, map-append, get_or-map, same_number_lists, mul-le-mul_left, mul-le-mul_right, big_bytes, part, most_bytes, Database, page, FileState, byte, written, longest, DiskState, IsSoundDisk, Writes, Looks, Db, Log, DiskError, table, written_inside, written_outside, present_steady, present_written, present_list, Still, present_byte, page_end, size_some, had_refusal, still_looks, refusal_after, nonce_sum, records_end, AreRecords, IsRecord, old_pages, sizes, record_bytes, IsAt, Recording, Recorded, LogsRecord, RecordStep, Harmless, pages_of, AreFresh, Change, RollError, Device}
+use Rattle.rollcore.proofs.Between.{AreFresh, AreRecords, Change, Contains, Database, Db, Device, DiskError, DiskState, Err, FileState, Harmless, IsAt, IsRecord, IsSoundDisk, List, Log, LogsRecord, Looks, Ok, RecordStep, Recorded, Recording, Result, RollError, Still, Writes, [], ap, append-nil, arith, big_bytes, byte, drop, drop_all, drop_at, end_count, get_or, get_or-map, had_refusal, inl, inr, length, length-append, length-drop, length-record, length-take-le, longest, map-append, most_bytes, mul-le-mul_left, mul-le-mul_right, nonce_sum, old_pages, page, page_end, pages_of, part, present_byte, present_list, present_steady, present_written, record_bytes, record_is, records_end, records_more, records_same, refl, refusal_after, same_number_lists, size_some, sizes, still_looks, subst, suc, sym, table, take, take_all, take_at, take_more, written, written_inside, written_outside, ℕ, ⊎_elim, ◌*◌, ◌++◌, ◌+◌, ◌-◌, ◌<◌, ◌^◌, ◌∙◌, ◌∷◌, ◌≡◌, ◌≤◌}
 use Rattle.rollcore.proofs.journal.WritesBehindHeader.{recording_still, recording_writes, recording_unharmed}
-use Rattle.rollcore.proofs.journal.RecordAndHeaderBytes.{length-record, record_is}
-use Rattle.rollcore.proofs.journal.WholeSegments.{records_more, records_same, end_count}
 
 -- ---- The buffer of a record.
 

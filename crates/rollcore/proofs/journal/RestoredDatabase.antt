@@ -1,7 +1,5 @@
 -- What a log that journals pages restores: the database whose pages they are.
-use Rattle.std.proofs.Common.{◌≡◌, ◌≢◌, ◌⊎◌, inl, inr, ⊎_elim, ℕ, zero, suc, ◌+◌, ◌<◌, ◌≤◌, cond, List, ◌∷◌, ◌++◌, length, get_or, reverse, refl, sym, ◌∙◌, ap, subst, arith, [], ◌==◌, Option, Some, None, unwrap_or}
-use Rattle.rollcore.proofs.Words.{Contains, cases_eq, nat_tests, reverse-append, map-append, Contains-push, Contains-append_left, word, IsPageSize, Database, Pages, page, file_page, supplied, file_count, ShowsWhole, HasMagic, Segment, Sizes, AreSegments, IsHot, all_records, last_content, IsRolledBack, size_bounds, zeroed, old_pages, sizes, IsJournaled, Tells, HasOthers, journal_log}
-use Rattle.rollcore.proofs.journal.WholeSegments.{full_begun, full_ends, full_none}
+use Rattle.rollcore.proofs.Below.{AreSegments, Contains, Contains-append_left, Contains-push, Database, HasMagic, HasOthers, IsHot, IsJournaled, IsPageSize, IsRolledBack, List, None, Option, Pages, Segment, ShowsWhole, Sizes, Some, Tells, [], all_records, ap, arith, cases_eq, cond, file_count, file_page, full_begun, full_ends, full_none, get_or, inl, inr, journal_log, last_content, length, map-append, nat_tests, old_pages, page, refl, reverse, reverse-append, size_bounds, sizes, subst, suc, supplied, sym, unwrap_or, word, zero, zeroed, ℕ, ⊎_elim, ◌++◌, ◌+◌, ◌<◌, ◌==◌, ◌∙◌, ◌∷◌, ◌≡◌, ◌≢◌, ◌≤◌, ◌⊎◌}
 use Rattle.rollcore.proofs.journal.SegmentsFromAnyPlace.{stops_or}
 use Rattle.rollcore.proofs.journal.RecordAndHeaderBytes.{magic_byte}
 use Rattle.rollcore.proofs.journal.JournalWithNewHeader.{NamesFirst, sizes_are, begun_hot, old_none}

@@ -1,7 +1,5 @@
 -- From any place on some segments are read.
-use Rattle.std.proofs.Common.{◌≡◌, ◌⊎◌, inl, inr, ⊎_elim, ℕ, zero, suc, ◌+◌, ◌<◌, ◌≤◌, List, [], ◌∷◌, length, refl, sym, ap, subst, arith}
-use Rattle.rollcore.proofs.Words.{bytes_eq, bytes_eq-Decides, cases_Bool, cases_eq, cases_lt, not_from_Decides, part, word, Pages, nonce_sum, magic, HasMagic, Segment, Sizes, to_the_end, record_len, records_end, IsHeader, IsRecord, AreRecords, StopsAtHeader, StopsAtRecord, AreSegments, Why, End, Header, Short, PageZero, Sum, HasHeaderAt, next_place}
-use Rattle.rollcore.proofs.journal.WholeSegments.{next_of}
+use Rattle.rollcore.proofs.Below.{AreRecords, AreSegments, End, HasHeaderAt, HasMagic, Header, IsHeader, IsRecord, List, PageZero, Pages, Segment, Short, Sizes, StopsAtHeader, StopsAtRecord, Sum, Why, [], ap, arith, bytes_eq, bytes_eq-Decides, cases_Bool, cases_eq, cases_lt, inl, inr, length, magic, next_of, next_place, nonce_sum, not_from_Decides, part, record_len, records_end, refl, subst, suc, sym, to_the_end, word, zero, ℕ, ⊎_elim, ◌+◌, ◌<◌, ◌∷◌, ◌≡◌, ◌≤◌, ◌⊎◌}
 
 -- ---- Tests.
 

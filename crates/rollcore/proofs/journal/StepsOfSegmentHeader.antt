@@ -1,9 +1,6 @@
 -- The calls that bring a segment's header durable.
-use Rattle.std.proofs.Common.{◌≡◌, ℕ, ◌+◌, ◌-◌, ◌^◌, ◌≤◌, List, ◌++◌, length, replicate, refl, ◌∙◌, arith, Result, Ok, Err}
-use Rattle.rollcore.proofs.Words.{Database, DiskState, Writes, Syncs, Log, DiskError, had_refusal, refusal_after, Names, header_bytes, JournalHeader, size_bounds, old_pages, sizes, next_place, IsHeaderOf, Unharmed, Harmless, Journaled, Prepared, Heading, AddsPart, Device}
-use Rattle.rollcore.proofs.journal.UnharmedOldDatabase.{sectors_of, unharmed_by}
+use Rattle.rollcore.proofs.Between.{AddsPart, Database, Device, DiskError, DiskState, Err, Harmless, Heading, IsHeaderOf, JournalHeader, Journaled, List, Log, Names, Ok, Prepared, Result, Syncs, Unharmed, Writes, arith, had_refusal, header_bytes, length, next_of, next_place, old_pages, refl, refusal_after, replicate, sectors_of, size_bounds, sizes, unharmed_by, ℕ, ◌++◌, ◌+◌, ◌-◌, ◌^◌, ◌∙◌, ◌≡◌, ◌≤◌}
 use Rattle.rollcore.proofs.journal.WrittenSegmentHeader.{heading_writes, headed, heading_syncs, heading_down}
-use Rattle.rollcore.proofs.journal.WholeSegments.{next_of}
 
 module _ (size sector : ℕ) (d : Database) (named added : List ℕ) (nonce place : ℕ) (h : JournalHeader) (w bytes : List ℕ)
     (few : length added ≤ 64) (head : IsHeaderOf size sector d added nonce h) (names : Names (header_bytes h) h) (padded : bytes ≡ header_bytes h ++ replicate (sector - 28) 0) (long : length bytes ≡ sector) where

@@ -1,6 +1,5 @@
 -- What is left while a segment of the journal is written shows the database from before the commit.
-use Rattle.std.proofs.Common.{◌≡◌, ◌⊎◌, inl, inr, ⊎_elim, ℕ, ◌+◌, ◌*◌, Bool, List, ◌++◌, length, get_or, sym, ◌∙◌, subst, arith}
-use Rattle.rollcore.proofs.Words.{Contains-append_left, word, IsPageSize, Database, page, FileState, IsImage, DiskState, IsSteady, Suits, page_at, page_by_bytes, MayBeRead, Tells, HasOthers, Unharmed, StandOthers, IsAt, image_listed, journal_log}
+use Rattle.rollcore.proofs.Below.{Bool, Contains-append_left, Database, DiskState, FileState, HasOthers, IsAt, IsImage, IsPageSize, IsSteady, List, MayBeRead, StandOthers, Suits, Tells, Unharmed, arith, get_or, image_listed, inl, inr, journal_log, length, page, page_at, page_by_bytes, subst, sym, word, ℕ, ⊎_elim, ◌*◌, ◌++◌, ◌+◌, ◌∙◌, ◌≡◌, ◌⊎◌}
 use Rattle.rollcore.proofs.journal.RestoredDatabase.{shows, sector_told}
 
 pub image_read : (s : DiskState) (w : List ℕ) → MayBeRead journal_log s w → IsImage s.sector s.tears s.log w

@@ -1,6 +1,5 @@
 -- Whole segments of a journal, from a place up to where the next header may stand.
-use Rattle.std.proofs.Common.{◌≡◌, ◌⊎◌, inl, inr, ℕ, ◌+◌, ◌-◌, ◌*◌, ◌/◌, ◌<◌, ◌≤◌, List, [], ◌∷◌, ◌++◌, length, get_or, drop, refl, sym, ◌∙◌, ap, subst, arith, length-drop, ext_get_or, get_or-take, get_or-drop, length-take-le}
-use Rattle.rollcore.proofs.Words.{lt-div-mul-add, big_number, part, word, Pages, next_header, Segment, Sizes, record_len, records_end, IsHeader, IsRecord, AreRecords, AreAll, AreSegments, StopsAtHeader, Why, HasHeaderAt, next_place, AreFull}
+use Rattle.rollcore.proofs.Words.{AreAll, AreFull, AreRecords, AreSegments, HasHeaderAt, IsHeader, IsRecord, List, Pages, Segment, Sizes, StopsAtHeader, Why, [], ap, arith, big_number, drop, ext_get_or, get_or, get_or-drop, get_or-take, inl, inr, length, length-drop, length-take-le, lt-div-mul-add, next_header, next_place, part, record_len, records_end, refl, subst, sym, word, ℕ, ◌*◌, ◌++◌, ◌+◌, ◌-◌, ◌/◌, ◌<◌, ◌∙◌, ◌∷◌, ◌≡◌, ◌≤◌, ◌⊎◌}
 
 -- ---- Parts.
 

@@ -1,8 +1,5 @@
 -- What is written behind the place of a header.
-use Rattle.std.proofs.Common.{◌≡◌, inl, inr, ℕ, ◌+◌, ◌*◌, ◌/◌, ◌<◌, ◌≤◌, Bool, List, length, get_or, sym, ap, subst, arith, Result}
-use Rattle.rollcore.proofs.Words.{div-lt_iff_lt-mul, Database, DiskState, Writes, Syncs, Log, DiskError, settled_one, steady_writes, steady_syncs, Still, sector_some, still_sound, suits_by, suits_writes, suits_syncs, MayBeRead, FileState, IsImage, Meets, Steady, IsSteady, Spreads, IsClear, started, then_write, then_sync, Tells, Unharmed, IsAt, Journaled, Recording, untouched, journal_log}
-use Rattle.rollcore.proofs.journal.UnharmedOldDatabase.{image_read, at_by, unharmed_still}
-use Rattle.rollcore.proofs.journal.JournalWithNewHeader.{journaled_same}
+use Rattle.rollcore.proofs.Between.{Bool, Database, DiskError, DiskState, FileState, IsAt, IsClear, IsImage, IsSteady, Journaled, List, Log, MayBeRead, Meets, Recording, Result, Spreads, Steady, Still, Syncs, Tells, Unharmed, Writes, ap, arith, at_by, div-lt_iff_lt-mul, get_or, image_read, inl, inr, journal_log, journaled_same, length, sector_some, settled_one, started, steady_syncs, steady_writes, still_sound, subst, suits_by, suits_syncs, suits_writes, sym, then_sync, then_write, unharmed_still, untouched, ℕ, ◌*◌, ◌+◌, ◌/◌, ◌<◌, ◌≡◌, ◌≤◌}
 
 -- places in one sector are all below the end of a sector, or none is
 below_sector : (sector k i j : ℕ) → 1 ≤ sector → i < k * sector → j / sector ≡ i / sector → j < k * sector

@@ -1,13 +1,5 @@
 -- The header of a segment is written, and becomes durable.
-use Rattle.std.proofs.Common.{◌≡◌, ◌⊎◌, inl, inr, ⊎_elim, ℕ, ◌+◌, ◌-◌, ◌*◌, ◌/◌, ◌<◌, ◌≤◌, max, Bool, true, false, List, ◌∷◌, ◌++◌, length, get_or, replicate, refl, sym, ◌∙◌, ap, subst, arith, length-append, [], Result, Ok, Err}
-use Rattle.rollcore.proofs.Words.{cases_lt, get_or_append_left, get_or_past, length-replicate, Contains-append_left, div-mul-add, IsPageSize, Database, byte, IsImage, IsSound, WriteTouches, written, Changed, Spreads, Log, DiskError, alters_write, written_inside, present_list, present_written, suits_writes, suits_syncs, MayBeRead, written_read, Names, header_bytes, records_end, JournalHeader, DiskState, ArePresent, Writes, Syncs, SyncedBy, SinceSync, table, comes, settled_one, settled_synced, AreWhole, journal_log, old_pages, sizes, next_place, IsJournaled, Tells, IsHeaderOf, IsAt, Journaled, Prepared, Heading, AddsPart, page_sector, sector_some, present_byte, present_image, log_syncs}
-use Rattle.rollcore.proofs.journal.EquivalentJournals.{hot_long}
-use Rattle.rollcore.proofs.replays.FinalSteps.{sync_down}
-use Rattle.rollcore.proofs.journal.UnharmedOldDatabase.{at_by, sectors_of}
-use Rattle.rollcore.proofs.journal.WholeSegments.{next_of}
-use Rattle.rollcore.proofs.journal.RecordAndHeaderBytes.{gate_same}
-use Rattle.rollcore.proofs.journal.JournalWithNewHeader.{headed_same, headed_new, part_new, headed_cold, headed_torn}
-use Rattle.rollcore.proofs.journal.RestoredDatabase.{journaled_cold}
+use Rattle.rollcore.proofs.Between.{AddsPart, ArePresent, AreWhole, Bool, Changed, Contains-append_left, Database, DiskError, DiskState, Err, Heading, IsAt, IsHeaderOf, IsImage, IsJournaled, IsPageSize, IsSound, JournalHeader, Journaled, List, Log, MayBeRead, Names, Ok, Prepared, Result, SinceSync, Spreads, SyncedBy, Syncs, Tells, WriteTouches, Writes, [], alters_write, ap, arith, at_by, byte, cases_lt, comes, div-mul-add, false, gate_same, get_or, get_or_append_left, get_or_past, headed_cold, headed_new, headed_same, headed_torn, header_bytes, hot_long, inl, inr, journal_log, journaled_cold, length, length-append, length-replicate, log_syncs, max, next_of, next_place, old_pages, page_sector, part_new, present_byte, present_image, present_list, present_written, records_end, refl, replicate, sector_some, sectors_of, settled_one, settled_synced, sizes, subst, suits_syncs, suits_writes, sym, sync_down, table, true, written, written_inside, written_read, ℕ, ⊎_elim, ◌*◌, ◌++◌, ◌+◌, ◌-◌, ◌/◌, ◌<◌, ◌∙◌, ◌∷◌, ◌≡◌, ◌≤◌, ◌⊎◌}
 
 -- a write of one whole sector stays in it
 clear : (s k place n i : ℕ) (tears : Bool) → 1 ≤ s → n ≡ s → place ≡ k * s → (i < place) ⊎ (place + s ≤ i) → Spreads s tears place (place + n) i → ⊥

@@ -1,8 +1,5 @@
 -- A disk on which both files are durable fits the machine's beginning.
-use Rattle.std.proofs.Common.{◌≡◌, inr, ⊎_elim, ℕ, zero, suc, ◌<◌, ◌≤◌, Bool, true, List, [], ◌∷◌, get_or, refl, sym, ◌∙◌, subst, arith}
-use Rattle.rollcore.proofs.Words.{cases_lt, word, IsPageSize, Database, IsJust, IsHeld, IsSectorSize, IsSettled, IsImage, DiskState, IsNew, Suits, IsLogDurable, sound_new, settled_one, down_read, MayBeRead, ShowsWhole, IsHot, start, NamesSectors, FitsDisk, TearsJournal, journal_log}
-use Rattle.rollcore.proofs.openings.ErasedMagic.{magic_long}
-use Rattle.rollcore.proofs.openings.RecoveredFiles.{fits_rested}
+use Rattle.rollcore.proofs.Between.{Bool, Database, DiskState, FitsDisk, IsHeld, IsHot, IsImage, IsJust, IsLogDurable, IsNew, IsPageSize, IsSectorSize, IsSettled, List, MayBeRead, NamesSectors, ShowsWhole, Suits, TearsJournal, [], arith, cases_lt, down_read, fits_rested, get_or, inr, journal_log, magic_long, refl, settled_one, sound_new, start, subst, suc, sym, true, word, zero, ℕ, ⊎_elim, ◌<◌, ◌∙◌, ◌∷◌, ◌≡◌, ◌≤◌}
 
 held_at : (size : ℕ) (base : Database) → IsHeld size base → (i : ℕ) → i < 1 → IsHeld size (get_or (base ∷ []) i [])
 held_at size base held zero lt = held

@@ -1,8 +1,5 @@
 -- What is no run of the machine.
-use Rattle.std.proofs.Common.{◌≡◌, ℕ, zero, suc, ◌<◌, ◌≤◌, List, [], ◌∷◌, length, get_or, refl, subst, arith, inl, inr, Option, true, None}
-use Rattle.rollcore.proofs.Words.{page, IsHeld, Refuses, Show, start, opened, committed, appended, closed, refusal_of, three, NoLostCommit, NoHalf}
-use Rattle.rollcore.proofs.machine.StepsOfRun.{after, opening, first_opening}
-use Rattle.rollcore.proofs.openings.RecoveredFiles.{same_count, same_page}
+use Rattle.rollcore.proofs.Between.{IsHeld, List, NoHalf, NoLostCommit, None, Option, Refuses, Show, [], after, appended, arith, closed, committed, first_opening, get_or, inl, inr, length, opened, opening, page, refl, refusal_of, same_count, same_page, start, subst, suc, three, true, zero, ℕ, ◌<◌, ◌∷◌, ◌≡◌, ◌≤◌}
 
 held_three : (x y z : List ℕ) → length x ≡ 512 → length y ≡ 512 → length z ≡ 512 → IsHeld 512 (x ∷ y ∷ z ∷ [])
 unfolding page

@@ -1,6 +1,5 @@
 -- What a step may answer, and that it leads to one state alone.
-use Rattle.std.proofs.Common.{inl, inr, ℕ, true, false, List, refl, ◌∙◌, ap}
-use Rattle.rollcore.proofs.Words.{Pages, page, Files, Answer, Done, Page, Refused, PlainStep, told, IsOf, refused_of, accepted, IsExpected, newest, Act, Opens, Commits, Reads, Crashes, Sets, State, closed, appended, commit_refusal, read_refusal, OpenStep, CommitStep, ReadStep, Step, expected, takes_memory, needs_disk}
+use Rattle.rollcore.proofs.Words.{Act, Answer, CommitStep, Commits, Crashes, Done, Files, IsExpected, IsOf, List, OpenStep, Opens, Page, Pages, PlainStep, ReadStep, Reads, Refused, Sets, State, Step, accepted, ap, appended, closed, commit_refusal, expected, false, inl, inr, needs_disk, newest, page, read_refusal, refl, refused_of, takes_memory, told, true, ℕ, ◌∙◌}
 
 open_of : (s : State) (found : Files) (answer : Answer) (b a : ℕ) (t : State) → OpenStep s found answer b a t → IsOf Done true true answer b a
 open_of s found Done b a t h = inl refl

@@ -1,7 +1,5 @@
 -- What each step of the machine keeps.
-use Rattle.std.proofs.Common.{◌≡◌, ℕ, ◌+◌, ◌<◌, ◌≤◌, List, ◌∷◌, ◌++◌, length, take, refl, sym, ◌∙◌, ap, subst, arith, length-append, length-take, lit<, [], take-take}
-use Rattle.rollcore.proofs.Words.{take-append-le, Database, apply, Answer, Moment, Runs, newest, Act, State, start, closed, Step, IsSane, Keeps}
-use Rattle.rollcore.proofs.machine.StepTargets.{Targets, step_in}
+use Rattle.rollcore.proofs.Below.{Act, Answer, Database, IsSane, Keeps, List, Moment, Runs, State, Step, Targets, [], ap, apply, arith, closed, length, length-append, length-take, lit<, newest, refl, start, step_in, subst, sym, take, take-append-le, take-take, ℕ, ◌++◌, ◌+◌, ◌<◌, ◌∙◌, ◌∷◌, ◌≡◌, ◌≤◌}
 
 -- ---- The floor is a place of the history.
 

@@ -1,6 +1,5 @@
 -- Where one step may lead.
-use Rattle.std.proofs.Common.{◌≡◌, inl, inr, ℕ, ◌<◌, ◌≤◌, Bool, true, false, List, length, Option, Some, None, refl, sym, subst}
-use Rattle.rollcore.proofs.Words.{Pages, Files, Answer, Done, Page, Refused, Refuses, PlainStep, Act, Opens, Commits, Reads, Crashes, Sets, State, opened, closed, appended, committed, commit_refusal, read_refusal, OpenStep, CommitStep, ReadStep, Step}
+use Rattle.rollcore.proofs.Words.{Act, Answer, Bool, CommitStep, Commits, Crashes, Done, Files, List, None, OpenStep, Opens, Option, Page, Pages, PlainStep, ReadStep, Reads, Refused, Refuses, Sets, Some, State, Step, appended, closed, commit_refusal, committed, false, inl, inr, length, opened, read_refusal, refl, subst, sym, true, ℕ, ◌<◌, ◌≡◌, ◌≤◌}
 
 -- P holds of each state that a step may lead to
 pub record Targets (P : State → Type 0) (s : State) : Type 0 where

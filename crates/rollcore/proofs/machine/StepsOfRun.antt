@@ -1,6 +1,5 @@
 -- The steps of a run, one after another.
-use Rattle.std.proofs.Common.{◌≡◌, ℕ, ◌<◌, ◌≤◌, List, [], ◌∷◌, length, refl, subst, arith}
-use Rattle.rollcore.proofs.Words.{Files, Answer, Done, Moment, Runs, at, Show, Act, Opens, State, opened, start, Step, IsRunOn, three}
+use Rattle.rollcore.proofs.Words.{Act, Answer, Done, Files, IsRunOn, List, Moment, Opens, Runs, Show, State, Step, [], arith, at, length, opened, refl, start, subst, three, ℕ, ◌<◌, ◌∷◌, ◌≡◌, ◌≤◌}
 
 -- these moments are a run on from here
 pub record Leads (s : State) (before : ℕ) (ms : List (Moment Act)) : Type 0 where

@@ -1,7 +1,5 @@
 -- Worked runs, step by step.
-use Rattle.std.proofs.Common.{◌≡◌, ℕ, true, List, ◌∷◌, length, Option, Some, None, refl, inl, inr, lit<, lit≤, []}
-use Rattle.rollcore.proofs.Words.{page, HasCause, Refuses, refuses_first, refusal_of, Committed, Stopped, StoppedLate, CallsRefused}
-use Rattle.rollcore.proofs.machine.StepsOfRun.{end, next, go, on_base}
+use Rattle.rollcore.proofs.Below.{CallsRefused, Committed, HasCause, List, None, Option, Refuses, Some, Stopped, StoppedLate, [], end, go, inl, inr, length, lit<, lit≤, next, on_base, page, refl, refusal_of, refuses_first, true, ℕ, ◌∷◌, ◌≡◌}
 
 -- a commit of a page of the right length
 fits : (content : List ℕ) → length content ≡ 512 → refusal_of 3 512 ((1, content) ∷ []) 1 1 ≡ None

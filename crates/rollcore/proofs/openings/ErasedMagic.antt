@@ -1,10 +1,6 @@
 -- The first byte of a magic is made a zero at the front of a log that isn't hot: no log that may be read is.
-use Rattle.std.proofs.Common.{◌≡◌, inl, inr, ⊎_elim, ℕ, ◌+◌, ◌-◌, ◌/◌, ◌<◌, ◌≤◌, max, Bool, true, false, List, ◌∷◌, length, get_or, take, drop, refl, sym, ◌∙◌, ap, subst, arith, length-drop, length-take, [], Result, Ok, Err, get_or-take, get_or-drop, ext_get_or}
-use Rattle.rollcore.proofs.Words.{Contains, get_or-append_right, Contains-push_cases, cases_lt, word, Database, IsPageSize, FileState, byte, IsImage, IsSound, WriteTouches, written, Changed, IsSectorSize, DiskState, IsSoundDisk, ArePresent, Writes, InFile, Log, DiskError, settled_one, written_inside, written_outside, present_written, IsLogDurable, Still, Later, SyncStep, still_sound, refusal_after, down_by, down_present, present_byte, sync_refused, down_read, may_down, ShowsAlone, shows_by, narrows_syncs, written_read, HasMagic, IsHot, alters_write, whole_write, AreWhole, Show, journal_log, ShowsOne, LosesMagic, PutsZero, BreakSteps, AreCold, FrontAnswer, RollError, Device}
-use Rattle.rollcore.proofs.journal.EquivalentJournals.{zeros_cold, part_same, word_same}
+use Rattle.rollcore.proofs.Below.{AreCold, ArePresent, AreWhole, Bool, BreakSteps, Changed, Contains, Contains-push_cases, Database, Device, DiskError, DiskState, Err, FileState, FrontAnswer, HasMagic, InFile, IsHot, IsImage, IsLogDurable, IsPageSize, IsSectorSize, IsSound, IsSoundDisk, Later, List, Log, LosesMagic, Ok, PutsZero, Result, RollError, Show, ShowsAlone, ShowsOne, Still, SyncStep, WriteTouches, Writes, [], alters_write, ap, arith, byte, cases_lt, down_by, down_present, down_read, drop, ext_get_or, false, get_or, get_or-append_right, get_or-drop, get_or-take, goes_broken, inl, inr, journal_log, length, length-drop, length-take, max, may_down, narrows_syncs, part_same, present_byte, present_written, refl, refusal_after, settled_one, shows_by, still_sound, subst, sym, sync_down, sync_refused, take, true, whole_write, word, word_same, written, written_inside, written_outside, written_read, zeros_cold, ℕ, ⊎_elim, ◌+◌, ◌-◌, ◌/◌, ◌<◌, ◌∙◌, ◌∷◌, ◌≡◌, ◌≤◌}
 use Rattle.rollcore.proofs.crash.ImagesOfSyncedLog.{down_left}
-use Rattle.rollcore.proofs.replays.FinalSteps.{sync_down}
-use Rattle.rollcore.proofs.disk.InvariantsOfCalls.{goes_broken}
 
 -- a log with a magic at its front has eight bytes
 pub magic_long : (w : List ℕ) → HasMagic w 0 → 8 ≤ length w

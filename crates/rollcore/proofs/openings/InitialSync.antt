@@ -1,6 +1,5 @@
 -- An opening syncs the log before anything else.
-use Rattle.std.proofs.Common.{◌≡◌, inl, inr, subst, ℕ, Result, Ok, Err, MatchResult}
-use Rattle.rollcore.proofs.Words.{DiskState, Syncs, Log, DiskError, SyncStep, told_err, told_ok, Agrees, AgreesSynced, RefusedSynced, RollError, Device, journal_log}
+use Rattle.rollcore.proofs.Words.{Agrees, AgreesSynced, Device, DiskError, DiskState, Err, Log, MatchResult, Ok, RefusedSynced, Result, RollError, SyncStep, Syncs, inl, inr, journal_log, subst, told_err, told_ok, ℕ, ◌≡◌}
 
 -- what an opening does, by its answer
 abbrev pub Opens : {U : Type 0} → Result U RollError → (old new : DiskState) → Type 0

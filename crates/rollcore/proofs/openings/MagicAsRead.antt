@@ -1,6 +1,5 @@
 -- What stands where a magic may stand, as it is read.
-use Rattle.std.proofs.Common.{◌≡◌, ⊎_elim, inl, inr, ℕ, ◌+◌, ◌<◌, ◌≤◌, Bool, List, ◌∷◌, length, get_or, take, drop, refl, sym, ◌∙◌, ap, subst, arith, length-drop, [], Result, Err, ext_get_or, get_or-take, get_or-drop, length-take-le}
-use Rattle.rollcore.proofs.Words.{cases_lt, part, FileState, byte, longest, DiskState, IsSoundDisk, ArePresent, Writes, Looks, Log, DiskError, Still, present_byte, had_refusal, refusal_after, still_looks, still_sound, HasMagic, magic, byte_past, PutsZero, BreakSteps, RollError, Device}
+use Rattle.rollcore.proofs.Words.{ArePresent, Bool, BreakSteps, Device, DiskError, DiskState, Err, FileState, HasMagic, IsSoundDisk, List, Log, Looks, PutsZero, Result, RollError, Still, Writes, [], ap, arith, byte, byte_past, cases_lt, drop, ext_get_or, get_or, get_or-drop, get_or-take, had_refusal, inl, inr, length, length-drop, length-take-le, longest, magic, part, present_byte, refl, refusal_after, still_looks, still_sound, subst, sym, take, ℕ, ⊎_elim, ◌+◌, ◌<◌, ◌∙◌, ◌∷◌, ◌≡◌, ◌≤◌}
 
 module _ (w : List ℕ) (s : FileState) (at : ℕ) (front : List ℕ) (are : ArePresent s w) (eight : length front ≡ 8) (same : (i : ℕ) → i < length front → get_or front i 0 ≡ byte s (at + i)) where
   read_byte : (i : ℕ) → i < 8 → get_or front i 0 ≡ get_or w (at + i) 0

@@ -1,13 +1,8 @@
 -- What an opening has recovered, by its steps.
-use Rattle.std.proofs.Common.{◌≡◌, inl, inr, ⊎_elim, ℕ, ◌+◌, ◌-◌, ◌*◌, ◌<◌, ◌≤◌, Bool, true, false, cond, List, length, get_or, take, refl, sym, ◌∙◌, ap, subst, arith, Option, unwrap_or, [], Result, Ok, Err, IsTrue, Some, MatchOption, get_or-take, ext_get_or, length-take-le}
-use Rattle.rollcore.proofs.Words.{cases_eq, word, most_bytes, IsHeld, FileState, byte, IsImage, DiskState, IsSoundDisk, ArePresent, table, present_list, Suits, IsLogDurable, Still, SyncStep, Files, may_down, down_read, unwritten_begins, unwritten_still, unwritten_shows, present_image, down_present, down_by, file_syncs, sync_refused, Log, size_some, file_count, refusal_after, sector_within, AreFiles, MayRefuse, may_after, ShowsAlone, MayBeRead, ShowsWhole, shows_by, narrows_syncs, narrows_still, at, last, newest, Database, page, file_page, HasMagic, Segment, IsHot, all_records, last_content, one_journal, Show, journal_log, MayRecover, Asks, IsBelow, IsSmall, IsPlanWithin, PlanAnswer, ReadAnswer, zeroed, torn_sector, RolledAnswer, State, opened, closed, number_of, ShowsHistory, FitsDisk, Rests, OpenedTo, GivenUpTo, Core, EndsBy, ShowsOne, CountAnswer, SizeJudged, FrontAnswer, RecoverAnswer, RecoveredAt, IsNewCore, Plan, Replayed, RollError, TooLarge, PageSize, NoMemory, Device, SectorAbovePage}
+use Rattle.rollcore.proofs.Below.{AreFiles, ArePresent, Asks, Bool, Core, CountAnswer, Database, Device, DiskState, EndsBy, Err, FileState, Files, FitsDisk, FrontAnswer, GivenUpTo, HasMagic, IsBelow, IsHeld, IsHot, IsImage, IsLogDurable, IsNewCore, IsPlanWithin, IsSmall, IsSoundDisk, IsTrue, List, Log, MatchOption, MayBeRead, MayRecover, MayRefuse, NoMemory, Ok, OpenedTo, Option, PageSize, Plan, PlanAnswer, ReadAnswer, RecoverAnswer, RecoveredAt, Replayed, Rests, Result, RollError, RolledAnswer, SectorAbovePage, Segment, Show, ShowsAlone, ShowsHistory, ShowsOne, ShowsWhole, SizeJudged, Some, State, Still, Suits, SyncStep, TooLarge, [], all_records, ap, arith, asks_err, asks_step, asks_then, at, byte, cases_eq, closed, cond, down_by, down_present, down_read, ends_narrow, ext_get_or, false, file_count, file_page, file_syncs, get_or, get_or-take, history_narrows, inl, inr, journal_log, last, last_content, length, length-take-le, may_after, may_down, most_bytes, narrows_still, narrows_syncs, newest, number_of, one_journal, opened, page, present_image, present_list, refl, refusal_after, sector_within, sectors_narrow, shows_by, size_some, subst, suits_go, sym, sync_down, sync_refused, table, take, torn_sector, true, unwrap_or, unwritten_begins, unwritten_shows, unwritten_still, word, zeroed, ℕ, ⊎_elim, ◌*◌, ◌+◌, ◌-◌, ◌<◌, ◌∙◌, ◌≡◌, ◌≤◌}
 use Rattle.rollcore.proofs.openings.ErasedMagic.{zero_gate, lost_magic, cold_one}
 use Rattle.rollcore.proofs.crash.ImagesOfSyncedLog.{down_left}
 use Rattle.rollcore.proofs.replays.LengthOfDatabaseFile.{ends_down, named_by}
-use Rattle.rollcore.proofs.replays.FinalSteps.{sync_down}
-use Rattle.rollcore.proofs.disk.ToldRefusals.{asks_err, asks_step, asks_then}
-use Rattle.rollcore.proofs.disk.InvariantsOfCalls.{suits_go}
-use Rattle.rollcore.proofs.crash.NarrowedImages.{ends_narrow, history_narrows, sectors_narrow}
 use Rattle.rollcore.proofs.replays.AnswerOfParts.{zeroed_zero, within_some}
 
 -- with no header at the front of the log that is durable the file is just the database

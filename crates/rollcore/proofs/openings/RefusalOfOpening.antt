@@ -1,8 +1,6 @@
 -- What refuses an opening, whatever stands on the disk.
-use Rattle.std.proofs.Common.{◌≡◌, ◌⊎◌, inl, inr, ⊎_elim, ℕ, ◌<◌, ◌≤◌, Bool, true, false, cond, List, length, refl, sym, ◌∙◌, ap, subst, arith, Result, Ok, Err, IfErr, Option}
-use Rattle.rollcore.proofs.Words.{word, FileState, DiskState, IsSoundDisk, ArePresent, Syncs, InFile, Log, DiskError, HadRefusal, KeepsBytes, IsLogDurable, Still, TearsPages, Later, SyncStep, most_bytes, sync_refused, told_ok, sync_later, refusal_after, present_in, present_synced, if_err, still_bytes, IsHot, torn_sector, RolledAnswer, IsFit, IsWithin, PlanAnswer, ReadAnswer, TearsJournal, IsAboveLimit, RefusedFor, MayOpen, LeavesFiles, CountAnswer, SizeJudged, BreakSteps, FrontAnswer, FilesAnswer, Plan, Replayed, RollError, TooLarge, PageSize, NoMemory, Device, SectorAbovePage}
+use Rattle.rollcore.proofs.Below.{ArePresent, Bool, BreakSteps, CountAnswer, Device, DiskError, DiskState, Err, FileState, FilesAnswer, FrontAnswer, HadRefusal, IfErr, InFile, IsAboveLimit, IsFit, IsHot, IsLogDurable, IsSoundDisk, IsWithin, KeepsBytes, Later, LeavesFiles, List, Log, MayOpen, NoMemory, Ok, Option, PageSize, Plan, PlanAnswer, ReadAnswer, RefusedFor, Replayed, Result, RollError, RolledAnswer, SectorAbovePage, SizeJudged, Still, SyncStep, Syncs, TearsJournal, TearsPages, TooLarge, ap, arith, cond, false, if_err, inl, inr, length, most_bytes, present_in, present_synced, refl, refusal_after, still_bytes, subst, sym, sync_down, sync_later, sync_refused, told_ok, torn_sector, true, word, ℕ, ⊎_elim, ◌<◌, ◌∙◌, ◌≡◌, ◌≤◌, ◌⊎◌}
 use Rattle.rollcore.proofs.replays.AnswerOfParts.{tears_by, fits_whole, short, small}
-use Rattle.rollcore.proofs.replays.FinalSteps.{sync_down}
 
 pub from_err : {T : Type 0} (q : Result T RollError) (e : RollError) (P : RollError → Type 0) → q ≡ Err e → IfErr q P → P e
 from_err {T = T} q e P is p = subst (λ (x : Result T RollError). IfErr x P) is p

@@ -1,8 +1,6 @@
 -- What a read answers is what the newest database has.
-use Rattle.std.proofs.Common.{◌≡◌, ℕ, ◌+◌, ◌-◌, ◌*◌, ◌<◌, ◌≤◌, false, List, length, get_or, refl, sym, ◌∙◌, ap, subst, arith, Result, Ok, Err, IfErr, Some, None}
-use Rattle.rollcore.proofs.Words.{mul-le-mul_right, page, Answer, Page, Refused, byte, longest, DiskState, IsSoundDisk, Db, table, image_present, present_list, SameFiles, Still, TellsRefusal, present_byte, down_by, page_by_bytes, page_end, calls_wider, suits_by, none_above, is_zero, is_above, is_closed, refuses_first, refuses_cause, answered, newest, State, Act, Reads, Step, read_refusal, number_of, PlaceAnswer, ReadJudged, ReadAnswers, FitsDisk, IsCore, FitsCore, Rests, StepsTo, RollError, Closed, PageAboveSize, BadLength, Device, Core, still, same_files, same_sound, image_same, present_in, narrows_same, journal_log}
+use Rattle.rollcore.proofs.Below.{Act, Answer, BadLength, Closed, Core, Db, Device, DiskState, Err, FitsCore, FitsDisk, IfErr, IsCore, IsSoundDisk, List, None, Ok, Page, PageAboveSize, PlaceAnswer, ReadAnswers, ReadJudged, Reads, Refused, Rests, Result, RollError, SameFiles, Some, State, Step, StepsTo, Still, TellsRefusal, answered, ap, arith, byte, calls_wider, down_by, false, get_or, history_narrows, image_present, image_same, is_above, is_closed, is_zero, journal_log, length, longest, mul-le-mul_right, narrows_same, newest, none_above, number_of, page, page_by_bytes, page_end, present_byte, present_in, present_list, read_refusal, refl, refuses_cause, refuses_first, same_files, same_sound, sectors_narrow, still, subst, suits_by, sym, table, ℕ, ◌*◌, ◌+◌, ◌-◌, ◌<◌, ◌∙◌, ◌≡◌, ◌≤◌}
 use Rattle.rollcore.specs.declared.error.RollError.TheVariants.{PageZero}
-use Rattle.rollcore.proofs.crash.NarrowedImages.{history_narrows, sectors_narrow}
 
 -- ---- what fits a core still fits after calls that change nothing
 

@@ -1,10 +1,6 @@
 -- What a replay answers, of its parts.
-use Rattle.std.proofs.Common.{◌≡◌, ◌⊎◌, ⊎_elim, ℕ, ◌+◌, ◌-◌, ◌*◌, ◌<◌, ◌≤◌, Bool, true, false, cond, List, length, get_or, drop, replicate, refl, sym, ◌∙◌, ap, subst, arith, [], Result, Ok, Err, Option, MatchOption, Some, None, IsTrue, ext_get_or}
-use Rattle.rollcore.proofs.Words.{flat_map, get_or_append_left, get_or-replicate, length-replicate, mul-le-mul_right, word, FileState, byte, IsSettled, longest, DiskState, IsSoundDisk, ArePresent, Syncs, Looks, Log, DiskError, table, present_list, KeepsBytes, Still, refusal_after, present_in, had_refusal, down_by, down_syncs, Unwritten, ArePages, Database, page, IsHot, IsRolledBack, HasCount, byte_below, TearsJournal, IsTooLargeWithin, zeroed, IsIdle, ReplayAnswer, torn_sector, EndAnswer, RolledAnswer, IsBelow, IsFit, IsPlan, IsPlanWithin, IsWithin, PlanAnswer, ReadAnswer, Plan, Replayed, RollError, TooLarge, NoMemory, Device, SectorAbovePage, has_count, journal_log, Writing, CopyAnswer}
-use Rattle.rollcore.proofs.journal.EquivalentJournals.{hot_long, zeros_cold}
+use Rattle.rollcore.proofs.Below.{ArePages, ArePresent, Bool, CopyAnswer, Database, Device, DiskError, DiskState, EndAnswer, Err, FileState, HasCount, IsBelow, IsFit, IsHot, IsIdle, IsPlan, IsPlanWithin, IsRolledBack, IsSettled, IsSoundDisk, IsTooLargeWithin, IsTrue, IsWithin, KeepsBytes, List, Log, Looks, MatchOption, NoMemory, None, Ok, Option, Plan, PlanAnswer, ReadAnswer, ReplayAnswer, Replayed, Result, RollError, RolledAnswer, SectorAbovePage, Some, Still, Syncs, TearsJournal, TooLarge, Unwritten, Writing, [], ap, arith, byte, byte_below, cond, down_by, down_syncs, drop, ext_get_or, false, flat_is, flat_map, get_or, get_or-replicate, get_or_append_left, had_refusal, had_refusal_any, has_count, hot_long, journal_log, length, length-replicate, longest, made_length, mul-le-mul_right, page, present_in, present_list, refl, refusal_after, replicate, rolled_exists, subst, sym, table, torn_sector, true, word, zeroed, zeros_cold, ℕ, ⊎_elim, ◌*◌, ◌+◌, ◌-◌, ◌<◌, ◌∙◌, ◌≡◌, ◌≤◌, ◌⊎◌}
 use Rattle.rollcore.proofs.replays.DecisivePrefixOfJournal.{read_count}
-use Rattle.rollcore.proofs.replays.ScanOfLogPrefix.{had_refusal_any}
-use Rattle.rollcore.proofs.replays.LastRecordOfPage.{flat_is, made_length, rolled_exists}
 
 -- ---- What is planned is replayed.
 

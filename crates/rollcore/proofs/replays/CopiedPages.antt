@@ -1,8 +1,6 @@
 -- The copying of records.
-use Rattle.std.proofs.Common.{◌≡◌, ◌⊎◌, ℕ, ◌+◌, ◌-◌, ◌*◌, ◌<◌, ◌≤◌, List, length, take, sym, ◌∙◌, ap, subst, arith, Some, None, slice_get, unwrap_or, take_all}
-use Rattle.rollcore.proofs.Words.{take-map, write, set_len, sync, part, word, Database, Pages, page, file_page, Db, Log, MayFill, IsMade, Segment, IsHot, IsJournal, sizes_of, HasEntry, Why, all_records, last_content, IsRolledBack, Record, content_at, one_journal, MayReplayWithin, Records, IsReplay, IsLeft, record_plan}
+use Rattle.rollcore.proofs.Below.{Database, Db, HasEntry, IsHot, IsJournal, IsLeft, IsMade, IsReplay, IsRolledBack, List, Log, MayFill, MayReplayWithin, None, Pages, Record, Records, Segment, Some, Why, all_records, ap, arith, content_at, count_is, entries_of, entry_is, entry_named, entry_within, file_page, last_content, length, made, made_all, made_apart, made_other, made_run, one_journal, page, part, record_plan, records_are, records_of, set_len, sizes_of, slice_get, subst, sym, sync, take, take-map, take_all, unwrap_or, word, write, ℕ, ◌*◌, ◌+◌, ◌-◌, ◌<◌, ◌∙◌, ◌≡◌, ◌≤◌, ◌⊎◌}
 use Rattle.crashdisk.specs.Call.{Change}
-use Rattle.rollcore.proofs.replays.LastRecordOfPage.{made, made_other, made_apart, made_run, made_all, records_of, entries_of, records_are, entry_is, entry_within, entry_named, count_is}
 
 -- what is asked for where pages are copied
 pub replay_may : (most size : ℕ) (change : Change) → MayFill most size change → MayReplayWithin most size change

@@ -1,9 +1,6 @@
 -- A journal of which a front was read behind which no bytes change what it says.
-use Rattle.std.proofs.Common.{◌≡◌, inr, ⊎_elim, ℕ, ◌+◌, ◌≤◌, List, [], ◌∷◌, ◌++◌, length, refl, sym, ◌∙◌, ap, subst, arith, length-append, Option, Some, None, append-nil}
-use Rattle.rollcore.proofs.Words.{cases_lt, word, IsPageSize, next_header, Names, Segment, Sizes, sizes_of, records_end, AreSegments, IsHot, IsFirst, entries, entry_of, Took, Says, HasEntry, HasCount, JournalHeader, Record, Why, End, Header, Replay, Stop, size_bounds, part_more, word_more, HasRead}
+use Rattle.rollcore.proofs.Below.{AreSegments, End, HasCount, HasEntry, HasRead, Header, IsFirst, IsHot, IsPageSize, JournalHeader, List, Names, None, Option, Record, Replay, Says, Segment, Sizes, Some, Stop, Took, Why, [], ap, append-nil, arith, cases_lt, end_above, entries, entry_of, hot_long, inr, length, length-append, next_header, next_of, part_more, records_end, refl, size_bounds, sizes_of, subst, sym, word, word_more, ℕ, ⊎_elim, ◌++◌, ◌+◌, ◌∙◌, ◌∷◌, ◌≡◌, ◌≤◌}
 use Rattle.sqjournal.specs.Took.{IsSettled}
-use Rattle.rollcore.proofs.journal.EquivalentJournals.{hot_long}
-use Rattle.rollcore.proofs.journal.WholeSegments.{end_above, next_of}
 
 -- ---- The front is hot where the journal is.
 

@@ -1,6 +1,5 @@
 -- The end of a replay: the database is synced, and the journal's first header zeroed and synced.
-use Rattle.std.proofs.Common.{◌≡◌, inr, ⊎_elim, ℕ, ◌+◌, ◌-◌, ◌≤◌, List, length, get_or, drop, replicate, refl, sym, ◌∙◌, ap, subst, arith, lit≤, length-append, length-drop, Result, Ok, Err, get_or-drop}
-use Rattle.rollcore.proofs.Words.{length-replicate, get_or-replicate, get_or_append_left, get_or-append_right, cases_lt, FileState, DiskState, IsSoundDisk, ArePresent, Writes, Syncs, InFile, Db, Log, DiskError, present_written, written_inside, written_outside, sound_writes, IsLogDurable, Later, SyncStep, present_byte, synced_down, told_ok, none_ok, sync_later, ZeroSteps, EndSteps, ended, end_refused, end_settled, zeroed, EndAnswer, RollError, Device}
+use Rattle.rollcore.proofs.Words.{ArePresent, Db, Device, DiskError, DiskState, EndAnswer, EndSteps, Err, FileState, InFile, IsLogDurable, IsSoundDisk, Later, List, Log, Ok, Result, RollError, SyncStep, Syncs, Writes, ZeroSteps, ap, arith, cases_lt, drop, end_refused, end_settled, ended, get_or, get_or-append_right, get_or-drop, get_or-replicate, get_or_append_left, inr, length, length-append, length-drop, length-replicate, lit≤, none_ok, present_byte, present_written, refl, replicate, sound_writes, subst, sym, sync_later, synced_down, told_ok, written_inside, written_outside, zeroed, ℕ, ⊎_elim, ◌+◌, ◌-◌, ◌∙◌, ◌≡◌, ◌≤◌}
 
 module _ {T : Type 0} where
   -- ---- The header is zeroed.

@@ -1,6 +1,5 @@
 -- The records of a journal: which is the last that names a page, and the database that they restore.
-use Rattle.std.proofs.Common.{◌≡◌, ◌≢◌, ◌⊎◌, inl, inr, ⊎_elim, ℕ, zero, suc, ◌+◌, ◌-◌, ◌*◌, ◌<◌, ◌≤◌, Bool, true, false, cond, List, ◌∷◌, ◌++◌, map, length, get_or, take, drop, reverse, refl, sym, ◌∙◌, ap, subst, arith, length-drop, [], Option, Some, None, unwrap_or, slice_get, ◌==◌, get_or-drop, get_or-take, take-append-drop, length-take-le, ext_get_or}
-use Rattle.rollcore.proofs.Words.{range_with_len, flat_map, reverse-append, map-append, take-add, get_or_from_slice_get, slice_get-get_or, slice_get_within, get_or-map-range_with_len, length-map-range_with_len, cases_lt, nat_tests, part, word, length-file_page, Database, Pages, page, file_page, supplied, next_header, Segment, Sizes, sizes_of, record_len, records_end, AreRecords, AreSegments, IsHot, IsJournal, placed, entries, entry_of, all_records, last_content, IsRolledBack, HasEntry, HasCount, Record, Why, content_at, contents, one_journal}
+use Rattle.rollcore.proofs.Words.{AreRecords, AreSegments, Bool, Database, HasCount, HasEntry, IsHot, IsJournal, IsRolledBack, List, None, Option, Pages, Record, Segment, Sizes, Some, Why, [], all_records, ap, arith, cases_lt, cond, content_at, contents, drop, entries, entry_of, ext_get_or, false, file_page, flat_map, get_or, get_or-drop, get_or-map-range_with_len, get_or-take, get_or_from_slice_get, inl, inr, last_content, length, length-drop, length-file_page, length-map-range_with_len, length-take-le, map, map-append, nat_tests, next_header, one_journal, page, part, placed, range_with_len, record_len, records_end, refl, reverse, reverse-append, sizes_of, slice_get, slice_get-get_or, slice_get_within, subst, suc, supplied, sym, take, take-add, take-append-drop, true, unwrap_or, word, zero, ℕ, ⊎_elim, ◌*◌, ◌++◌, ◌+◌, ◌-◌, ◌<◌, ◌==◌, ◌∙◌, ◌∷◌, ◌≡◌, ◌≢◌, ◌≤◌, ◌⊎◌}
 
 -- ---- Lists.
 

@@ -1,9 +1,5 @@
 -- How long the file is that may be left, while a journal is replayed into it.
-use Rattle.std.proofs.Common.{◌≡◌, ⊎_elim, ℕ, ◌*◌, ◌≤◌, Bool, true, false, cond, List, ◌∷◌, length, get_or, replicate, sym, ◌∙◌, ap, subst, arith, [], refl, Result, Ok}
-use Rattle.rollcore.proofs.Words.{length-replicate, word, Database, IsImage, IsSound, IsSectorSize, DiskState, IsSoundDisk, Writes, Syncs, InFile, sound_writes, Db, Log, DiskError, image_elsewhere, IsLogDurable, IsLong, Later, SyncStep, sector_some, down_syncs, sync_later, down_read, may_down, zero_at, ArePages, ZeroSteps, MayBeRead, narrows_syncs, Overwritten, written_read, IsHot, IsRolledBack, AreWhole, journal_log, torn_sector, IsFit, EndsBy, EndSteps, long_done, RollError, Device}
-use Rattle.rollcore.proofs.journal.EquivalentJournals.{SameBehind, word_same}
-use Rattle.rollcore.proofs.disk.InvariantsOfCalls.{sectors_go}
-use Rattle.rollcore.proofs.crash.NarrowedImages.{ends_narrow}
+use Rattle.rollcore.proofs.Below.{ArePages, AreWhole, Bool, Database, Db, Device, DiskError, DiskState, EndSteps, EndsBy, InFile, IsFit, IsHot, IsImage, IsLogDurable, IsLong, IsRolledBack, IsSectorSize, IsSound, IsSoundDisk, Later, List, Log, MayBeRead, Ok, Overwritten, Result, RollError, SameBehind, SyncStep, Syncs, Writes, ZeroSteps, [], ap, arith, cond, down_read, down_syncs, ends_narrow, false, get_or, image_elsewhere, journal_log, length, length-replicate, long_done, may_down, narrows_syncs, refl, replicate, sector_some, sectors_go, sound_writes, subst, sym, sync_later, torn_sector, true, word, word_same, written_read, zero_at, ℕ, ⊎_elim, ◌*◌, ◌∙◌, ◌∷◌, ◌≡◌, ◌≤◌}
 use Rattle.rollcore.proofs.replays.ZeroedHeader.{zeroed_listed, zeroed_torn}
 
 -- where a hot journal names no smaller sectors than those that tear

@@ -1,7 +1,5 @@
 -- The parts of a replay keep what shows one database.
-use Rattle.std.proofs.Common.{◌≡◌, ⊎_elim, ℕ, ◌≤◌, Bool, true, cond, List, length, get_or, sym, ◌∙◌, ap, subst, arith, Result, Ok, Option, Some, unwrap_or}
-use Rattle.rollcore.proofs.Words.{word, IsPageSize, Database, page, file_page, get_or-file_page, byte, IsSectorSize, DiskState, IsSoundDisk, IsLogDurable, Suits, SyncStep, Db, table, image_present, suits_syncs, down_syncs, ShowsAlone, Agrees, ArePages, Unwritten, Filling, Segment, IsHot, all_records, last_content, IsRolledBack, one_journal, unwritten_begins, restoring_by, restoring_shows, restoring_syncs, restored_step, KeepsLog, down_by, filling_wider, IsLacking, journal_log, Unnamed, Writing, Filed, IsFit, torn_sector, RollError, Device}
-use Rattle.rollcore.proofs.replays.LastRecordOfPage.{made_length, named_or}
+use Rattle.rollcore.proofs.Below.{Agrees, ArePages, Bool, Database, Db, Device, DiskState, Filed, Filling, IsFit, IsHot, IsLacking, IsLogDurable, IsPageSize, IsRolledBack, IsSectorSize, IsSoundDisk, KeepsLog, List, Ok, Option, Result, RollError, Segment, ShowsAlone, Some, Suits, SyncStep, Unnamed, Unwritten, Writing, all_records, ap, arith, byte, cond, down_by, down_syncs, file_page, filling_wider, get_or, get_or-file_page, image_present, journal_log, last_content, length, made_length, named_or, one_journal, page, restored_step, restoring_by, restoring_shows, restoring_syncs, subst, suits_syncs, sym, table, torn_sector, true, unwrap_or, unwritten_begins, word, ℕ, ⊎_elim, ◌∙◌, ◌≡◌, ◌≤◌}
 
 pub agrees_by : (old new : DiskState) → ((size : ℕ) (w : List ℕ) (d : Database) → Unwritten journal_log size d w old → ShowsAlone journal_log size d new) → (size : ℕ) → Agrees journal_log size old new
 agrees_by old new shows size w d durable alone = shows size w d (unwritten_begins journal_log size d w old durable alone)

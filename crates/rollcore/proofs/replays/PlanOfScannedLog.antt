@@ -1,6 +1,5 @@
 -- What a scanned journal is judged by, and what is planned of it.
-use Rattle.std.proofs.Common.{◌≡◌, ◌⊎◌, inl, inr, ⊎_elim, ℕ, ◌*◌, ◌/◌, ◌%◌, ◌<◌, ◌≤◌, List, sym, ◌∙◌, ap, subst, arith, Option, Some, None, Result, Ok, Err}
-use Rattle.rollcore.proofs.Words.{div-mul-le_self, mod-eq-sub-div-mul, word, DiskState, Names, IsHot, JournalHeader, Replay, HasRead, ScanRefused, journal_scan, JudgeAnswer, PlanAnswer, ReadAnswer, Plan, RollError, TooLarge, NoMemory, Device, SectorAbovePage, ScanAnswer}
+use Rattle.rollcore.proofs.Words.{Device, DiskState, Err, HasRead, IsHot, JournalHeader, JudgeAnswer, List, Names, NoMemory, None, Ok, Option, Plan, PlanAnswer, ReadAnswer, Replay, Result, RollError, ScanAnswer, ScanRefused, SectorAbovePage, Some, TooLarge, ap, arith, div-mul-le_self, inl, inr, journal_scan, mod-eq-sub-div-mul, subst, sym, word, ℕ, ⊎_elim, ◌%◌, ◌*◌, ◌/◌, ◌<◌, ◌∙◌, ◌≡◌, ◌≤◌, ◌⊎◌}
 
 module _ (most torn : ℕ) (w : List ℕ) (hot : IsHot w) (h : JournalHeader) (names : Names w h) where
   bytes_of : h.first_size * h.page_size ≡ word w 16 * word w 24

@@ -1,9 +1,7 @@
 -- What a scan of the first bytes of a log says of the log, and the count of refused calls.
-use Rattle.std.proofs.Common.{◌≡◌, inl, inr, ⊎_elim, ℕ, ◌+◌, ◌-◌, ◌^◌, ◌<◌, ◌≤◌, min, List, ◌++◌, length, take, drop, refl, sym, ◌∙◌, ap, subst, arith, Bool, true, false, Result, Ok, Err, length-take-le, take-take, take-append-drop}
-use Rattle.rollcore.proofs.Words.{cases_lt, IsPageSize, part, word, longest, DiskError, HadRefusal, IsRefused, IsHot, JournalError, NotAJournal, SectorSize, TooLong, word_part, DiskState, EndsWithin, counted, Failed, IsWithoutHeader, ScanRefused, HasRead, journal_scan, RollError, TooLarge, Took, Replay, PieceAnswer, ScanAnswer}
+use Rattle.rollcore.proofs.Words.{Bool, DiskError, DiskState, EndsWithin, Err, Failed, HadRefusal, HasRead, IsHot, IsPageSize, IsRefused, IsWithoutHeader, JournalError, List, NotAJournal, Ok, PieceAnswer, Replay, Result, RollError, ScanAnswer, ScanRefused, SectorSize, TooLarge, TooLong, Took, WalNoMemory, ap, arith, cases_lt, counted, drop, false, inl, inr, journal_scan, length, length-take-le, longest, min, part, refl, subst, sym, take, take-append-drop, take-take, true, word, word_part, ℕ, ⊎_elim, ◌++◌, ◌+◌, ◌-◌, ◌<◌, ◌^◌, ◌∙◌, ◌≡◌, ◌≤◌}
 use Rattle.sqjournal.specs.declared.error.JournalError.TheVariants.{PageSize, NoMemory}
 use Rattle.crashdisk.specs.declared.error.DiskError.TheVariants.{Stopped, TooLong as DiskTooLong, NoMemory as DiskNoMemory}
-use Rattle.rollcore.specs.declared.error.RollError.TheVariants.{NoMemory as WalNoMemory}
 use Rattle.sqjournal.specs.Took.{Refuses, IsSettled}
 
 magic_front : (w : List ℕ) (n : ℕ) → n ≤ length w → 28 ≤ n → part (take n w) 0 8 ≡ part w 0 8

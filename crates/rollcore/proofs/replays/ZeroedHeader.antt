@@ -1,8 +1,6 @@
 -- While zeros are written over a journal's first header, the journal is what it was, or isn't hot.
-use Rattle.std.proofs.Common.{◌≡◌, ⊎_elim, ℕ, ◌+◌, ◌≤◌, max, Bool, true, false, List, [], ◌∷◌, length, get_or, replicate, sym, ◌∙◌, subst, arith, Result}
-use Rattle.rollcore.proofs.Words.{get_or_past, length-replicate, cases_lt, part, word, Database, FileState, IsImage, IsSound, WriteTouches, written, Changed, IsSettled, DiskState, sector_some, ShowsAlone, Repeats, ZeroSteps, may_down, restored_shows, zero_at, front_stands, front_bytes, front_listed, front_torn, zeroed_restored, IsHot, IsRestored, AreWhole, journal_log, EndSteps, ArePages, Writing, Filed, RollError, Device}
+use Rattle.rollcore.proofs.Below.{ArePages, AreWhole, Bool, Changed, Database, Device, DiskState, EndSteps, FileState, Filed, IsHot, IsImage, IsRestored, IsSettled, IsSound, List, Repeats, Result, RollError, SameBehind, ShowsAlone, WriteTouches, Writing, ZeroSteps, [], arith, cases_lt, false, front_bytes, front_listed, front_stands, front_torn, get_or, get_or_past, hot_long, hot_same, journal_log, length, length-replicate, max, may_down, part, replicate, restored_shows, rolled_same, sector_some, size_same, subst, sym, true, word, written, zero_at, zeroed_restored, zeros_cold, ℕ, ⊎_elim, ◌+◌, ◌∙◌, ◌∷◌, ◌≡◌, ◌≤◌}
 use Rattle.rollcore.proofs.replays.PhasesOfReplay.{synced_shows, synced_filed}
-use Rattle.rollcore.proofs.journal.EquivalentJournals.{hot_long, zeros_cold, SameBehind, hot_same, rolled_same, size_same}
 
 -- a journal that says the same restores the same
 pub restored_same : (size : ℕ) (db w v : List ℕ) (d : Database) → SameBehind (word w 20) w v → IsHot w → IsRestored size db w d → IsRestored size db v d

@@ -1,11 +1,5 @@
 -- What a checkpoint does to the database file.
-use Rattle.std.proofs.Common.{◌≡◌, ℕ, ◌+◌, ◌-◌, ◌*◌, ◌≤◌, List, length, take, drop, refl, sym, ◌∙◌, ap, subst, arith, length-drop, [], Result, Ok, Err, get_or-take, get_or-drop, length-take-le}
-use Rattle.walcore.proofs.Words.{same_number_lists, big_number, Database, byte, DiskState, IsSoundDisk, ArePresent, Syncs, HasCalls, Db, Log, DiskError, table, sound_syncs, present_list, counted_grows, most_bytes, IsJust, Filling, Still, refusal_after, sync_refused, since_db, one_sync, no_calls, calls_then, ArePages, frame_at, frame_end, page_of, size_of, FrameTable, Unnamed, IsView, frame_at-end, frame_end-le, page_same, size_same, IsTable, IsCopy, KeepsLog, Told, SyncStep, PlaceAnswer, IsBoundary, shown, IsDurable, Stands, IsPresent, LeavesJust, SizeAnswer, CanBring, BroughtTo, Brings, WalError, MayFill, MayFillWithin, Device, CopyAnswer}
-use Rattle.walcore.proofs.disk.PermittedChanges.{nothing_may}
-use Rattle.walcore.proofs.crash.FrontOfSurvivingLog.{same_front}
-use Rattle.walcore.proofs.log.PresentFrames.{present_by}
-use Rattle.walcore.proofs.disk.DiskInvariantUnderCalls.{stands_syncs}
-use Rattle.walcore.proofs.checkpoint.DiskInvariantUnderCheckpoint.{stands_still, stands_valid, stands_count, stands_view, stands_filling, filling_stands, settled_just}
+use Rattle.walcore.proofs.Facts.{ArePages, ArePresent, Brings, BroughtTo, CanBring, CopyAnswer, Database, Db, Device, DiskError, DiskState, Err, Filling, FrameTable, HasCalls, IsBoundary, IsCopy, IsDurable, IsJust, IsPresent, IsSoundDisk, IsTable, IsView, KeepsLog, LeavesJust, List, Log, MayFill, MayFillWithin, Ok, PlaceAnswer, Result, SizeAnswer, Stands, Still, SyncStep, Syncs, Told, Unnamed, WalError, [], ap, arith, big_number, byte, calls_then, counted_grows, drop, filling_stands, frame_at, frame_at-end, frame_end, frame_end-le, get_or-drop, get_or-take, length, length-drop, length-take-le, most_bytes, no_calls, nothing_may, one_sync, page_of, page_same, present_by, present_list, refl, refusal_after, same_front, same_number_lists, settled_just, shown, since_db, size_of, size_same, sound_syncs, stands_count, stands_filling, stands_still, stands_syncs, stands_valid, stands_view, subst, sym, sync_refused, table, take, ℕ, ◌*◌, ◌+◌, ◌-◌, ◌∙◌, ◌≡◌, ◌≤◌}
 use Rattle.walcore.proofs.read.ContentOfReadPage.{table_upto}
 
 -- ---- the size that a frame names

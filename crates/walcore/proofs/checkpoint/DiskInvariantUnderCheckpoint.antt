@@ -1,6 +1,5 @@
 -- A checkpoint: the pages that frames name are written into the file, and what stands on the disk stands still.
-use Rattle.std.proofs.Common.{◌≡◌, inl, ⊎_elim, ℕ, ◌≤◌, List, length, take, get_or, refl, sym, ◌∙◌, ap, subst, arith, Ok}
-use Rattle.walcore.proofs.Words.{IsImage, byte, DiskState, ArePresent, Syncs, Db, table, Database, page, file_page, IsJust, Filling, Still, KeepsLog, get_or-file_page, suits_still, image_still, present_image, ArePages, one_synced, present_list, frame_end, size_of, IsValidFrame, IsCommit, Unnamed, IsOver, IsView, all_same, size_same, unnamed_same, over_same, IsBoundary, shown, IsDurable, Stands, filling_other, filled_just}
+use Rattle.walcore.proofs.Between.{ArePages, ArePresent, Database, Db, DiskState, Filling, IsBoundary, IsCommit, IsDurable, IsImage, IsJust, IsOver, IsValidFrame, IsView, KeepsLog, List, Ok, Stands, Still, Syncs, Unnamed, all_same, ap, arith, byte, file_page, filled_just, filling_other, frame_end, get_or, get_or-file_page, image_still, inl, length, one_synced, over_same, page, present_image, present_list, refl, shown, size_of, size_same, subst, suits_still, sym, table, take, unnamed_same, ℕ, ⊎_elim, ◌∙◌, ◌≡◌, ◌≤◌}
 use Rattle.walcore.proofs.log.DurableFrames.{holds_elsewhere}
 
 module _ (size : ℕ) (logs : List (List ℕ)) (e : List ℕ) (n : ℕ) (h : List Database) (index : ℕ → ℕ) (mark d c : ℕ) (s : DiskState) (stands : Stands size logs e n h index mark d c s) where

@@ -1,15 +1,8 @@
 -- A checkpoint as a step of the machine.
-use Rattle.std.proofs.Common.{◌≡◌, ◌≢◌, inl, inr, ⊎_elim, ℕ, ◌+◌, ◌-◌, ◌<◌, ◌≤◌, Bool, true, false, ◌==◌, List, ◌∷◌, length, get_or, take, drop, refl, sym, ◌∙◌, ap, subst, arith, length-drop, [], Result, Ok, Err, OnOk, IsTrue, Option, Some, None, not, if◌then◌else◌, length-take-le}
-use Rattle.walcore.proofs.Words.{cases_eq, nat_tests, Database, DiskState, HasCalls, Files, Done, Refused, Refuses, HasCause, first_true, IsJust, IsSameDisk, TellsRefusal, KeepsLog, present_image, still, same_files, AreFiles, answered, ShowsWhole, at, last, newest, quiet_same, State, reader_at, call_refusal, all_newest, closed, synced, checkpointed, Checkpoints, CheckpointStep, Made, Makes, MadeBySync, MadeByCopy, number_of, NoChance, frame_end, shown, MayFill, Stands, IsPresent, answer_of, IsOldest, LeavesJust, IsLeast, BroughtTo, Brings, BroughtOver, ClosedBy, Past, IsLeft, FitsDisk, IsBound, AreTogether, IsNewestDurable, IsCore, FitsCore, StepsTo, times, Core, Reader, Checkpointed, WalError, Device, wal_log}
+use Rattle.walcore.proofs.Facts.{AreFiles, AreTogether, Bool, Brings, BroughtOver, BroughtTo, CheckpointStep, Checkpointed, Checkpoints, ClosedBy, Core, Database, Device, DiskState, Done, Err, Files, FitsCore, FitsDisk, HasCalls, HasCause, IsBound, IsCore, IsJust, IsLeast, IsLeft, IsNewestDurable, IsOldest, IsPresent, IsSameDisk, IsTrue, KeepsLog, LeavesJust, List, Made, MadeByCopy, MadeBySync, Makes, MayFill, NoChance, None, Ok, OnOk, Option, Past, Reader, Refused, Refuses, Result, SameCore, ShowsWhole, Some, Stands, State, StepsTo, TellsRefusal, WalError, [], all_are_newest, all_newest, answer_of, answered, ap, arith, at, behind_same, call_refusal, cases_eq, checkpointed, closed, core_same, drop, false, filled_same, first_true, frame_end, get_or, if◌then◌else◌, inl, inr, last, least_begun, least_ends, length, length-drop, length-take-le, nat_tests, newest, not, number_of, oldest_place, present_by, present_image, present_last, quiet_same, reader_above, reader_at, refl, same_files, shown, some_is_older, stands_shows, still, subst, sym, synced, synced_same, take, times, true, wal_log, ℕ, ⊎_elim, ◌+◌, ◌-◌, ◌<◌, ◌==◌, ◌∙◌, ◌∷◌, ◌≡◌, ◌≢◌, ◌≤◌}
 use Rattle.walcore.specs.Machine.{Syncs}
 use Rattle.walcore.specs.declared.wal.Checkpointed.TheVariants.{Complete as AllOfIt, Partial as PartOfIt}
-use Rattle.walcore.proofs.log.PresentFrames.{present_by}
-use Rattle.walcore.proofs.crash.HistoryInCrashImages.{stands_shows, present_last}
-use Rattle.walcore.proofs.disk.PermittedChanges.{synced_same, filled_same}
-use Rattle.walcore.proofs.machine.FitUnderUnchangedFiles.{SameCore, core_same}
 use Rattle.walcore.proofs.read.StepsOfReaders.{open_refusal}
-use Rattle.walcore.proofs.sync.LogWithRepeatedFrame.{behind_same}
-use Rattle.walcore.proofs.read.OldestReaderMark.{reader_above, least_ends, least_begun, oldest_place, all_are_newest, some_is_older}
 
 -- ---- a disk on which the log stands
 

@@ -1,6 +1,5 @@
 -- A commit that isn't refused.
-use Rattle.std.proofs.Common.{◌≡◌, ℕ, ◌+◌, ◌<◌, ◌≤◌, Bool, true, false, cond, ◌++◌, nat_lt, List, ◌∷◌, length, Option, Some, None, arith, lit<, []}
-use Rattle.walcore.proofs.Words.{nat_tests, Pages, first_true, page_faults, IsFaultless, faultless, none_both, one_none, newest, refusal_of, most_pages, State, commit_refusal}
+use Rattle.walcore.proofs.Words.{Bool, IsFaultless, List, None, Option, Pages, Some, State, [], arith, commit_refusal, cond, false, faultless, first_true, length, lit<, most_pages, nat_lt, nat_tests, newest, none_both, one_none, page_faults, refusal_of, true, ℕ, ◌++◌, ◌+◌, ◌<◌, ◌∷◌, ◌≡◌, ◌≤◌}
 
 module _ (old_size page_size used : ℕ) (pages : Pages) (size : ℕ) (none : refusal_of old_size page_size used pages size ≡ None) where
   pub granted : IsFaultless old_size page_size pages size

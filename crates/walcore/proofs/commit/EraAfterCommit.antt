@@ -1,8 +1,6 @@
 -- A commit: the history has one database more, and what a crash may leave shows it or one before it.
-use Rattle.std.proofs.Common.{◌≡◌, ◌≢◌, inr, ⊎_elim, ℕ, suc, ◌+◌, ◌*◌, ◌<◌, ◌≤◌, min, cond, List, ◌∷◌, ◌++◌, length, drop, get_or, refl, sym, ◌∙◌, ap, subst, arith, length-drop, [], nat_lt, Option, Some, None, unwrap_or, length-take-le}
-use Rattle.walcore.proofs.Words.{get_or_append_left, get_or_at, length_push, cases_lt, nat_tests, Database, Pages, page, supplied, apply, IsHeld, frame_at, size_of, content_of, IsLog, frame_at-end, IsExtended, shown, IsEra, IsApplied, AreCommitted, supplied_found, length-apply, page-apply}
-use Rattle.walcore.proofs.log.CommitOfExtendedLog.{extended_front, extended_inner, extended_count, extended_applied}
-use Rattle.walcore.proofs.log.EraOfExtendedLog.{GoesOn, era_more}
+use Rattle.walcore.proofs.Below.{AreCommitted, Database, IsApplied, IsEra, IsExtended, IsHeld, IsLog, List, None, Option, Pages, Some, [], ap, apply, arith, cases_lt, cond, content_of, drop, era_more, extended_applied, extended_count, extended_front, extended_inner, frame_at, frame_at-end, get_or, get_or_append_left, get_or_at, inr, length, length-apply, length-drop, length-take-le, length_push, min, nat_lt, nat_tests, page, page-apply, refl, shown, size_of, subst, suc, supplied, supplied_found, sym, unwrap_or, ℕ, ⊎_elim, ◌*◌, ◌++◌, ◌+◌, ◌<◌, ◌∙◌, ◌∷◌, ◌≡◌, ◌≢◌, ◌≤◌}
+use Rattle.walcore.proofs.log.EraOfExtendedLog.{GoesOn}
 
 -- the numbers of the databases, with one more at frame m
 pub index_with : (index : ℕ → ℕ) (n m more : ℕ) → ℕ → ℕ

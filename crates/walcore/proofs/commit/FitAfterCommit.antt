@@ -1,15 +1,6 @@
 -- A commit that is granted steps to the history with its database.
-use Rattle.std.proofs.Common.{◌≡◌, inl, ⊎_elim, ℕ, ◌+◌, ◌-◌, ◌^◌, ◌<◌, ◌≤◌, Bool, true, false, cond, List, ◌∷◌, ◌++◌, length, take, get_or, refl, sym, ◌∙◌, ap, subst, arith, Bor, Option, length-append, lit<, [], IsTrue, nat_lt, Some, None}
-use Rattle.walcore.proofs.Words.{cases_lt, get_or_append_left, get_or_past, get_or-append_right, byte, DiskState, IsSoundDisk, AreBytes, Database, apply, Files, IsHeld, Suits, lent, lent_length, IsFaultless, length-apply, present_image, sector_some, AreFiles, ShowsWhole, newest, IsHeaderOf, frame_end, page_of, summed, IsSumOf, IsLog, most_frames, WalHeader, Sum, frame_end-le, frame_end-head, page_same, summed_same, take_less, header_of_same, State, reader_at, AreMade, NoChance, IsExtended, shown, IsBehind, Stands, IsPresent, Past, IsLeft, FitsDisk, IsIndexed, IsBound, AreTogether, IsCore, FitsCore, times, KnowsLog, SameLog, IsReady, Core, Reader, wal_log}
-use Rattle.walcore.proofs.log.ExistenceOfExtendedLog.{extended_exists}
-use Rattle.walcore.proofs.commit.FramesOfAcceptedCommit.{are_committed, are_frames}
-use Rattle.walcore.proofs.commit.FitOfPreparedCore.{ready_granted, ready_most}
-use Rattle.walcore.proofs.log.CommitOfExtendedLog.{extended_front}
-use Rattle.walcore.proofs.crash.FrontOfSurvivingLog.{boundary_same}
-use Rattle.walcore.proofs.commit.EraAfterCommit.{index_with, index_low, index_at}
-use Rattle.walcore.proofs.crash.HistoryInCrashImages.{stands_shows, present_last}
+use Rattle.walcore.proofs.Between.{AreBytes, AreFiles, AreMade, AreTogether, Bool, Bor, Core, Database, DiskState, Files, FitsCore, FitsDisk, IsBehind, IsBound, IsCore, IsExtended, IsFaultless, IsHeaderOf, IsHeld, IsIndexed, IsLeft, IsLog, IsPresent, IsReady, IsSoundDisk, IsSumOf, IsTrue, KnowsLog, List, NoChance, None, Option, Past, Reader, SameLog, ShowsWhole, Some, Stands, State, Suits, Sum, WalHeader, [], ap, apply, are_committed, are_frames, arith, boundary_same, byte, cases_lt, cond, extended_exists, extended_front, false, frame_end, frame_end-head, frame_end-le, get_or, get_or-append_right, get_or_append_left, get_or_past, header_of_same, index_at, index_low, index_with, inl, length, length-append, length-apply, lent, lent_length, lit<, most_frames, nat_lt, newest, page_of, page_same, present_image, present_last, present_more, reader_at, ready_granted, ready_most, refl, sector_some, shown, stands_shows, subst, summed, summed_same, sym, take, take_less, times, true, wal_log, ℕ, ⊎_elim, ◌++◌, ◌+◌, ◌-◌, ◌<◌, ◌^◌, ◌∙◌, ◌∷◌, ◌≡◌, ◌≤◌}
 use Rattle.walcore.proofs.disk.DiskInvariantUnderCalls.{commit_stands}
-use Rattle.walcore.proofs.log.PresentFrames.{present_more}
 use Rattle.walcore.proofs.sync.LogWithRepeatedFrame.{behind_later, behind_same}
 
 -- ---- what fits a disk, by its parts

@@ -1,7 +1,5 @@
 -- A core in which memory was taken fits what it fitted.
-use Rattle.std.proofs.Common.{◌≡◌, ℕ, ◌+◌, ◌<◌, ◌≤◌, Bool, ◌-◌, List, length, get_or, sym, ◌∙◌, ap, subst, arith, Bor, [], IsTrue, None}
-use Rattle.walcore.proofs.Words.{All, get_or-map, DiskState, IsJust, lent, lent_length, IsFaultless, newest, IsHeaderOf, frame_end, page_of, summed, IsSumOf, FrameTable, WalHeader, Sum, reader_at, IsBehind, Stands, IsPresent, Past, IsIndexed, IsBound, AreTogether, IsCore, FitsCore, times, Prepares, IsReady, Core}
-use Rattle.walcore.proofs.commit.AcceptedCommit.{granted, room_enough}
+use Rattle.walcore.proofs.Below.{All, AreTogether, Bool, Bor, Core, DiskState, FitsCore, FrameTable, IsBehind, IsBound, IsCore, IsFaultless, IsHeaderOf, IsIndexed, IsJust, IsPresent, IsReady, IsSumOf, IsTrue, List, None, Past, Prepares, Stands, Sum, WalHeader, [], ap, arith, frame_end, get_or, get_or-map, granted, length, lent, lent_length, newest, page_of, reader_at, room_enough, subst, summed, sym, times, ℕ, ◌+◌, ◌-◌, ◌<◌, ◌∙◌, ◌≡◌, ◌≤◌}
 
 module _ (past : Past) (e : List ℕ) (index : ℕ → ℕ) (d c : ℕ) (a b : Core) (s : DiskState) (same : Prepares a b) where
   at_size : (P : ℕ → Type 0) → P a.page_size → P b.page_size

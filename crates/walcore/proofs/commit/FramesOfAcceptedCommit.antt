@@ -1,6 +1,5 @@
 -- The pages of a commit that isn't refused make a log longer and a database.
-use Rattle.std.proofs.Common.{◌≡◌, ℕ, suc, ◌^◌, ◌<◌, ◌≤◌, List, length, get_or, sym, ◌∙◌, ap, subst, arith, Bor, [], ◌==◌, is_some, true≢false}
-use Rattle.walcore.proofs.Words.{All, get_or-map, AreBytes, Database, Pages, lent, lent_length, AreCommitted, IsFaultless, number_once, above_some}
+use Rattle.walcore.proofs.Below.{All, AreBytes, AreCommitted, Bor, Database, IsFaultless, List, Pages, [], above_some, ap, arith, get_or, get_or-map, is_some, length, lent, lent_length, number_once, subst, suc, sym, true≢false, ℕ, ◌<◌, ◌==◌, ◌^◌, ◌∙◌, ◌≡◌, ◌≤◌}
 use Rattle.walcore.proofs.log.ExistenceOfExtendedLog.{AreFrames, size_fits}
 
 pub are_committed : (old : Database) (size : ℕ) (pages : Pages) (count : ℕ) → IsFaultless (length old) size pages count → AreCommitted size old pages count

@@ -1,8 +1,5 @@
 -- The frames of a commit are written one after another, and the log goes on by them.
-use Rattle.std.proofs.Common.{◌≡◌, ◌≢◌, ⊎_elim, ℕ, suc, ◌+◌, ◌-◌, ◌*◌, ◌<◌, ◌≤◌, List, ◌∷◌, ◌++◌, length, drop, get_or, refl, sym, ◌∙◌, ap, subst, arith, length-append, length-drop, [], Result, Ok, Err, IsOk, length-take-le}
-use Rattle.walcore.proofs.Words.{mul-le-mul_left, cases_eq, get_or_append_left, get_or-append_right, longest, DiskState, IsSoundDisk, Writes, write, counted, Log, DiskError, part, AreBytes, Database, HadRefusal, Told, had_refusal, IsSumOf, IsHeaderOf, frame_at, frame_end, page_of, size_of, content_of, summed, IsFrameHead, IsLog, most_frames, Sum, WalHeader, FrameTable, frame_end-le, frame_at-suc, frame_end-suc, MayExtend, IsBehind, Stands, IsPresent, IsIndexed, HasFrame, FrameStep, KnowsLog, Core, WalError, Device, told_err, told_ok, told_refused}
-use Rattle.walcore.proofs.log.BytesOfNextFrame.{next_frame}
-use Rattle.walcore.proofs.log.PresentFrames.{present_writes}
+use Rattle.walcore.proofs.Between.{AreBytes, Core, Database, Device, DiskError, DiskState, Err, FrameStep, FrameTable, HadRefusal, HasFrame, IsBehind, IsFrameHead, IsHeaderOf, IsIndexed, IsLog, IsOk, IsPresent, IsSoundDisk, IsSumOf, KnowsLog, List, Log, MayExtend, Ok, Result, Stands, Sum, Told, WalError, WalHeader, Writes, [], ap, arith, cases_eq, content_of, counted, drop, frame_at, frame_at-suc, frame_end, frame_end-le, frame_end-suc, get_or, get_or-append_right, get_or_append_left, had_refusal, length, length-append, length-drop, length-take-le, longest, most_frames, mul-le-mul_left, next_frame, page_of, part, present_writes, refl, size_of, subst, suc, summed, sym, told_err, told_ok, told_refused, write, ℕ, ⊎_elim, ◌*◌, ◌++◌, ◌+◌, ◌-◌, ◌<◌, ◌∙◌, ◌∷◌, ◌≡◌, ◌≢◌, ◌≤◌}
 use Rattle.walcore.proofs.disk.DiskInvariantUnderCalls.{stands_writes}
 
 -- ---- what a call answers

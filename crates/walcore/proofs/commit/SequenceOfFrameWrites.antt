@@ -1,6 +1,5 @@
 -- The frames of a commit, one after another.
-use Rattle.std.proofs.Common.{◌≡◌, ℕ, suc, ◌+◌, ◌^◌, ◌<◌, ◌≤◌, cond, List, ◌∷◌, ◌++◌, length, get_or, refl, sym, ◌∙◌, ap, subst, arith, Bor, [], ◌==◌, Result, Ok, Err}
-use Rattle.walcore.proofs.Words.{pow_mono, get_or-map, DiskState, IsSoundDisk, write, sound_writes, Log, counted_grows, IsPageSize, lent, lent_length, sector_some, no_calls, one_write, calls_then, refusal_after, frame_end, page_of, size_of, content_of, IsLog, most_frames, frame_end-le, IsExtended, MayExtend, IsBehind, Stands, KeepsCore, FrameStep, KnowsLog, Going, FramesAnswer, Core, WalError}
+use Rattle.walcore.proofs.Between.{Bor, Core, DiskState, Err, FrameStep, FramesAnswer, Going, IsBehind, IsExtended, IsLog, IsPageSize, IsSoundDisk, KeepsCore, KnowsLog, List, Log, MayExtend, Ok, Result, Stands, WalError, [], ap, arith, calls_then, cond, content_of, counted_grows, frame_end, frame_end-le, get_or, get_or-map, length, lent, lent_length, most_frames, no_calls, one_write, page_of, pow_mono, refl, refusal_after, sector_some, size_of, sound_writes, subst, suc, sym, write, ℕ, ◌++◌, ◌+◌, ◌<◌, ◌==◌, ◌^◌, ◌∙◌, ◌∷◌, ◌≡◌, ◌≤◌}
 use Rattle.walcore.proofs.sync.LogWithRepeatedFrame.{behind_same, behind_later}
 use Rattle.walcore.proofs.commit.LogAfterFrameWrite.{IsFrameAt, Reaches, frame_may, frame_known, frame_quiet, frame_refused, frame_stands}
 

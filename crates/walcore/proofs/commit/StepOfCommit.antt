@@ -1,12 +1,6 @@
 -- The rows of the machine that a commit takes.
-use Rattle.std.proofs.Common.{◌≡◌, inl, inr, ⊎_elim, ℕ, ◌+◌, ◌^◌, ◌<◌, ◌≤◌, Bool, true, false, cond, List, ◌∷◌, ◌++◌, length, refl, sym, ◌∙◌, ap, subst, arith, Bor, Option, [], IsTrue, ◌==◌, Some, None, Result, Ok, Err, ne_eqb}
-use Rattle.walcore.proofs.Words.{DiskState, IsSoundDisk, Pages, apply, Done, Refused, Refuses, HadRefusal, no_calls, lent, answered, newest, frame_end, IsLog, most_frames, number_of, refusal_of, committed, closed, commit_refusal, Commits, CommitStep, IsExtended, Made, IfBegun, MadeByCommit, Makes, IsBehind, Stands, Past, IsCore, FitsCore, StepsTo, KeepsCore, KnowsLog, Going, FramesAnswer, Prepares, IsReady, PrepareAnswer, Counts, Closes, Core, WalError}
+use Rattle.walcore.proofs.Facts.{Bool, Bor, Closes, CommitStep, Commits, Core, Counts, DiskState, Done, Err, FitsCore, FramesAnswer, Going, HadRefusal, IfBegun, IsBehind, IsCore, IsExtended, IsLog, IsReady, IsSoundDisk, IsTrue, KeepsCore, KnowsLog, List, Made, MadeByCommit, Makes, None, Ok, Option, Pages, Past, Planned, PrepareAnswer, Prepares, Refused, Refuses, Result, Some, Stands, StepsTo, WalError, [], answered, ap, apply, arith, closed, commit_refusal, committed, cond, false, few_refusals, fits_closed, fits_new, fits_prepared, frame_end, index_with, inl, inr, knows_same, length, lent, most_frames, ne_eqb, newest, newest_calls, no_calls, number_of, planned, refl, refusal_of, state_new, subst, sym, true, ℕ, ⊎_elim, ◌++◌, ◌+◌, ◌<◌, ◌==◌, ◌^◌, ◌∙◌, ◌∷◌, ◌≡◌, ◌≤◌}
 use Rattle.walcore.specs.internal.Commits.{Ends, EndAnswer}
-use Rattle.walcore.proofs.disk.PermittedChanges.{newest_calls}
-use Rattle.walcore.proofs.commit.EraAfterCommit.{index_with}
-use Rattle.walcore.proofs.commit.AcceptedCommit.{few_refusals}
-use Rattle.walcore.proofs.commit.FitOfPreparedCore.{fits_prepared}
-use Rattle.walcore.proofs.commit.FitAfterCommit.{Planned, planned, state_new, fits_new, fits_closed, knows_same}
 
 -- what a core judges by is the machine's
 refusal_same : (past : Past) (e : List ℕ) (index : ℕ → ℕ) (d c : ℕ) (core : Core) (s : DiskState) → FitsCore past core s → IsCore past e index d c core s → past.state.is_open ≡ true → (pages : Pages) (count : ℕ)

@@ -1,6 +1,5 @@
 -- What fits a disk after a crash.
-use Rattle.std.proofs.Common.{◌≡◌, ℕ, suc, true, List, [], ◌∷◌, length, Option, refl, sym, ◌∙◌, ap}
-use Rattle.walcore.proofs.Words.{DiskState, IsCrash, sound_crash, AreWhole, wal_log, gone, forgotten, Past, FitsAlone, none_open, Reader, narrows_crash, suits_by}
+use Rattle.walcore.proofs.Below.{AreWhole, DiskState, FitsAlone, IsCrash, List, Option, Past, Reader, [], ap, forgotten, gone, length, narrows_crash, none_open, refl, sound_crash, suc, suits_by, sym, true, wal_log, ℕ, ◌∙◌, ◌∷◌, ◌≡◌}
 use Rattle.walcore.proofs.crash.NarrowedImages.{left_narrows}
 
 all_there : (tokens : List (Option Reader)) → length (none_open tokens) ≡ length tokens

@@ -1,6 +1,5 @@
 -- What the front of a log shows that a crash leaves.
-use Rattle.std.proofs.Common.{◌≡◌, ◌⊎◌, inl, inr, ⊎_elim, ℕ, ◌≤◌, ◌<◌, List, length, take, get_or, refl, sym, ◌∙◌, ap, subst, arith, ext_get_or, get_or-take, length-take-le}
-use Rattle.walcore.proofs.Words.{Contains, cases_eq, IsPageSize, Database, page, file_page, IsFile, IsJust, size_some, file_count, frame_end, IsFront, IsLog, Unnamed, IsOver, IsView, frame_end-zero, frame_end-le, all_same, commit_same, view_same, AreMade, NoChance, IsBoundary, shown, IsEra, IsUnder, IsDurable}
+use Rattle.walcore.proofs.Below.{AreMade, Contains, Database, IsBoundary, IsDurable, IsEra, IsFile, IsFront, IsJust, IsLog, IsOver, IsPageSize, IsUnder, IsView, List, NoChance, Unnamed, all_same, ap, arith, cases_eq, commit_same, ext_get_or, file_count, file_page, frame_end, frame_end-le, frame_end-zero, get_or, get_or-take, inl, inr, length, length-take-le, page, refl, shown, size_some, subst, sym, take, view_same, ℕ, ⊎_elim, ◌<◌, ◌∙◌, ◌≡◌, ◌≤◌, ◌⊎◌}
 use Rattle.walcore.proofs.crash.OriginOfValidFrames.{known}
 
 -- two lists with the same first numbers

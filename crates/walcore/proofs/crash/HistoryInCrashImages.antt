@@ -1,6 +1,5 @@
 -- What the engine keeps on its disk shows one database of the history, whatever a crash leaves.
-use Rattle.std.proofs.Common.{◌≡◌, inl, ⊎_elim, ℕ, ◌+◌, ◌-◌, ◌*◌, ◌≤◌, Bool, true, false, List, length, take, get_or, sym, ◌∙◌, ap, subst, arith, get_or-take, length-take-le}
-use Rattle.walcore.proofs.Words.{Contains, cases_eq, FileState, IsImage, DiskState, ArePresent, HasFixed, Database, MayBeRead, ShowsWhole, read_cases, IsHeader, named_size, frame_end, IsFront, IsLog, IsView, frame_end-le, frame_end-head, take_less, front_exists, front_unique, view_file, wal_log, AreMade, NoChance, IsBoundary, shown, IsEra, IsUnder, IsDurable, ShowsHistory, HasMadeHeader, AreMarks, Stands, IsPresent}
+use Rattle.walcore.proofs.Below.{AreMade, AreMarks, ArePresent, Bool, Contains, Database, DiskState, FileState, HasFixed, HasMadeHeader, IsBoundary, IsDurable, IsEra, IsFront, IsHeader, IsImage, IsLog, IsPresent, IsUnder, IsView, List, MayBeRead, NoChance, ShowsHistory, ShowsWhole, Stands, ap, arith, cases_eq, false, frame_end, frame_end-head, frame_end-le, front_exists, front_unique, get_or, get_or-take, inl, length, length-take-le, named_size, read_cases, shown, subst, sym, take, take_less, true, view_file, wal_log, ℕ, ⊎_elim, ◌*◌, ◌+◌, ◌-◌, ◌∙◌, ◌≡◌, ◌≤◌}
 use Rattle.walcore.proofs.crash.OriginOfValidFrames.{named_same}
 use Rattle.walcore.proofs.crash.FrontOfSurvivingLog.{same_front, just_file, Fronts, fronts, down_front, view_of_image}
 

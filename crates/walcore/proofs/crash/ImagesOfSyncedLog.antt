@@ -1,6 +1,5 @@
 -- A log of which nothing is unsynced, and what it takes that all shows one database.
-use Rattle.std.proofs.Common.{inl, ℕ, List, refl, sym, subst, arith}
-use Rattle.walcore.proofs.Words.{named_size, frame_at-end, DiskState, settled_image, IsLogDurable, MayBeLeft, AreWhole, wal_log}
+use Rattle.walcore.proofs.Words.{AreWhole, DiskState, IsLogDurable, List, MayBeLeft, arith, frame_at-end, inl, named_size, refl, settled_image, subst, sym, wal_log, ℕ}
 
 -- the log itself may be left
 pub down_left : (w : List ℕ) (s : DiskState) → IsLogDurable s w → MayBeLeft wal_log s w

@@ -1,7 +1,5 @@
 -- A call that adds no log to those that may be read adds none that shows less.
-use Rattle.std.proofs.Common.{◌≡◌, inl, inr, ⊎_elim, ℕ, ◌≤◌, List, ◌∷◌, length, subst, arith}
-use Rattle.walcore.proofs.Words.{DiskState, Database, MayBeRead, Narrows, named_size, frame_end, frame_end-le, frame_end-suc, frame_end-zero, wal_log, IsLeft, NoChance, ShowsHistory, HasMadeHeader}
-use Rattle.walcore.proofs.log.GrowthOfMadeLogs.{made_before, made_cases}
+use Rattle.walcore.proofs.Below.{Database, DiskState, HasMadeHeader, IsLeft, List, MayBeRead, Narrows, NoChance, ShowsHistory, arith, frame_end, frame_end-le, frame_end-suc, frame_end-zero, inl, inr, length, made_before, made_cases, named_size, subst, wal_log, ℕ, ⊎_elim, ◌∷◌, ◌≡◌, ◌≤◌}
 
 module _ (s t : DiskState) (narrows : Narrows wal_log s t) where
   pub history_narrows : (size : ℕ) (logs : List (List ℕ)) (h : List Database) (floor : ℕ) → ShowsHistory size logs h floor s → ShowsHistory size logs h floor t

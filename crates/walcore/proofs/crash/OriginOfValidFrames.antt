@@ -1,7 +1,5 @@
 -- The valid frames of a log are those that were made under its header.
-use Rattle.std.proofs.Common.{◌≡◌, ℕ, zero, suc, ◌+◌, ◌≤◌, List, length, take, sym, ◌∙◌, ap, subst, arith}
-use Rattle.walcore.proofs.Words.{Contains, part, word, IsHeader, named_size, frame_at, frame_end, Passes, AllPass, IsValidFrame, IsLog, frame_at-suc, frame_end-suc, frame_end-zero, below_end, word_same, take_add, word_in, AreMade, NoChance}
-use Rattle.walcore.proofs.log.GrowthOfMadeLogs.{same_log}
+use Rattle.walcore.proofs.Below.{AllPass, AreMade, Contains, IsHeader, IsLog, IsValidFrame, List, NoChance, Passes, ap, arith, below_end, frame_at, frame_at-suc, frame_end, frame_end-suc, frame_end-zero, length, named_size, part, same_log, subst, suc, sym, take, take_add, word, word_in, word_same, zero, ℕ, ◌+◌, ◌∙◌, ◌≡◌, ◌≤◌}
 
 -- a log whose header is that of one that was made names its page size
 pub named_same : (size : ℕ) (e w : List ℕ) → IsHeader size e → take 32 w ≡ take 32 e → named_size w ≡ size

@@ -1,10 +1,5 @@
 -- The steps of an engine on its log keep what stands on its disk.
-use Rattle.std.proofs.Common.{◌≡◌, ℕ, ◌+◌, ◌<◌, ◌≤◌, true, false, List, ◌∷◌, ◌++◌, length, take, get_or, sym, ◌∙◌, ap, subst, arith, [], Result, Ok}
-use Rattle.walcore.proofs.Words.{get_or_append_left, IsImage, DiskState, Writes, Syncs, IsFixed, File, Db, Log, DiskError, Database, Pages, page, apply, IsJust, Suits, sector_some, suits_writes, suits_syncs, since_db, image_sync, image_elsewhere, frame_end, most_frames, frame_end-le, frame_end-head, take_less, unnamed_same, AreMade, IsExtended, IsBoundary, shown, IsEra, HoldsFrames, IsBehind, AreMarks, Stands, IsPresent, AreCommitted}
-use Rattle.walcore.proofs.log.GrowthOfMadeLogs.{made_here, made_more}
-use Rattle.walcore.proofs.crash.FrontOfSurvivingLog.{boundary_same}
-use Rattle.walcore.proofs.log.CommitOfExtendedLog.{extended_front}
-use Rattle.walcore.proofs.commit.EraAfterCommit.{index_with, index_low, commit_era}
+use Rattle.walcore.proofs.Between.{AreCommitted, AreMade, AreMarks, Database, Db, DiskError, DiskState, File, HoldsFrames, IsBehind, IsBoundary, IsEra, IsExtended, IsFixed, IsImage, IsJust, IsPresent, List, Log, Ok, Pages, Result, Stands, Suits, Syncs, Writes, [], ap, apply, arith, boundary_same, commit_era, extended_front, false, frame_end, frame_end-head, frame_end-le, get_or, get_or_append_left, image_elsewhere, image_sync, index_low, index_with, length, made_here, made_more, most_frames, page, sector_some, shown, since_db, subst, suits_syncs, suits_writes, sym, take, take_less, true, unnamed_same, ℕ, ◌++◌, ◌+◌, ◌<◌, ◌∙◌, ◌∷◌, ◌≡◌, ◌≤◌}
 use Rattle.walcore.proofs.log.DurableFrames.{holds_writes, holds_syncs, holds_synced, holds_elsewhere, holds_fewer}
 
 -- ---- a log that goes on

@@ -1,7 +1,5 @@
 -- What calls may ask for: where fewer may, more may; and the pieces of a log.
-use Rattle.std.proofs.Common.{◌≡◌, inl, inr, ⊎_elim, ℕ, List, [], ◌∷◌, length, refl, ◌∙◌, subst, Result}
-use Rattle.walcore.proofs.Words.{DiskState, IsSoundDisk, Change, write, set_len, sync, HasCalls, Nothing, IsSameDisk, Later, File, Db, Log, DiskError, calls_wider, calls_then, later_sync, Checkpoints, MayFill, MayFoldWithin, MayExtend, MayBegin, MayChange}
-use Rattle.crashdisk.specs.Call.{Syncs as CallSyncs}
+use Rattle.walcore.proofs.Words.{CallSyncs, Change, Checkpoints, Db, DiskError, DiskState, File, HasCalls, IsSameDisk, IsSoundDisk, Later, List, Log, MayBegin, MayChange, MayExtend, MayFill, MayFoldWithin, Nothing, Result, [], calls_then, calls_wider, inl, inr, later_sync, length, refl, set_len, subst, sync, write, ℕ, ⊎_elim, ◌∙◌, ◌∷◌, ◌≡◌}
 use Rattle.walcore.specs.Machine.{Syncs}
 
 -- ---- more logs

@@ -1,6 +1,5 @@
 -- A refused call of the disk is told: by one call, by calls after others that weren't refused, and by the steps of the log.
-use Rattle.std.proofs.Common.{⊎_elim, ℕ, List, arith, Result}
-use Rattle.walcore.proofs.Words.{DiskState, TellsRefusal, tells_then, tells_called, tells_sync, HeaderSteps, CutSteps, WalError, Device}
+use Rattle.walcore.proofs.Words.{CutSteps, Device, DiskState, HeaderSteps, List, Result, TellsRefusal, WalError, arith, tells_called, tells_sync, tells_then, ℕ, ⊎_elim}
 
 pub tells_header : {T : Type 0} (f : List ℕ) (r : Result T WalError) (a b : DiskState) → HeaderSteps f r a b → TellsRefusal Device r a b
 tells_header f r a b steps = ⊎_elim

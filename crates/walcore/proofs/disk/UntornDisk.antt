@@ -1,6 +1,5 @@
 -- A disk as if it didn't tear: what a crash leaves of it then is listed, and each call does to it what it did.
-use Rattle.std.proofs.Common.{ℕ, false, List, [], refl, Result}
-use Rattle.walcore.proofs.Words.{DiskState, Writes, Syncs, Log, DiskError}
+use Rattle.walcore.proofs.Words.{DiskError, DiskState, List, Log, Result, Syncs, Writes, [], false, refl, ℕ}
 
 abbrev pub untorn : DiskState → DiskState
 untorn s = record { sector = s.sector; tears = false; db = s.db; log = s.log; refused = s.refused; kept = []; handed = []; settings = s.settings }

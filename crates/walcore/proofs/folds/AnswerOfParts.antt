@@ -1,7 +1,5 @@
 -- What a fold answers, of its parts.
-use Rattle.std.proofs.Common.{◌≡◌, inl, inr, ⊎_elim, ℕ, ◌+◌, ◌-◌, ◌*◌, ◌<◌, ◌≤◌, List, ◌∷◌, map, length, refl, sym, ◌∙◌, ap, subst, arith, [], Result, Ok, Err}
-use Rattle.walcore.proofs.Words.{range_with_len, cases_lt, cases_eq, get_or-map-range_with_len, length-map-range_with_len, Database, page, file_page, IsHeader, named_size, size_of, content_of, IsFront, Unnamed, IsLast, IsView, FrameTable, Writing, Filling, byte, IsSettled, DiskState, IsSoundDisk, ArePresent, Syncs, Looks, Log, DiskError, table, present_list, settled_sync, IsJust, Bounds, TearsPages, KeepsBytes, IsLogDurable, Still, KeepsLog, page_by_bytes, page_within, refusal_after, present_in, had_refusal, ArePages, still_bytes, named_or_not, FoldAnswerWithin, EndAnswer, FoldedAnswer, IsFitWithin, IsCopy, IsPlan, LogRefused, PlanAnswer, ReadAnswer, Plan, Folded, WalError, TooLarge, PageSize, NoMemory, Device, SectorAbovePage, down_by, synced_down, settled_present, CopyAnswer}
-use Rattle.walcore.proofs.folds.PlanOfScannedLog.{fit_none, front_zero}
+use Rattle.walcore.proofs.Below.{ArePages, ArePresent, Bounds, CopyAnswer, Database, Device, DiskError, DiskState, EndAnswer, Err, Filling, FoldAnswerWithin, Folded, FoldedAnswer, FrameTable, IsCopy, IsFitWithin, IsFront, IsHeader, IsJust, IsLast, IsLogDurable, IsPlan, IsSettled, IsSoundDisk, IsView, KeepsBytes, KeepsLog, List, Log, LogRefused, Looks, NoMemory, Ok, PageSize, Plan, PlanAnswer, ReadAnswer, Result, SectorAbovePage, Still, Syncs, TearsPages, TooLarge, Unnamed, WalError, Writing, [], ap, arith, byte, cases_eq, cases_lt, content_of, down_by, file_page, fit_none, front_zero, get_or-map-range_with_len, had_refusal, inl, inr, length, length-map-range_with_len, map, named_or_not, named_size, page, page_by_bytes, page_within, present_in, present_list, range_with_len, refl, refusal_after, settled_present, settled_sync, size_of, still_bytes, subst, sym, synced_down, table, ℕ, ⊎_elim, ◌*◌, ◌+◌, ◌-◌, ◌<◌, ◌∙◌, ◌∷◌, ◌≡◌, ◌≤◌}
 use Rattle.walcore.proofs.folds.PhasesOfFold.{view_long, writing_keeps}
 
 -- ---- A file with its log has a view at each frame.

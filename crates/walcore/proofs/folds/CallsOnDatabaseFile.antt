@@ -1,6 +1,5 @@
 -- Calls that fill the database file: pages are written, and a length set.
-use Rattle.std.proofs.Common.{◌≡◌, inl, ℕ, ◌*◌, ◌≤◌, sym, subst}
-use Rattle.walcore.proofs.Words.{Change, write, set_len, sync, calls_wider, DiskState, HasCalls, Later, KeepsLog, Db, Log, MayFillWithin, MayFoldWithin}
+use Rattle.walcore.proofs.Words.{Change, Db, DiskState, HasCalls, KeepsLog, Later, Log, MayFillWithin, MayFoldWithin, calls_wider, inl, set_len, subst, sym, sync, write, ℕ, ◌*◌, ◌≡◌, ◌≤◌}
 use Rattle.recovery.specs.Copying.{MayFill}
 
 -- what is asked for where pages are copied

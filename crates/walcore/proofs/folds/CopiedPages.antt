@@ -1,6 +1,5 @@
 -- The copying of pages.
-use Rattle.std.proofs.Common.{◌≡◌, ◌⊎◌, ⊎_elim, ℕ, ◌+◌, ◌-◌, ◌*◌, ◌<◌, ◌≤◌, List, length, drop, refl, sym, ◌∙◌, ap, subst, arith, length-drop, length-take-le}
-use Rattle.walcore.proofs.Words.{cases_eq, mul-le-mul_right, part, Database, frame_at, frame_end, content_of, IsValidFrame, Unnamed, IsLast, IsView, FrameTable, IsNewest, frame_at-end, IsMade, longest, most_bytes, IsTable, Frames, frame_plan}
+use Rattle.walcore.proofs.Words.{Database, FrameTable, Frames, IsLast, IsMade, IsNewest, IsTable, IsValidFrame, IsView, List, Unnamed, ap, arith, cases_eq, content_of, drop, frame_at, frame_at-end, frame_end, frame_plan, length, length-drop, length-take-le, longest, most_bytes, mul-le-mul_right, part, refl, subst, sym, ℕ, ⊎_elim, ◌*◌, ◌+◌, ◌-◌, ◌<◌, ◌∙◌, ◌≡◌, ◌≤◌, ◌⊎◌}
 use Rattle.walcore.specs.internal.FramePlan.{IsLeft}
 
 -- ---- What the table finds.

@@ -1,7 +1,5 @@
 -- The end of a fold: the database is synced, the log's header zeroed and synced, and the log cut and synced.
-use Rattle.std.proofs.Common.{◌≡◌, inr, ⊎_elim, ℕ, refl, sym, ◌∙◌, subst, arith, [], Result, Ok, Err}
-use Rattle.walcore.proofs.Words.{FileState, IsSettled, DiskState, IsSoundDisk, Syncs, Log, DiskError, HadRefusal, IsLogDurable, Later, refusal_after, had_refusal, synced_down, later_then, later_cut, told_err, told_ok, none_ok, sync_later, sync_refused, EndSteps, end_later, end_settled, MayFoldWithin, CutSteps, EndAnswer, WalError, Device}
-use Rattle.walcore.proofs.disk.PermittedChanges.{may_sync}
+use Rattle.walcore.proofs.Below.{CutSteps, Device, DiskError, DiskState, EndAnswer, EndSteps, Err, FileState, HadRefusal, IsLogDurable, IsSettled, IsSoundDisk, Later, Log, MayFoldWithin, Ok, Result, Syncs, WalError, [], arith, end_later, end_settled, had_refusal, inr, later_cut, later_then, may_sync, none_ok, refl, refusal_after, subst, sym, sync_later, sync_refused, synced_down, told_err, told_ok, ℕ, ⊎_elim, ◌∙◌, ◌≡◌}
 
 module _ {T : Type 0} where
   -- ---- The database is synced, and the header zeroed.

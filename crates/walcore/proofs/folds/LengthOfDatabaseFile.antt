@@ -1,6 +1,5 @@
 -- How long the file is that a crash leaves, while a log is folded into it.
-use Rattle.std.proofs.Common.{◌≡◌, ⊎_elim, ℕ, ◌*◌, ◌≤◌, List, length, sym, ◌∙◌, ap, subst, arith, Result, Ok}
-use Rattle.walcore.proofs.Words.{Database, File, Db, Log, DiskError, sound_syncs, sound_cuts, IsLogDurable, Still, IsLong, KeepsLog, SyncStep, image_still, down_by, down_syncs, down_read, ArePages, named_size, size_of, IsFront, IsView, front_unique, DiskState, IsSoundDisk, Syncs, EndSteps, long_syncs, long_else, long_zero, long_done, CutSteps, EndsBy, IsLengthOf, IsFronted, WalError, wal_log, Device}
+use Rattle.walcore.proofs.Words.{ArePages, CutSteps, Database, Db, Device, DiskError, DiskState, EndSteps, EndsBy, File, IsFront, IsFronted, IsLengthOf, IsLogDurable, IsLong, IsSoundDisk, IsView, KeepsLog, List, Log, Ok, Result, Still, SyncStep, Syncs, WalError, ap, arith, down_by, down_read, down_syncs, front_unique, image_still, length, long_done, long_else, long_syncs, long_zero, named_size, size_of, sound_cuts, sound_syncs, subst, sym, wal_log, ℕ, ⊎_elim, ◌*◌, ◌∙◌, ◌≡◌, ◌≤◌}
 
 module _ (n : ℕ) where
   pub ends_long : (s : DiskState) → IsLong n s → EndsBy n s

@@ -1,7 +1,5 @@
 -- The parts of a fold keep what shows one database.
-use Rattle.std.proofs.Common.{◌≡◌, inl, inr, ⊎_elim, ℕ, ◌≤◌, List, length, get_or, refl, sym, ◌∙◌, ap, subst, arith, Result, Ok}
-use Rattle.walcore.proofs.Words.{cases_eq, Database, page, IsFile, length-file_page, get_or-file_page, byte, IsImage, DiskState, ArePresent, Syncs, IsLogDurable, Still, Suits, KeepsLog, SyncStep, Db, Log, DiskError, table, image_present, present_list, suits_still, suits_syncs, down_syncs, ShowsAlone, Agrees, ArePages, Filling, named_size, size_of, IsValidFrame, IsFront, Unnamed, IsLast, IsView, named_or_not, front_unique, view_file, unwritten_begins, unwritten_shows, unwritten_still, unwritten_syncs, restoring_shows, restoring_keeps, restoring_syncs, restored_shows, restored_syncs, restored_down, restored_step, Show, wal_log, IsOfOtherSize, IsOfSize, Scanning, Writing, Filed, Copied, WalError, Device}
-use Rattle.walcore.proofs.folds.CopiedPages.{content_long}
+use Rattle.walcore.proofs.Below.{Agrees, ArePages, ArePresent, Copied, Database, Db, Device, DiskError, DiskState, Filed, Filling, IsFile, IsFront, IsImage, IsLast, IsLogDurable, IsOfOtherSize, IsOfSize, IsValidFrame, IsView, KeepsLog, List, Log, Ok, Result, Scanning, Show, ShowsAlone, Still, Suits, SyncStep, Syncs, Unnamed, WalError, Writing, ap, arith, byte, cases_eq, content_long, down_syncs, front_unique, get_or, get_or-file_page, image_present, inl, inr, length, length-file_page, named_or_not, named_size, page, present_list, refl, restored_down, restored_shows, restored_step, restored_syncs, restoring_keeps, restoring_shows, restoring_syncs, size_of, subst, suits_still, suits_syncs, sym, table, unwritten_begins, unwritten_shows, unwritten_still, unwritten_syncs, view_file, wal_log, ℕ, ⊎_elim, ◌∙◌, ◌≡◌, ◌≤◌}
 
 -- ---- Nothing was written yet.
 

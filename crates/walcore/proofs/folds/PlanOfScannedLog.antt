@@ -1,6 +1,5 @@
 -- What a scanned log is judged by, and the table of its frames.
-use Rattle.std.proofs.Common.{◌≡◌, ◌≢◌, inl, inr, ⊎_elim, ℕ, suc, ◌+◌, ◌-◌, ◌*◌, ◌<◌, ◌≤◌, List, ◌∷◌, ◌++◌, length, get_or, refl, sym, ◌∙◌, ap, subst, arith, length-append, [], Option, Some, None, Result, Ok, Err, get_or-append-add}
-use Rattle.walcore.proofs.Words.{cases_lt, cases_eq, nat_tests, get_or_append_left, IsPageSize, Bounds, greatest, DiskState, IsOneOf, one_of, IsHeader, named_size, page_of, size_of, IsValidFrame, IsFront, FrameTable, IsCommittedWithin, Front, front_unique, front_none, IsTooLargeWithin, IsTable, IsFitWithin, wanted_page, LogRefused, JudgeAnswer, PlanAnswer, ReadAnswer, ScanRefused, wal_scan, TookWithin, Scan, Plan, WalError, TooLarge, PageSize, NoMemory, Device, ScanAnswer}
+use Rattle.walcore.proofs.Words.{Bounds, Device, DiskState, Err, FrameTable, Front, IsCommittedWithin, IsFitWithin, IsFront, IsHeader, IsOneOf, IsPageSize, IsTable, IsTooLargeWithin, IsValidFrame, JudgeAnswer, List, LogRefused, NoMemory, None, Ok, Option, PageSize, Plan, PlanAnswer, ReadAnswer, Result, Scan, ScanAnswer, ScanRefused, Some, TooLarge, TookWithin, WalError, [], ap, arith, cases_eq, cases_lt, front_none, front_unique, get_or, get_or-append-add, get_or_append_left, greatest, inl, inr, length, length-append, named_size, nat_tests, one_of, page_of, refl, size_of, subst, suc, sym, wal_scan, wanted_page, ℕ, ⊎_elim, ◌*◌, ◌++◌, ◌+◌, ◌-◌, ◌<◌, ◌∙◌, ◌∷◌, ◌≡◌, ◌≢◌, ◌≤◌}
 
 -- ---- A log without a valid header.
 

@@ -1,8 +1,6 @@
 -- What a scan of the first bytes of a log says of the log.
-use Rattle.std.proofs.Common.{◌≡◌, ℕ, suc, ◌+◌, ◌≤◌, List, ◌++◌, length, take, drop, refl, sym, subst, arith, Bool, true, false, Result, Ok, Err, length-take-le, take-take, take-append-drop, get_or-drop}
-use Rattle.walcore.proofs.Words.{IsPageSize, AreBytes, DiskState, IsHeader, HeaderRefused, named_size, AllPass, IsValidFrame, LogRefusedWithin, WalFormatError, NotAWal, HeaderSum, UnknownVersion, header_same, word_same, all_same, IsWithoutHeader, ScanRefused, wal_scan, WalError, TooLarge, TookWithin, IsSettledWithin, Scan, PieceAnswer}
+use Rattle.walcore.proofs.Words.{AllPass, AreBytes, Bool, DiskState, Err, HeaderRefused, HeaderSum, IsHeader, IsPageSize, IsSettledWithin, IsValidFrame, IsWithoutHeader, List, LogRefusedWithin, NotAWal, Ok, PieceAnswer, Result, Scan, ScanRefused, TooLarge, TookWithin, UnknownVersion, WalError, WalFormatError, WalNoMemory, all_same, arith, drop, false, get_or-drop, header_same, length, length-take-le, named_size, refl, subst, suc, sym, take, take-append-drop, take-take, true, wal_scan, word_same, ℕ, ◌++◌, ◌+◌, ◌≡◌, ◌≤◌}
 use Rattle.sqwal.specs.declared.error.WalFormatError.TheVariants.{PageSize, TooLong, NoMemory}
-use Rattle.walcore.specs.declared.error.WalError.TheVariants.{NoMemory as WalNoMemory}
 
 header_refused : (w x : List ℕ) (e : WalFormatError) → take 32 w ≡ take 32 x → 32 ≤ length x → HeaderRefused x e → IsHeader (named_size w) w → ⊥
 header_refused w x NotAWal same long bad is = bad (header_same (named_size w) w x 32 same (omega arith) long is).magic

@@ -1,6 +1,5 @@
 -- While zeros are written over the log's header, it is the log that it was, or has no valid frame; and so is the header of a log that is cut then.
-use Rattle.std.proofs.Common.{◌≡◌, ⊎_elim, ℕ, ◌+◌, ◌-◌, ◌<◌, ◌≤◌, max, Bool, true, false, List, [], ◌∷◌, length, take, drop, get_or, replicate, refl, sym, ◌∙◌, ap, subst, arith, Result, Ok, Err, get_or-take, get_or-drop, ext_get_or}
-use Rattle.walcore.proofs.Words.{length-replicate, cases_lt, part, word, Database, size_some, DiskState, IsSoundDisk, ChangedBy, Cuts, Syncs, IsLogDurable, IsSteady, Log, DiskError, Stopped, Failed, TooLong, written_inside, sound_writes, sound_cuts, present_list, present_written, told_ok, none_ok, sector_some, sector_within, MayBeRead, ShowsAlone, Repeats, ZeroSteps, read_cases, zero_at, front_stands, front_bytes, front_listed, front_torn, zeroed_restored, IsHeader, named_size, frame_at, frame_end, IsValidFrame, frame_at-suc, frame_end-suc, frame_end-zero, header_same, FileState, byte, IsImage, IsSound, WriteTouches, written, Changed, IsSettled, CutTouches, cut_to, table, not_torn, steady_cut, down_one, present_byte, synced_down, Restored, may_down, restored_shows, restored_syncs, restored_by, AreWhole, Show, wal_log, IsOfSize, Filed, EndSteps, CutSteps, Copied, WalError, Device}
+use Rattle.walcore.proofs.Below.{AreWhole, Bool, Changed, ChangedBy, Copied, CutSteps, CutTouches, Cuts, Database, Device, DiskError, DiskState, EndSteps, Err, Failed, FileState, Filed, IsHeader, IsImage, IsLogDurable, IsOfSize, IsSettled, IsSound, IsSoundDisk, IsSteady, IsValidFrame, List, Log, MayBeRead, Ok, Repeats, Restored, Result, Show, ShowsAlone, Stopped, Syncs, TooLong, WalError, WriteTouches, ZeroSteps, [], ap, arith, byte, cases_lt, cut_to, down_one, drop, ext_get_or, false, frame_at, frame_at-suc, frame_end, frame_end-suc, frame_end-zero, front_bytes, front_listed, front_stands, front_torn, get_or, get_or-drop, get_or-take, header_same, length, length-replicate, max, may_down, named_size, none_ok, not_torn, part, present_byte, present_list, present_written, read_cases, refl, replicate, restored_by, restored_shows, restored_syncs, sector_some, sector_within, size_some, sound_cuts, sound_writes, steady_cut, subst, sym, synced_down, table, take, told_ok, true, wal_log, word, written, written_inside, zero_at, zeroed_restored, ℕ, ⊎_elim, ◌+◌, ◌-◌, ◌<◌, ◌∙◌, ◌∷◌, ◌≡◌, ◌≤◌}
 use Rattle.recovery.proofs.Words.{NoMemory}
 use Rattle.crashdisk.proofs.sync.BytesOfSyncedLog.{one_write}
 use Rattle.recovery.proofs.EndOfRestore.{ended}

@@ -1,6 +1,5 @@
 -- Words that spell the same number are the same bytes.
-use Rattle.std.proofs.Common.{◌≡◌, ℕ, zero, suc, ◌+◌, ◌*◌, ◌<◌, ◌≤◌, List, ◌++◌, length, take, drop, get_or, sym, ◌∙◌, ap, arith, length-drop, get_or-take, get_or-drop, length-take-le, ext_get_or}
-use Rattle.walcore.proofs.Words.{big_number, big_from-take, part, word, AreBytes, take_add}
+use Rattle.walcore.proofs.Words.{AreBytes, List, ap, arith, big_from-take, big_number, drop, ext_get_or, get_or, get_or-drop, get_or-take, length, length-drop, length-take-le, part, suc, sym, take, take_add, word, zero, ℕ, ◌*◌, ◌++◌, ◌+◌, ◌<◌, ◌∙◌, ◌≡◌, ◌≤◌}
 
 record SameDigits (a b c d e f g h : ℕ) : Type 0 where
   pub first : a ≡ e

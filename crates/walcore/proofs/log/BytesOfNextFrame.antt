@@ -1,9 +1,6 @@
 -- The bytes of a log's next frame, and the sum behind it, are those that are made of its page.
-use Rattle.std.proofs.Common.{◌≡◌, ⊎_elim, ℕ, suc, ◌+◌, ◌-◌, ◌^◌, ◌<◌, ◌≤◌, cond, ◌==◌, List, [], ◌∷◌, ◌++◌, length, take, drop, get_or, sym, ◌∙◌, ap, subst, arith, get_or-take, get_or-drop, length-take, length-take-le, take-take, drop_at}
-use Rattle.walcore.proofs.Words.{cases_lt, drop-take, get_or_past, part, AreBytes, IsSumOf, IsHeaderOf, frame_end, page_of, size_of, content_of, summed, IsFrameHead, IsLog, Sum, WalHeader, frame_end-le, frame_end-head, header_same, all_same, page_same, size_same, content_same, summed_same, IsAppended, appended, header_of_same, word_fits, IsExtended}
-use Rattle.walcore.proofs.log.LogOfHeaderAlone.{append_bytes, numbers_bytes}
+use Rattle.walcore.proofs.Below.{AreBytes, IsAppended, IsExtended, IsFrameHead, IsHeaderOf, IsLog, IsSumOf, List, Sum, WalHeader, [], all_same, ap, append_bytes, appended, arith, cases_lt, cond, content_of, content_same, drop, drop-take, drop_at, frame_end, frame_end-head, frame_end-le, get_or, get_or-drop, get_or-take, get_or_past, grown_all, grown_next, grown_none, header_of_same, header_same, length, length-take, length-take-le, numbers_bytes, page_of, page_same, part, size_of, size_same, subst, suc, summed, summed_same, sym, take, take-take, word_fits, ℕ, ⊎_elim, ◌++◌, ◌+◌, ◌-◌, ◌<◌, ◌==◌, ◌^◌, ◌∙◌, ◌∷◌, ◌≡◌, ◌≤◌}
 use Rattle.walcore.proofs.commit.EraAfterCommit.{content_whole}
-use Rattle.walcore.proofs.log.ExtensionByFrames.{grown_none, grown_next, grown_all}
 use Rattle.walcore.proofs.log.UniquenessOfExtendedLog.{extended_unique}
 
 pub take_bytes : (k : ℕ) (w : List ℕ) → AreBytes w → AreBytes (take k w)

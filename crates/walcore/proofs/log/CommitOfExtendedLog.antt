@@ -1,6 +1,5 @@
 -- The frames of a commit behind a log.
-use Rattle.std.proofs.Common.{◌≡◌, ⊎_elim, ℕ, suc, ◌+◌, ◌-◌, ◌<◌, ◌≤◌, cond, List, length, take, sym, ◌∙◌, ap, arith, ◌==◌, Option, None, unwrap_or, take_all}
-use Rattle.walcore.proofs.Words.{cases_lt, nat_tests, Database, Pages, page, supplied, apply, frame_end, page_of, size_of, content_of, IsCommit, IsLog, IsExtended, IsApplied, AreCommitted, number_at, supplied_none, supplied_at, length-apply, page-apply}
+use Rattle.walcore.proofs.Words.{AreCommitted, Database, IsApplied, IsCommit, IsExtended, IsLog, List, None, Option, Pages, ap, apply, arith, cases_lt, cond, content_of, frame_end, length, length-apply, nat_tests, number_at, page, page-apply, page_of, size_of, suc, supplied, supplied_at, supplied_none, sym, take, take_all, unwrap_or, ℕ, ⊎_elim, ◌+◌, ◌-◌, ◌<◌, ◌==◌, ◌∙◌, ◌≡◌, ◌≤◌}
 
 module _ (size : ℕ) (e : List ℕ) (n : ℕ) (pages : Pages) (count : ℕ) (f : List ℕ) (log : IsLog size e n) (more : IsExtended size e n pages count f) where
   -- the log before is in front

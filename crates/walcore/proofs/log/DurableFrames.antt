@@ -1,9 +1,6 @@
 -- What writes and syncs of the log keep of the frames that are durable.
-use Rattle.std.proofs.Common.{◌≡◌, inl, inr, ⊎_elim, ℕ, ◌+◌, ◌*◌, ◌/◌, ◌<◌, ◌≤◌, Bool, true, false, List, ◌∷◌, ◌++◌, length, take, get_or, refl, sym, ◌∙◌, ap, subst, arith, [], Result, Ok, Err, length-take-le, get_or-take}
-use Rattle.walcore.proofs.Words.{Contains, Contains-push_cases, le-div, div-mul-le_self, mul-le-mul_right, FileState, byte, DiskState, IsSoundDisk, ArePresent, Writes, Syncs, with_write, SinceSync, IsFixed, HasFixed, Spreads, Log, DiskError, Stopped, Failed, TooLong, present_image, fixed_writes, fixed_syncs, fixed_synced, frame_end, IsLog, frame_end-le, frame_end-head, HoldsFrames, IsBehind, IsPresent}
+use Rattle.walcore.proofs.Between.{ArePresent, Bool, Contains, Contains-push_cases, DiskError, DiskState, Err, Failed, FileState, HasFixed, HoldsFrames, IsBehind, IsFixed, IsLog, IsPresent, IsSoundDisk, List, Log, Ok, Result, SinceSync, Spreads, Stopped, Syncs, TooLong, Writes, [], ap, arith, byte, div-mul-le_self, down_head, down_image, false, fixed_synced, fixed_syncs, fixed_writes, frame_end, frame_end-head, frame_end-le, get_or, get_or-take, inl, inr, le-div, length, length-take-le, mul-le-mul_right, present_image, refl, subst, sym, syncs_untorn, take, true, untorn, with_write, writes_untorn, ℕ, ⊎_elim, ◌*◌, ◌++◌, ◌+◌, ◌/◌, ◌<◌, ◌∙◌, ◌∷◌, ◌≡◌, ◌≤◌}
 use Rattle.recovery.proofs.Words.{NoMemory}
-use Rattle.walcore.proofs.crash.HistoryInCrashImages.{down_image, down_head}
-use Rattle.walcore.proofs.disk.UntornDisk.{untorn, writes_untorn, syncs_untorn}
 
 -- a write past what is durable, on a disk that doesn't tear
 clear_whole : (sector from to k : ℕ) → k ≤ from → (i : ℕ) → i < k → Spreads sector false from to i → ⊥

@@ -1,6 +1,5 @@
 -- An era begins, and frames behind it carry it on.
-use Rattle.std.proofs.Common.{◌≡◌, ◌⊎◌, inl, inr, ⊎_elim, ℕ, ◌+◌, ◌-◌, ◌<◌, ◌≤◌, List, [], length, take, get_or, refl, sym, ◌∙◌, ap, subst, arith}
-use Rattle.walcore.proofs.Words.{cases_lt, cases_eq, Database, page, IsHeld, frame_end, page_of, size_of, IsCommit, IsLog, IsLast, IsOver, frame_end-le, page_same, size_same, content_same, commit_same, over_same, last_same, unnamed_same, IsBoundary, shown, IsEra, IsApplied}
+use Rattle.walcore.proofs.Words.{Database, IsApplied, IsBoundary, IsCommit, IsEra, IsHeld, IsLast, IsLog, IsOver, List, [], ap, arith, cases_eq, cases_lt, commit_same, content_same, frame_end, frame_end-le, get_or, inl, inr, last_same, length, over_same, page, page_of, page_same, refl, shown, size_of, size_same, subst, sym, take, unnamed_same, ℕ, ⊎_elim, ◌+◌, ◌-◌, ◌<◌, ◌∙◌, ◌≡◌, ◌≤◌, ◌⊎◌}
 
 -- a new log, over the last database of the history
 pub era_begin : (size : ℕ) (f : List ℕ) (h : List Database) → IsLog size f 0 → 1 ≤ length h → ((i : ℕ) → i < length h → IsHeld size (get_or h i [])) → IsEra size f 0 0 h (λ i. length h - 1)

@@ -1,8 +1,5 @@
 -- There is a frame behind each log, and so a commit.
-use Rattle.std.proofs.Common.{◌≡◌, ◌≢◌, ℕ, zero, suc, ◌+◌, ◌*◌, ◌/◌, ◌%◌, ◌^◌, ◌<◌, ◌≤◌, Bool, true, false, cond, ◌==◌, List, ◌∷◌, ◌++◌, length, take, drop, get_or, refl, sym, subst, arith, lit<, length-append, [], take_all}
-use Rattle.walcore.proofs.Words.{big_bytes, word, AreBytes, Pages, number, words, sum_0, sum_1, GoesOn, order_of, IsHeaderOf, summed, IsFrameHead, IsLog, Order, Sum, WalHeader, goes_on_none, goes_on_pair, IsAppended, appended, word_fits, page_pairs, IsExtended}
-use Rattle.walcore.proofs.log.LogOfHeaderAlone.{append_bytes, numbers_bytes}
-use Rattle.walcore.proofs.log.ExtensionByFrames.{IsGrown, grown_none, grown_next, grown_all}
+use Rattle.walcore.proofs.Below.{AreBytes, Bool, GoesOn, IsAppended, IsExtended, IsFrameHead, IsGrown, IsHeaderOf, IsLog, List, Order, Pages, Sum, WalHeader, [], append_bytes, appended, arith, big_bytes, cond, drop, false, get_or, goes_on_none, goes_on_pair, grown_all, grown_next, grown_none, length, length-append, lit<, number, numbers_bytes, order_of, page_pairs, refl, subst, suc, sum_0, sum_1, summed, sym, take, take_all, true, word, word_fits, words, zero, ℕ, ◌%◌, ◌*◌, ◌++◌, ◌+◌, ◌/◌, ◌<◌, ◌==◌, ◌^◌, ◌∷◌, ◌≡◌, ◌≢◌, ◌≤◌}
 
 -- a sum goes on over the first k pairs of words
 goes_over_pairs : (order : Order) (xs : List ℕ) (start : Sum) (k : ℕ) → 8 * k ≤ length xs → (after : Sum) × GoesOn order (take (8 * k) xs) start after

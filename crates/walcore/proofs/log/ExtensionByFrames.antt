@@ -1,6 +1,5 @@
 -- The frames of a commit, one after another, behind a log.
-use Rattle.std.proofs.Common.{◌≡◌, ⊎_elim, ℕ, suc, ◌+◌, ◌<◌, ◌≤◌, cond, ◌==◌, List, [], length, take, get_or, sym, ◌∙◌, ap, subst, arith, take_all}
-use Rattle.walcore.proofs.Words.{cases_eq, AreBytes, Pages, frame_end, page_of, size_of, content_of, IsLog, Sum, WalHeader, IsAppended, frame_end-le, page_same, size_same, content_same, take_less, IsExtended}
+use Rattle.walcore.proofs.Words.{AreBytes, IsAppended, IsExtended, IsLog, List, Pages, Sum, WalHeader, [], ap, arith, cases_eq, cond, content_of, content_same, frame_end, frame_end-le, get_or, length, page_of, page_same, size_of, size_same, subst, suc, sym, take, take_all, take_less, ℕ, ⊎_elim, ◌+◌, ◌<◌, ◌==◌, ◌∙◌, ◌≡◌, ◌≤◌}
 
 -- frame n + k + 1 is that of page k of a commit to size s
 pub record IsFrameOf (size n : ℕ) (pages : Pages) (s : ℕ) (f : List ℕ) (k : ℕ) : Type 0 where

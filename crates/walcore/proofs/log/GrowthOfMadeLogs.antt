@@ -1,6 +1,5 @@
 -- The logs that were made grow, by one that is begun and by frames behind the newest.
-use Rattle.std.proofs.Common.{◌≡◌, ◌⊎◌, inl, inr, ⊎_elim, ℕ, zero, suc, ◌<◌, ◌≤◌, List, [], ◌∷◌, length, take, get_or, refl, sym, ◌∙◌, ap, subst, arith}
-use Rattle.walcore.proofs.Words.{Contains, get_or_default, Contains-get_or, word, IsLog, most_frames, word_same, frame_end-zero, AreMade, HasNewSalts, IsBegun}
+use Rattle.walcore.proofs.Words.{AreMade, Contains, Contains-get_or, HasNewSalts, IsBegun, IsLog, List, [], ap, arith, frame_end-zero, get_or, get_or_default, inl, inr, length, most_frames, refl, subst, suc, sym, take, word, word_same, zero, ℕ, ⊎_elim, ◌<◌, ◌∙◌, ◌∷◌, ◌≡◌, ◌≤◌, ◌⊎◌}
 
 pub made_here : {X : Type 0} (x : X) (xs : List X) → Contains (x ∷ xs) x
 made_here x xs = (0, omega arith, refl)

@@ -1,7 +1,5 @@
 -- Before the first commit: a log of no more than a header, and the calls that keep what it shows.
-use Rattle.std.proofs.Common.{◌≡◌, ℕ, ◌-◌, ◌<◌, ◌≤◌, ◌&&◌, Bool, true, false, not, List, length, get_or, refl, sym, ◌∙◌, ap, subst, arith, Result, Ok, Err, IsOk}
-use Rattle.walcore.proofs.Words.{DiskState, IsSoundDisk, ArePresent, IsLogDurable, SyncStep, Log, down_syncs, synced_down, sound_writes, sound_syncs, written_inside, present_written, alone_syncs, HeaderSteps, RestAnswer, SyncsFrames, SyncsBy, MayRestart, TakesOver, IsUncommitted, KeepsUncommitted, NewLog, Core, WalError, Device, wal_log}
-use Rattle.walcore.proofs.openings.ShownDatabaseAfterOpening.{header_alone}
+use Rattle.walcore.proofs.Facts.{ArePresent, Bool, Core, Device, DiskState, Err, HeaderSteps, IsLogDurable, IsOk, IsSoundDisk, IsUncommitted, KeepsUncommitted, List, Log, MayRestart, NewLog, Ok, RestAnswer, Result, SyncStep, SyncsBy, SyncsFrames, TakesOver, WalError, alone_syncs, ap, arith, down_syncs, false, get_or, header_alone, length, not, present_written, refl, sound_syncs, sound_writes, subst, sym, synced_down, true, wal_log, written_inside, ℕ, ◌&&◌, ◌-◌, ◌<◌, ◌∙◌, ◌≡◌, ◌≤◌}
 use Rattle.walcore.proofs.openings.StepOfOpening.{HeaderDone, header_done}
 
 module _ {T : Type 0} (f v : List ℕ) (long : length f ≡ 32) (short : length v ≤ 32) (r : Result T WalError) (u : T) (s t : DiskState) (sound : IsSoundDisk s) (durable : IsLogDurable s v) (was : r ≡ Ok u) (steps : HeaderSteps f r s t) where

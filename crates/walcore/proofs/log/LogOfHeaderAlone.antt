@@ -1,6 +1,5 @@
 -- A header that is written is a log of no frames, made.
-use Rattle.std.proofs.Common.{◌≡◌, ⊎_elim, ℕ, zero, suc, ◌/◌, ◌^◌, ◌<◌, List, [], ◌∷◌, ◌++◌, length, refl, sym, ◌∙◌, ap, subst, lit<, slice_index, nat_eq, cond}
-use Rattle.walcore.proofs.Words.{mod_below, byte_at, bytes_high_first, flat_map, big_bytes, word, AreBytes, IsPageSize, one_of, words, sum_0, sum_1, order_of, IsHeaderOf, Big, Little, Sum, WalHeader, front_words, header_made, IsBegun}
+use Rattle.walcore.proofs.Words.{AreBytes, Big, IsBegun, IsHeaderOf, IsPageSize, List, Little, Sum, WalHeader, [], ap, big_bytes, byte_at, bytes_high_first, cond, flat_map, front_words, header_made, length, lit<, mod_below, nat_eq, one_of, order_of, refl, slice_index, subst, suc, sum_0, sum_1, sym, word, words, zero, ℕ, ⊎_elim, ◌++◌, ◌/◌, ◌<◌, ◌^◌, ◌∙◌, ◌∷◌, ◌≡◌}
 
 pub append_bytes : (xs ys : List ℕ) → AreBytes xs → AreBytes ys → AreBytes (xs ++ ys)
 append_bytes [] ys a b i = b i

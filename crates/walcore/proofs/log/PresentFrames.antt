@@ -1,6 +1,5 @@
 -- The frames that are there to be read.
-use Rattle.std.proofs.Common.{◌≡◌, inl, ⊎_elim, ℕ, ◌+◌, ◌-◌, ◌≤◌, List, length, take, drop, get_or, sym, ◌∙◌, ap, subst, arith, length-drop, Ok, get_or-take, get_or-drop, length-take-le}
-use Rattle.walcore.proofs.Words.{cases_lt, FileState, byte, DiskState, Writes, Syncs, Log, written_inside, written_outside, present_written, present_synced, part, frame_end, frame_end-le, IsPresent}
+use Rattle.walcore.proofs.Words.{DiskState, FileState, IsPresent, List, Log, Ok, Syncs, Writes, ap, arith, byte, cases_lt, drop, frame_end, frame_end-le, get_or, get_or-drop, get_or-take, inl, length, length-drop, length-take-le, part, present_synced, present_written, subst, sym, take, written_inside, written_outside, ℕ, ⊎_elim, ◌+◌, ◌-◌, ◌∙◌, ◌≡◌, ◌≤◌}
 
 module _ (size : ℕ) (e : List ℕ) (s t : DiskState) where
   -- calls that left the log alone

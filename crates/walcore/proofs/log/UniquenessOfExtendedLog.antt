@@ -1,7 +1,5 @@
 -- A log that is begun or extended is determined by what is said of it.
-use Rattle.std.proofs.Common.{◌≡◌, ℕ, zero, suc, ◌+◌, ◌≤◌, List, ◌++◌, length, take, refl, sym, ◌∙◌, ap, subst, arith, take_all}
-use Rattle.walcore.proofs.Words.{part, word, AreBytes, Pages, words, sum_0, sum_1, order_of, frame_at, frame_end, page_of, size_of, content_of, summed, Passes, IsLog, frame_at-suc, frame_at-end, frame_at-head, frame_end-le, below_end, word_same, order_same, part_same, summed_same, IsBegun, IsExtended}
-use Rattle.walcore.proofs.log.BytesOfEqualWords.{take_on, word_next}
+use Rattle.walcore.proofs.Below.{AreBytes, IsBegun, IsExtended, IsLog, List, Pages, Passes, ap, arith, below_end, content_of, frame_at, frame_at-end, frame_at-head, frame_at-suc, frame_end, frame_end-le, length, order_of, order_same, page_of, part, part_same, refl, size_of, subst, suc, sum_0, sum_1, summed, summed_same, sym, take, take_all, take_on, word, word_next, word_same, words, zero, ℕ, ◌++◌, ◌+◌, ◌∙◌, ◌≡◌, ◌≤◌}
 
 -- two lists of bytes that are the same up to a place, and go on to a later one
 record Agree (w v : List ℕ) (long at : ℕ) : Type 0 where

@@ -1,9 +1,6 @@
 -- Each moment of a run makes something of the logs.
-use Rattle.std.proofs.Common.{◌≡◌, ℕ, zero, suc, ◌+◌, ◌%◌, ◌^◌, ◌<◌, ◌≤◌, Bool, true, false, cond, not, ◌&&◌, ◌==◌, List, ◌∷◌, length, take, drop, get_or, Option, Some, None, refl, sym, ◌∙◌, subst, arith, lit<, length-drop, [], get_or-drop, length-take-le}
-use Rattle.walcore.proofs.Words.{mod_below, nat_tests, part, word, AreBytes, Pages, IsPageSize, IsFaultless, Answer, Done, Refused, Refuses, newest, frame_at, frame_end, page_of, size_of, content_of, Passes, IsLog, word_fits, frame_end-zero, frame_end-suc, frame_end-le, frame_at-end, refusal_of, State, Act, Opens, Commits, Checkpoints, Restarts, closed, committed, commit_refusal, CommitStep, Step, IsBegun, IsExtended, Made, BeginsLog, Extends, Copies, MadeByRestart, MadeByCommit, MadeByCopy, MadeBySync, IfBegun, Makes, has_begun, IsInForce, HasNewest, AreWords}
+use Rattle.walcore.proofs.Below.{Act, Answer, AreBytes, AreWords, BeginsLog, Bool, Checkpoints, CommitStep, Commits, Copies, Done, Extends, HasNewest, IfBegun, IsBegun, IsExtended, IsFaultless, IsInForce, IsLog, IsPageSize, List, Made, MadeByCommit, MadeByCopy, MadeByRestart, MadeBySync, Makes, None, Opens, Option, Pages, Passes, Refused, Refuses, Restarts, Some, State, Step, [], arith, begun_exists, closed, commit_refusal, committed, cond, cond_none, content_of, drop, false, few_refusals, frame_at, frame_at-end, frame_end, frame_end-le, frame_end-suc, frame_end-zero, get_or, get_or-drop, granted, has_begun, length, length-drop, length-take-le, lit<, mod_below, nat_tests, newest, not, page_of, part, refl, refusal_of, size_of, subst, suc, sym, take, true, word, word_fits, zero, ℕ, ◌%◌, ◌&&◌, ◌+◌, ◌<◌, ◌==◌, ◌^◌, ◌∙◌, ◌∷◌, ◌≡◌, ◌≤◌}
 use Rattle.walcore.specs.Machine.{Syncs}
-use Rattle.walcore.proofs.commit.AcceptedCommit.{granted, cond_none, few_refusals}
-use Rattle.walcore.proofs.log.LogOfHeaderAlone.{begun_exists}
 use Rattle.walcore.proofs.log.ExistenceOfExtendedLog.{IsFrame, AreFrames, size_fits, extended_exists}
 
 -- something is made, of which the newest is a log again

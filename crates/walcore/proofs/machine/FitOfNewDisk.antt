@@ -1,9 +1,5 @@
 -- A disk that is new with a base fits where a world begins.
-use Rattle.std.proofs.Common.{◌≡◌, inl, ⊎_elim, ℕ, zero, suc, ◌<◌, ◌≤◌, Bool, true, false, List, [], ◌∷◌, length, get_or, refl, sym, ◌∙◌, ap, subst, arith}
-use Rattle.walcore.proofs.Words.{IsPageSize, Database, IsJust, IsHeld, IsImage, IsSectorSize, DiskState, IsNew, sound_new, settled_one, MayBeRead, ShowsWhole, read_cases, named_size, IsFront, AreMade, FitsAlone, beginning, wal_log}
-use Rattle.walcore.proofs.crash.FrontOfSurvivingLog.{just_file}
-use Rattle.walcore.proofs.openings.RecoveredFiles.{none_front}
-use Rattle.walcore.proofs.restart.ShownDatabaseDuringRestart.{just_shows}
+use Rattle.walcore.proofs.Between.{AreMade, Bool, Database, DiskState, FitsAlone, IsFront, IsHeld, IsImage, IsJust, IsNew, IsPageSize, IsSectorSize, List, MayBeRead, ShowsWhole, [], ap, arith, beginning, false, get_or, inl, just_file, just_shows, length, named_size, none_front, read_cases, refl, settled_one, sound_new, subst, suc, sym, true, wal_log, zero, ℕ, ⊎_elim, ◌<◌, ◌∙◌, ◌∷◌, ◌≡◌, ◌≤◌}
 
 pub held_at : (size : ℕ) (base : Database) → IsHeld size base → (i : ℕ) → i < 1 → IsHeld size (get_or (base ∷ []) i [])
 held_at size base held zero lt = held

@@ -1,11 +1,6 @@
 -- Files that are durable fit where a world begins with the database that they show.
-use Rattle.std.proofs.Common.{◌≡◌, inl, inr, ⊎_elim, ℕ, zero, suc, ◌+◌, ◌-◌, ◌*◌, ◌<◌, ◌≤◌, false, true, List, [], ◌∷◌, map, length, take, refl, sym, ◌∙◌, ap, subst, arith, length-take-le, take-take}
-use Rattle.walcore.proofs.Words.{Contains, range_with_len, cases_eq, cases_lt, get_or-map-range_with_len, length-map-range_with_len, part, most_bytes, IsPageSize, IsJust, IsHeld, Files, length-file_page, IsImage, IsSettled, DiskState, IsLogDurable, Suits, down_one, settled_one, MayBeRead, ShowsWhole, read_cases, Database, page, file_page, IsHeader, named_size, frame_at, frame_end, size_of, AllPass, IsValidFrame, IsCommit, IsFront, IsLog, IsView, most_frames, all_decided, header_decided, front_exists, frame_end-zero, frame_end-head, frame_end-le, frame_at-end, take_less, part_same, header_same, all_same, front_unique, named_or_not, AreMade, NoChance, MayOpen, IsFit, FitsAlone, beginning_beside, wal_log}
+use Rattle.walcore.proofs.Between.{AllPass, AreMade, Contains, Database, DiskState, Files, FitsAlone, IsCommit, IsFit, IsFront, IsHeader, IsHeld, IsImage, IsJust, IsLog, IsLogDurable, IsPageSize, IsSettled, IsValidFrame, IsView, List, MayBeRead, MayOpen, NoChance, ShowsWhole, Suits, [], all_decided, all_same, ap, arith, beginning_beside, cases_eq, cases_lt, content_long, down_one, false, file_page, frame_at, frame_at-end, frame_end, frame_end-head, frame_end-le, frame_end-zero, front_exists, front_unique, get_or-map-range_with_len, header_decided, header_same, inl, inr, just_file, just_shows, length, length-file_page, length-map-range_with_len, length-take-le, map, most_bytes, most_frames, named_or_not, named_size, page, part, part_same, range_with_len, read_cases, refl, settled_one, size_of, subst, suc, sym, take, take-take, take_less, true, view_exists, wal_log, zero, ℕ, ⊎_elim, ◌*◌, ◌+◌, ◌-◌, ◌<◌, ◌∙◌, ◌∷◌, ◌≡◌, ◌≤◌}
 use Rattle.walcore.proofs.machine.FitOfNewDisk.{held_at, made_nothing}
-use Rattle.walcore.proofs.folds.CopiedPages.{content_long}
-use Rattle.walcore.proofs.crash.FrontOfSurvivingLog.{just_file}
-use Rattle.walcore.proofs.folds.AnswerOfParts.{view_exists}
-use Rattle.walcore.proofs.restart.ShownDatabaseDuringRestart.{just_shows}
 
 -- ---- they fit
 

@@ -1,7 +1,6 @@
 -- A core over a log without frames fits.
-use Rattle.std.proofs.Common.{◌≡◌, inl, ℕ, ◌+◌, ◌-◌, ◌<◌, Bool, true, false, cond, List, ◌∷◌, length, get_or, refl, sym, ◌∙◌, ap, subst, arith, Option, Some, None, sum_by}
-use Rattle.walcore.proofs.Words.{Database, IsImage, DiskState, IsJust, present_image, newest, frame_end, summed, IsSumOf, IsHeaderOf, reader_at, Stands, IsPresent, Past, FitsDisk, FitsCore, IsBound, AreTogether, IsCore, times, has_mark, IsNewCore, NewLog, Reader, Core, frame_end-le}
-use Rattle.walcore.proofs.crash.HistoryInCrashImages.{stands_shows, present_last}
+use Rattle.walcore.proofs.Between.{AreTogether, Bool, Core, Database, DiskState, FitsCore, FitsDisk, IsBound, IsCore, IsHeaderOf, IsImage, IsJust, IsNewCore, IsPresent, IsSumOf, List, NewLog, None, Option, Past, Reader, Some, Stands, ap, arith, cond, false, frame_end, frame_end-le, get_or, has_mark, inl, length, newest, present_image, present_last, reader_at, refl, stands_shows, subst, summed, sym, times, true, ℕ, ◌+◌, ◌-◌, ◌<◌, ◌∙◌, ◌∷◌, ◌≡◌}
+use Rattle.std.proofs.Common.{sum_by}
 use Rattle.walcore.proofs.sync.LogWithRepeatedFrame.{behind_none}
 
 -- the place of the last database

@@ -1,9 +1,6 @@
 -- What fits an engine still fits after calls that change nothing of its files.
-use Rattle.std.proofs.Common.{◌≡◌, inl, inr, ℕ, ◌+◌, ◌*◌, ◌≤◌, Bool, false, cond, List, get_or, refl, sym, ◌∙◌, ap, subst, ◌<◌, IsTrue, None}
-use Rattle.walcore.proofs.Words.{FileState, IsImage, DiskState, Database, IsJust, Answer, Refused, SameFiles, Still, same_files, image_same, present_in, MayBeRead, newest, IsHeaderOf, frame_end, page_of, summed, IsSumOf, FrameTable, WalHeader, Sum, AreWhole, wal_log, reader_at, Act, Step, Makes, most_pages, IsBehind, Stands, IsPresent, Past, IsLeft, FitsDisk, IsIndexed, IsBound, AreTogether, IsCore, FitsCore, StepsTo, times, Core, suits_same}
-use Rattle.walcore.proofs.disk.PermittedChanges.{nothing_may}
+use Rattle.walcore.proofs.Between.{Act, Answer, AreTogether, AreWhole, Bool, Core, Database, DiskState, FileState, FitsCore, FitsDisk, FrameTable, IsBehind, IsBound, IsCore, IsHeaderOf, IsImage, IsIndexed, IsJust, IsLeft, IsPresent, IsSumOf, IsTrue, List, Makes, MayBeRead, None, Past, Refused, SameFiles, Stands, Step, StepsTo, Still, Sum, WalHeader, ap, cond, false, frame_end, get_or, image_same, inl, inr, most_pages, newest, nothing_may, page_of, present_by, present_in, reader_at, refl, same_files, subst, suits_same, summed, sym, times, wal_log, ℕ, ◌*◌, ◌+◌, ◌<◌, ◌∙◌, ◌≡◌, ◌≤◌}
 use Rattle.walcore.proofs.log.DurableFrames.{holds_elsewhere}
-use Rattle.walcore.proofs.log.PresentFrames.{present_by}
 use Rattle.walcore.proofs.disk.DiskInvariantUnderCalls.{stands_by}
 use Rattle.walcore.proofs.sync.LogWithRepeatedFrame.{behind_same}
 

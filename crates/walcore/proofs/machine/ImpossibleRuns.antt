@@ -1,7 +1,5 @@
 -- What is no run of the machine.
-use Rattle.std.proofs.Common.{◌≡◌, ◌≢◌, ⊎_elim, ℕ, zero, suc, ◌+◌, ◌<◌, ◌≤◌, List, [], ◌∷◌, ◌++◌, length, take, get_or, sym, ◌∙◌, ap, arith, length-append, length-take-le, get_or-take}
-use Rattle.walcore.proofs.Words.{get_or-append, get_or-append_seam, cases_eq, Database, page, named_size, front_exists, view_unique, Show, start, opened, committed, synced, gone, begun, NoLostSync, NoSkipped, NoReturn, NoOtherPage, NoEarlyComplete}
-use Rattle.walcore.proofs.machine.StepsOfRun.{after, opening, first_opening}
+use Rattle.walcore.proofs.Below.{Database, List, NoEarlyComplete, NoLostSync, NoOtherPage, NoReturn, NoSkipped, Show, [], after, ap, arith, begun, cases_eq, committed, first_opening, front_exists, get_or, get_or-append, get_or-append_seam, get_or-take, gone, length, length-append, length-take-le, named_size, opened, opening, page, start, suc, sym, synced, take, view_unique, zero, ℕ, ⊎_elim, ◌++◌, ◌+◌, ◌<◌, ◌∙◌, ◌∷◌, ◌≡◌, ◌≢◌, ◌≤◌}
 
 -- a file and a log show one database
 pub show_unique : (size : ℕ) (db w : List ℕ) (d e : Database) → Show size db w d → Show size db w e → d ≡ e

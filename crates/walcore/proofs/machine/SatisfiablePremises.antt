@@ -1,6 +1,5 @@
 -- The premises on a run can be met.
-use Rattle.std.proofs.Common.{ℕ, List, [], refl, arith}
-use Rattle.walcore.proofs.Words.{Contains, Answer, Opens, NoChance, Permits, nothing}
+use Rattle.walcore.proofs.Words.{Answer, Contains, List, NoChance, Opens, Permits, [], arith, nothing, refl, ℕ}
 
 pub made_passes : (logs : List (List ℕ)) (e : List ℕ) → Contains logs e → NoChance logs e
 made_passes logs e has = record {

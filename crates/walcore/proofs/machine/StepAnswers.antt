@@ -1,6 +1,5 @@
 -- What a step may answer.
-use Rattle.std.proofs.Common.{◌≡◌, inl, inr, ℕ, Bool, true, false, cond, IsTrue, IsFalse, length, Option, Some, None, refl, ◌∙◌, ap}
-use Rattle.walcore.proofs.Words.{Pages, page, IsOf, refused_of, accepted, IsExpected, at, Files, Answer, Done, Page, Complete, Partial, NoReader, Refused, PlainStep, told, is_accepted, Act, Opens, Commits, Begins, Reads, Ends, Checkpoints, Restarts, Crashes, Sets, State, reader_at, all_newest, gone, closed, committed, call_refusal, commit_refusal, read_refusal, restart_refusal, OpenStep, CommitStep, BeginStep, ReadStep, EndStep, CheckpointStep, RestartStep, Step, at_end, expected, takes_memory, needs_disk}
+use Rattle.walcore.proofs.Words.{Act, Answer, BeginStep, Begins, Bool, CheckpointStep, Checkpoints, CommitStep, Commits, Complete, Crashes, Done, EndStep, Ends, Files, IsExpected, IsFalse, IsOf, IsTrue, NoReader, None, OpenStep, Opens, Option, Page, Pages, Partial, PlainStep, ReadStep, Reads, Refused, RestartStep, Restarts, Sets, Some, State, Step, accepted, all_newest, ap, at, at_end, call_refusal, closed, commit_refusal, committed, cond, expected, false, gone, inl, inr, is_accepted, length, needs_disk, page, read_refusal, reader_at, refl, refused_of, restart_refusal, takes_memory, told, true, ℕ, ◌∙◌, ◌≡◌}
 use Rattle.sqval.specs.Answers.{Reader}
 use Rattle.walcore.specs.Machine.{Syncs, SyncStep}
 use Rattle.walcore.specs.Laws.{shown}

@@ -1,8 +1,5 @@
 -- What each step of the machine keeps.
-use Rattle.std.proofs.Common.{◌≡◌, ℕ, zero, suc, ◌+◌, ◌<◌, ◌≤◌, Bool, true, false, ◌&&◌, List, ◌∷◌, ◌++◌, length, take, set, Option, Some, None, refl, sym, ◌∙◌, ap, subst, arith, length-append, length-take, lit<, ◌==◌, [], take-take}
-use Rattle.walcore.proofs.Words.{list_all, take-append-le, nat_tests, Database, Pages, apply, Answer, Moment, Runs, last, newest, most_pages, Act, State, start, is_bound, forgotten, opened, gone, closed, committed, synced, checkpointed, restarted, begun, ended, commit_refusal, Step, IsSane, Keeps}
-use Rattle.walcore.proofs.commit.AcceptedCommit.{cond_none, room_enough}
-use Rattle.walcore.proofs.machine.StepTargets.{Targets, step_in}
+use Rattle.walcore.proofs.Below.{Act, Answer, Bool, Database, IsSane, Keeps, List, Moment, None, Option, Pages, Runs, Some, State, Step, Targets, [], ap, apply, arith, begun, checkpointed, closed, commit_refusal, committed, cond_none, ended, false, forgotten, gone, is_bound, last, length, length-append, length-take, list_all, lit<, most_pages, nat_tests, newest, opened, refl, restarted, room_enough, set, start, step_in, subst, suc, sym, synced, take, take-append-le, take-take, true, zero, ℕ, ◌&&◌, ◌++◌, ◌+◌, ◌<◌, ◌==◌, ◌∙◌, ◌∷◌, ◌≡◌, ◌≤◌}
 
 none_bound : (i : ℕ) (rs : List (Option ℕ)) → list_all (is_bound i) (forgotten rs) ≡ true
 none_bound i [] = refl

@@ -1,6 +1,5 @@
 -- Where one step may lead.
-use Rattle.std.proofs.Common.{◌≡◌, inl, inr, ℕ, ◌<◌, ◌≤◌, Bool, true, false, length, Option, Some, None, refl, sym, subst}
-use Rattle.walcore.proofs.Words.{Pages, Files, Answer, Done, Page, Complete, Partial, NoReader, Refused, Refuses, PlainStep, Act, Opens, Commits, Begins, Reads, Ends, Checkpoints, Restarts, Crashes, Sets, State, reader_at, opened, gone, closed, committed, synced, checkpointed, restarted, begun, ended, call_refusal, commit_refusal, read_refusal, restart_refusal, OpenStep, CommitStep, BeginStep, ReadStep, EndStep, CheckpointStep, RestartStep, Step}
+use Rattle.walcore.proofs.Words.{Act, Answer, BeginStep, Begins, Bool, CheckpointStep, Checkpoints, CommitStep, Commits, Complete, Crashes, Done, EndStep, Ends, Files, NoReader, None, OpenStep, Opens, Option, Page, Pages, Partial, PlainStep, ReadStep, Reads, Refused, Refuses, RestartStep, Restarts, Sets, Some, State, Step, begun, call_refusal, checkpointed, closed, commit_refusal, committed, ended, false, gone, inl, inr, length, opened, read_refusal, reader_at, refl, restart_refusal, restarted, subst, sym, synced, true, ℕ, ◌<◌, ◌≡◌, ◌≤◌}
 use Rattle.recovery.proofs.Words.{Reader}
 use Rattle.walcore.specs.Machine.{Syncs, SyncStep}
 

@@ -1,6 +1,5 @@
 -- What a moment makes is determined.
-use Rattle.std.proofs.Common.{◌≡◌, ℕ, Bool, true, false, not, ◌&&◌, ◌==◌, ◌%◌, List, [], ◌∷◌, length, sym, ◌∙◌, ap, subst}
-use Rattle.walcore.proofs.Words.{Pages, Answer, page_of, size_of, content_of, Act, Opens, Commits, Checkpoints, Restarts, IsExtended, Made, BeginsLog, Extends, Copies, MadeByRestart, MadeByCommit, MadeByCopy, MadeBySync, IfBegun, Makes, has_begun}
+use Rattle.walcore.proofs.Below.{Act, Answer, BeginsLog, Bool, Checkpoints, Commits, Copies, Extends, IfBegun, IsExtended, List, Made, MadeByCommit, MadeByCopy, MadeByRestart, MadeBySync, Makes, Opens, Pages, Restarts, [], ap, content_of, false, has_begun, length, not, page_of, size_of, subst, sym, true, ℕ, ◌%◌, ◌&&◌, ◌==◌, ◌∙◌, ◌∷◌, ◌≡◌}
 use Rattle.walcore.specs.Machine.{Syncs}
 use Rattle.walcore.proofs.log.UniquenessOfExtendedLog.{begun_unique, extended_unique, count_unique}
 

@@ -1,7 +1,5 @@
 -- Worked runs, step by step.
-use Rattle.std.proofs.Common.{◌≡◌, ℕ, ◌+◌, false, List, ◌∷◌, length, Some, None, refl, inl, inr, lit<, lit≤, nat_lt, []}
-use Rattle.walcore.proofs.Words.{page, refusal_of, Synced, Lost, LostForGood, Waits, CommitsRefused, SyncFailed, Forgotten, TwoReaders, refuses_first}
-use Rattle.walcore.proofs.machine.StepsOfRun.{end, next, go, on_base}
+use Rattle.walcore.proofs.Below.{CommitsRefused, Forgotten, List, Lost, LostForGood, None, Some, SyncFailed, Synced, TwoReaders, Waits, [], end, false, go, inl, inr, length, lit<, lit≤, nat_lt, next, on_base, page, refl, refusal_of, refuses_first, ℕ, ◌+◌, ◌∷◌, ◌≡◌}
 use Rattle.walcore.specs.Rows.{Stopped}
 
 -- a commit of a page of the right length

@@ -1,6 +1,5 @@
 -- What an opening finds, and how its fold keeps it.
-use Rattle.std.proofs.Common.{◌≡◌, inl, inr, ⊎_elim, ℕ, ◌*◌, ◌<◌, ◌≤◌, Bool, true, false, IsTrue, List, length, get_or, refl, sym, ◌∙◌, ap, subst, arith, [], Result}
-use Rattle.walcore.proofs.Words.{Database, IsImage, DiskState, IsSoundDisk, ArePresent, Syncs, Log, DiskError, IsLogDurable, Files, present_image, down_one, file_syncs, AreFiles, ShowsAlone, MayBeRead, ShowsWhole, shows_by, at, last, newest, size_of, Show, wal_log, EndsBy, IsLengthOf, NoChance, Past, ShowsOne, IsLeft, FitsDisk}
+use Rattle.walcore.proofs.Below.{AreFiles, ArePresent, Bool, Database, DiskError, DiskState, EndsBy, Files, FitsDisk, IsImage, IsLeft, IsLengthOf, IsLogDurable, IsSoundDisk, IsTrue, List, Log, MayBeRead, NoChance, Past, Result, Show, ShowsAlone, ShowsOne, ShowsWhole, Syncs, [], ap, arith, at, down_one, false, file_syncs, get_or, inl, inr, last, length, newest, present_image, refl, shows_by, size_of, subst, sym, true, wal_log, ℕ, ⊎_elim, ◌*◌, ◌<◌, ◌∙◌, ◌≡◌, ◌≤◌}
 use Rattle.walcore.proofs.machine.ImpossibleRuns.{show_unique}
 
 -- the files that an opening finds show one database with each file that may be left

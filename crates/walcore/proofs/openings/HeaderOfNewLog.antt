@@ -1,7 +1,5 @@
 -- The steps of an opening.
-use Rattle.std.proofs.Common.{◌≡◌, ℕ, List, length, take, refl, []}
-use Rattle.walcore.proofs.Words.{AreBytes, summed, IsHeaderOf, IsSumOf, GoesOn, Order, Big, Sum, WalHeader, IsNewLog}
-use Rattle.walcore.proofs.log.LogOfHeaderAlone.{begun_by}
+use Rattle.walcore.proofs.Below.{AreBytes, Big, GoesOn, IsHeaderOf, IsNewLog, IsSumOf, List, Order, Sum, WalHeader, [], begun_by, length, refl, summed, take, ℕ, ◌≡◌}
 
 -- ---- how many pages a file has
 

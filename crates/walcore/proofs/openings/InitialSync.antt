@@ -1,6 +1,5 @@
 -- An opening that syncs the log first.
-use Rattle.std.proofs.Common.{◌≡◌, ℕ, refl, sym, subst, Result, Ok, Err}
-use Rattle.walcore.proofs.Words.{Database, DiskState, Syncs, Log, DiskError, ShowsAlone, Agrees, OpensOn, OpensSynced, WalError, Device, wal_log}
+use Rattle.walcore.proofs.Words.{Agrees, Database, Device, DiskError, DiskState, Err, Log, Ok, OpensOn, OpensSynced, Result, ShowsAlone, Syncs, WalError, refl, subst, sym, wal_log, ℕ, ◌≡◌}
 
 module _ (size : ℕ) (old mid : DiskState) where
   -- the sync is refused

@@ -1,8 +1,5 @@
 -- What an opening has when it has folded what it found.
-use Rattle.std.proofs.Common.{◌≡◌, inl, inr, ⊎_elim, ℕ, suc, ◌*◌, ◌<◌, ◌≤◌, List, ◌∷◌, length, refl, sym, ◌∙◌, ap, subst, arith, [], Result, Ok, Err}
-use Rattle.walcore.proofs.Words.{Database, IsImage, DiskState, ArePresent, Syncs, Log, present_list, DiskError, most_bytes, IsLogDurable, TearsPages, Still, Later, IsJust, IsHeld, Files, present_image, down_by, synced_down, down_present, later_sync, later_then, later_still, size_some, file_count, had_refusal, image_still, present_in, refusal_after, suits_by, AreFiles, MayRefuse, may_after, ShowsAlone, Agrees, narrows_syncs, narrows_still, at, IsHeader, named_size, frame_end, size_of, IsValidFrame, IsFront, most_frames, word_same, frame_end-le, frame_end-suc, Show, wal_log, IsEmptyDurable, FoldAnswer, IsTooLarge, EndsBy, KeepsLength, AreMade, NoChance, Past, IsLeft, FitsDisk, MayFold, FileFault, CountAnswer, FileJudged, RecoverAnswer, Folded, WalError, TooLarge, PageSize, NoMemory, Device, SectorAbovePage}
-use Rattle.walcore.proofs.crash.ImagesOfSyncedLog.{down_left}
-use Rattle.walcore.proofs.folds.PlanOfScannedLog.{front_zero}
+use Rattle.walcore.proofs.Below.{Agrees, AreFiles, AreMade, ArePresent, CountAnswer, Database, Device, DiskError, DiskState, EndsBy, Err, FileFault, FileJudged, Files, FitsDisk, FoldAnswer, Folded, IsEmptyDurable, IsFront, IsHeader, IsHeld, IsImage, IsJust, IsLeft, IsLogDurable, IsTooLarge, IsValidFrame, KeepsLength, Later, List, Log, MayFold, MayRefuse, NoChance, NoMemory, Ok, PageSize, Past, RecoverAnswer, Result, SectorAbovePage, Show, ShowsAlone, Still, Syncs, TearsPages, TooLarge, WalError, [], ap, arith, at, down_by, down_left, down_present, file_count, frame_end, frame_end-le, frame_end-suc, front_zero, had_refusal, image_still, inl, inr, later_still, later_sync, later_then, length, may_after, most_bytes, most_frames, named_size, narrows_still, narrows_syncs, present_image, present_in, present_list, refl, refusal_after, size_of, size_some, subst, suc, suits_by, sym, synced_down, wal_log, word_same, ℕ, ⊎_elim, ◌*◌, ◌<◌, ◌∙◌, ◌∷◌, ◌≡◌, ◌≤◌}
 use Rattle.walcore.proofs.crash.NarrowedImages.{left_narrows}
 use Rattle.walcore.proofs.openings.FoundFiles.{IsFound, is_found, found_syncs, found_alone, found_length, alone_one}
 

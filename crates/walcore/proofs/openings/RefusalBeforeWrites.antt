@@ -1,6 +1,5 @@
 -- Why an opening is refused before it writes.
-use Rattle.std.proofs.Common.{◌≡◌, ◌⊎◌, inl, inr, ⊎_elim, ℕ, ◌*◌, ◌/◌, ◌%◌, ◌≤◌, List, refl, sym, ◌∙◌, ap, subst, arith, Result, Ok, Err}
-use Rattle.walcore.proofs.Words.{div-mul-le_self, mod-eq-sub-div-mul, named_size, IsFront, DiskState, IsSoundDisk, ArePresent, Looks, DiskError, usual, HadRefusal, TearsPages, Still, still_then, FoldAnswer, FileFault, CountAnswer, FileJudged, FrontJudged, IsFit, ReadAnswer, Plan, WalError, TooLarge, PageSize, Device}
+use Rattle.walcore.proofs.Below.{ArePresent, CountAnswer, Device, DiskError, DiskState, Err, FileFault, FileJudged, FoldAnswer, FrontJudged, HadRefusal, IsFit, IsFront, IsSoundDisk, List, Looks, Ok, PageSize, Plan, ReadAnswer, Result, Still, TearsPages, TooLarge, WalError, ap, arith, div-mul-le_self, inl, inr, mod-eq-sub-div-mul, named_size, refl, still_then, subst, sym, usual, ℕ, ⊎_elim, ◌%◌, ◌*◌, ◌/◌, ◌∙◌, ◌≡◌, ◌≤◌, ◌⊎◌}
 use Rattle.walcore.proofs.folds.AnswerOfParts.{look_refused, looked_bytes, read_folds, fold_looked}
 
 module _ {T : Type 0} (size : ℕ) (w : List ℕ) (fault : WalError) where

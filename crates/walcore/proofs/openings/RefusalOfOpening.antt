@@ -1,6 +1,5 @@
 -- Why an opening is refused, whatever bytes are there.
-use Rattle.std.proofs.Common.{◌≡◌, inl, inr, ⊎_elim, ℕ, ◌*◌, ◌≤◌, List, length, refl, sym, ◌∙◌, ap, subst, arith, Result, Ok, Err, IfErr}
-use Rattle.walcore.proofs.Words.{cases_lt, cases_eq, named_size, size_of, IsFront, DiskState, IsSoundDisk, Syncs, Log, most_bytes, usual, HadRefusal, TearsPages, KeepsBytes, Still, Files, refusal_after, present_in, if_err, AreFiles, FoldAnswer, IsCounted, OpenRefused, MayOpen, CountAnswer, FileJudged, Folded, WalError, TooLarge, PageSize, Device}
+use Rattle.walcore.proofs.Below.{AreFiles, CountAnswer, Device, DiskState, Err, FileJudged, Files, FoldAnswer, Folded, HadRefusal, IfErr, IsCounted, IsFront, IsSoundDisk, KeepsBytes, List, Log, MayOpen, Ok, OpenRefused, PageSize, Result, Still, Syncs, TearsPages, TooLarge, WalError, ap, arith, cases_eq, cases_lt, if_err, inl, inr, length, most_bytes, named_size, present_in, refl, refusal_after, size_of, subst, sym, usual, ℕ, ⊎_elim, ◌*◌, ◌∙◌, ◌≡◌, ◌≤◌}
 use Rattle.walcore.proofs.folds.LengthOfDatabaseFile.{front_none}
 use Rattle.walcore.proofs.folds.AnswerOfParts.{bytes_then, fold_then, synced_bytes, synced_later, synced_fits, looked_bytes, fits_still}
 

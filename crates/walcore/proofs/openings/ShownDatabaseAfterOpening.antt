@@ -1,7 +1,5 @@
 -- Where nothing of the log was unsynced and all that a crash may leave showed one database, it does so after an opening.
-use Rattle.std.proofs.Common.{◌≡◌, inl, ⊎_elim, ℕ, ◌+◌, ◌≤◌, max, List, length, refl, sym, ◌∙◌, subst, arith, ap, [], Result, Ok, Err, OnOk}
-use Rattle.walcore.proofs.Words.{Database, Bounds, FileState, IsImage, WriteTouches, written, byte, DiskState, IsSoundDisk, Writes, Syncs, Log, DiskError, table, image_elsewhere, present_list, IsLogDurable, Still, down_syncs, synced_down, sound_writes, down_still, ShowsAlone, MayBeRead, Agrees, read_cases, named_size, IsFront, IsView, frame_end-suc, frame_end-zero, front_unique, Show, wal_log, IsEmptyDurable, FoldAnswerWithin, FoldsWithin, HeaderSteps, Folded, WalError, alone_read, alone_still, alone_syncs}
-use Rattle.walcore.proofs.crash.ImagesOfSyncedLog.{down_left}
+use Rattle.walcore.proofs.Between.{Agrees, Bounds, Database, DiskError, DiskState, Err, FileState, FoldAnswerWithin, Folded, FoldsWithin, HeaderSteps, IsEmptyDurable, IsFront, IsImage, IsLogDurable, IsSoundDisk, IsView, List, Log, MayBeRead, Ok, OnOk, Result, Show, ShowsAlone, Still, Syncs, WalError, WriteTouches, Writes, [], alone_read, alone_still, alone_syncs, ap, arith, byte, down_left, down_still, down_syncs, frame_end-suc, frame_end-zero, front_unique, image_elsewhere, inl, length, max, named_size, present_list, read_cases, refl, sound_writes, subst, sym, synced_down, table, wal_log, written, ℕ, ⊎_elim, ◌+◌, ◌∙◌, ◌≡◌, ◌≤◌}
 use Rattle.walcore.proofs.restart.NewHeaderOverLog.{greatest_changed}
 
 module _ (size : ℕ) (d : Database) where

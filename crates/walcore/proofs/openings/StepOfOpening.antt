@@ -1,14 +1,7 @@
 -- What an opening leaves to hold: a core over a log without frames, or a disk that shows what it showed.
-use Rattle.std.proofs.Common.{◌≡◌, ◌⊎◌, inl, inr, ⊎_elim, ℕ, suc, ◌+◌, ◌-◌, ◌<◌, ◌≤◌, false, List, ◌∷◌, length, map, take, get_or, refl, sym, ◌∙◌, ap, subst, arith, Option, None, [], Result, Ok, Err, sum_by, get_or-take, length-take-le}
-use Rattle.walcore.proofs.Words.{Database, IsImage, DiskState, IsSoundDisk, Writes, Syncs, Log, DiskError, written_inside, present_written, HasCause, Files, IsJust, IsHeld, HadRefusal, Later, Suits, TellsRefusal, told_err, told_ok, none_ok, later_sync, later_write, later_then, later_same, later_wider, sound_writes, had_refusal, refusal_after, suits_by, MayRefuse, may_after, ShowsWhole, narrows_syncs, quiet_ok, tells_then, summed, IsSumOf, IsHeaderOf, Sum, WalHeader, frame_end-zero, number_of, Opens, opened, gone, forgotten, AreMade, HasNewSalts, IsBegun, MayFold, MayBegin, MayChange, ShowsHistory, HasMadeHeader, Stands, IsPresent, Past, IsLeft, FitsDisk, FitsAlone, has_mark, none_open, OpenedTo, GivenUpTo, IsNewLog, IsNewCore, HeaderSteps, IsRecovered, RecoverAnswer, NewLog, Reader, Core, WalError, NoMemory, Device, wal_log}
+use Rattle.walcore.proofs.Facts.{AreMade, Core, Database, Device, DiskError, DiskState, Err, Files, FitsAlone, FitsDisk, GivenUpTo, HadRefusal, HasCause, HasMadeHeader, HasNewSalts, HasNoReader, HeaderSteps, IsBegun, IsHeaderOf, IsHeld, IsImage, IsJust, IsLeft, IsNewCore, IsNewLog, IsPresent, IsRecovered, IsSoundDisk, IsSumOf, Later, List, Log, MayBegin, MayChange, MayFold, MayRefuse, NewLog, NoMemory, None, Ok, OpenedTo, Opens, Option, Past, Reader, RecoverAnswer, Result, ShowsHistory, ShowsWhole, Stands, Suits, Sum, Syncs, TellsRefusal, WalError, WalHeader, Writes, [], ap, arith, at_last, begin_shows, begin_stands, false, forgotten, frame_end-zero, fresh_core, get_or, get_or-take, gone, had_refusal, has_mark, header_may, headers_narrow, history_narrows, inl, inr, later_same, later_sync, later_then, later_wider, later_write, left_grown, length, length-take-le, made_begun, map, may_after, narrows_syncs, none_ok, none_open, number_of, opened, present_syncs, present_written, quiet_ok, refl, refusal_after, sound_writes, subst, suc, suits_by, summed, sym, take, tells_header, tells_then, told_err, told_ok, wal_log, written_inside, ℕ, ⊎_elim, ◌+◌, ◌-◌, ◌<◌, ◌∙◌, ◌∷◌, ◌≡◌, ◌≤◌, ◌⊎◌}
+use Rattle.std.proofs.Common.{sum_by}
 use Rattle.std.proofs.Math.ListN.{get_or-map}
-use Rattle.walcore.proofs.disk.PermittedChanges.{header_may}
-use Rattle.walcore.proofs.disk.ToldRefusals.{tells_header}
-use Rattle.walcore.proofs.machine.FitOverEmptyLog.{at_last, HasNoReader, fresh_core}
-use Rattle.walcore.proofs.log.GrowthOfMadeLogs.{made_begun}
-use Rattle.walcore.proofs.crash.NarrowedImages.{history_narrows, headers_narrow, left_grown}
-use Rattle.walcore.proofs.log.PresentFrames.{present_syncs}
-use Rattle.walcore.proofs.restart.NewHeaderOverLog.{begin_stands, begin_shows}
 
 pub same_error : {T : Type 0} (x y : WalError) (r : Result T WalError) → r ≡ Err x → r ≡ Err y → x ≡ y
 same_error x y r a b = cc (a, b)

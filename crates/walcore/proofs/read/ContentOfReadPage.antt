@@ -1,10 +1,7 @@
 -- What a reader is given is what its database has.
-use Rattle.std.proofs.Common.{◌≡◌, inl, ℕ, ◌+◌, ◌-◌, ◌*◌, ◌<◌, ◌≤◌, Bool, false, List, length, get_or, take, drop, refl, sym, ◌∙◌, ap, subst, arith, length-drop, Result, Ok, Err, OnErr, IsTrue, Option, Some, None, slice_get, get_or-take, get_or-drop, length-take-le}
-use Rattle.walcore.proofs.Words.{same_number_lists, Database, page, file_page, byte, IsImage, longest, File, Db, Log, table, image_present, present_list, Answer, Page, Refused, Still, TellsRefusal, page_by_bytes, present_byte, refuses_first, none_above, is_zero, is_above, is_closed, refuses_cause, answered, at, quiet_ok, frame_at, frame_end, content_of, Unnamed, IsLast, FrameTable, IsNewest, frame_at-end, frame_end-le, DiskState, IsSoundDisk, of, reader_at, Reads, ReadStep, read_refusal, number_of, IsBoundary, shown, Stands, IsPresent, PlaceAnswer, IsTable, Finds, Past, IsIndexed, IsBound, IsCore, FitsCore, StepsTo, WalError, Closed, PageZero, PageAboveSize, BadLength, Device, Reader, Core}
+use Rattle.walcore.proofs.Facts.{Answer, BadLength, Bool, Closed, Core, Database, Db, Device, DiskState, Err, File, Finds, FitsCore, FrameTable, IsBound, IsBoundary, IsCore, IsImage, IsIndexed, IsLast, IsNewest, IsPresent, IsSoundDisk, IsTable, IsTrue, List, Log, None, Ok, OnErr, Option, Page, PageAboveSize, PageZero, Past, PlaceAnswer, ReadStep, Reader, Reads, Refused, Result, SameCore, Some, Stands, StepsTo, Still, TellsRefusal, Unnamed, WalError, answered, ap, arith, at, at_slot, bound_at, byte, content_of, drop, false, file_page, frame_at, frame_at-end, frame_end, frame_end-le, get_or, get_or-drop, get_or-take, hit_last, hit_none, image_present, inl, is_above, is_closed, is_zero, length, length-drop, length-take-le, longest, none_above, number_of, of, page, page_by_bytes, page_fits, present_byte, present_list, quiet_ok, read_refusal, reader_at, refl, refuses_cause, refuses_first, same_core, same_number_lists, shown, slice_get, subst, sym, table, take, ℕ, ◌*◌, ◌+◌, ◌-◌, ◌<◌, ◌∙◌, ◌≡◌, ◌≤◌}
 use Rattle.walcore.specs.Paging.{ReadAnswer}
-use Rattle.walcore.proofs.folds.CopiedPages.{hit_none, hit_last, page_fits}
-use Rattle.walcore.proofs.machine.FitUnderUnchangedFiles.{SameCore, same_core, stays}
-use Rattle.walcore.proofs.read.MarksOfReaders.{at_slot, bound_at}
+use Rattle.walcore.proofs.machine.FitUnderUnchangedFiles.{stays}
 
 -- ---- where a page of a reader stands
 

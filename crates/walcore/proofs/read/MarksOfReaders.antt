@@ -1,6 +1,5 @@
 -- Open readers, their tokens, and their marks in a core.
-use Rattle.std.proofs.Common.{◌≡◌, ◌≢◌, ⊎_elim, ℕ, zero, suc, ◌+◌, ◌<◌, cond, ◌==◌, List, [], ◌∷◌, ◌++◌, length, get_or, set, refl, sym, ◌∙◌, ap, subst, arith, length-append, Option, Some, None, slice_get, get_or-set_same, get_or-set_other, get_or-append-add}
-use Rattle.walcore.proofs.Words.{remove, sum_by, cases_lt, cases_eq, nat_tests, get_or_append_left, get_or_past, sum_by-remove, sum_by-set, sum_by-cons, sum_by_push, AreTogether, times, has_mark, Reader}
+use Rattle.walcore.proofs.Words.{AreTogether, List, None, Option, Reader, Some, [], ap, arith, cases_eq, cases_lt, cond, get_or, get_or-append-add, get_or-set_other, get_or-set_same, get_or_append_left, get_or_past, has_mark, length, length-append, nat_tests, refl, remove, set, slice_get, subst, suc, sum_by, sum_by-cons, sum_by-remove, sum_by-set, sum_by_push, sym, times, zero, ℕ, ⊎_elim, ◌++◌, ◌+◌, ◌<◌, ◌==◌, ◌∙◌, ◌∷◌, ◌≡◌, ◌≢◌}
 
 -- ---- marks
 

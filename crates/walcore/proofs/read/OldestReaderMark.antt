@@ -1,7 +1,5 @@
 -- The mark of the oldest open reader, and the place of its database.
-use Rattle.std.proofs.Common.{◌≡◌, ◌≢◌, ◌⊎◌, inl, inr, ⊎_elim, ℕ, zero, suc, ◌<◌, ◌≤◌, Bool, true, false, cond, ◌==◌, List, [], ◌∷◌, length, get_or, refl, sym, ◌∙◌, ap, subst, arith, Option, Some, None, ◌&&◌}
-use Rattle.walcore.proofs.Words.{sum_by, list_all, cases_eq, nat_tests, sum_by-cons, DiskState, last, reader_at, is_bound, all_newest, IsBoundary, IsOldest, IsLeast, Past, IsBound, AreTogether, IsCore, times, has_mark, Core, Reader}
-use Rattle.walcore.proofs.read.MarksOfReaders.{same_one, apart_one, bound_at}
+use Rattle.walcore.proofs.Below.{AreTogether, Bool, Core, DiskState, IsBound, IsBoundary, IsCore, IsLeast, IsOldest, List, None, Option, Past, Reader, Some, [], all_newest, ap, apart_one, arith, bound_at, cases_eq, cond, false, get_or, has_mark, inl, inr, is_bound, last, length, list_all, nat_tests, reader_at, refl, same_one, subst, suc, sum_by, sum_by-cons, sym, times, true, zero, ℕ, ⊎_elim, ◌&&◌, ◌<◌, ◌==◌, ◌∙◌, ◌∷◌, ◌≡◌, ◌≢◌, ◌≤◌, ◌⊎◌}
 
 -- ---- marks and tokens
 

@@ -1,10 +1,6 @@
 -- A reader more, and a reader less.
-use Rattle.std.proofs.Common.{◌≡◌, inl, ℕ, ◌+◌, ◌<◌, Bool, true, cond, ◌==◌, List, ◌∷◌, ◌++◌, length, get_or, set, refl, sym, ◌∙◌, ap, subst, arith, length-append, [], IsTrue, Option, Some, None, not, slice_get, length-set}
-use Rattle.walcore.proofs.Words.{DiskState, first_true, Still, same_files, last, Done, Refused, Refuses, State, reader_at, Begins, Ends, EndStep, call_refusal, begun, ended, IsBoundary, Past, FitsDisk, IsBound, AreTogether, IsCore, FitsCore, StepsTo, times, Core, Reader}
-use Rattle.sqval.specs.Answers.{Reader as ReaderAnswer}
-use Rattle.walcore.proofs.disk.PermittedChanges.{nothing_may}
-use Rattle.walcore.proofs.machine.FitUnderUnchangedFiles.{SameCore, fits_disk_still, core_same, stays}
-use Rattle.walcore.proofs.read.MarksOfReaders.{at_slot, bound_at, together_map, together_push, together_set, emptied, mark_pushed}
+use Rattle.walcore.proofs.Facts.{AreTogether, Begins, Bool, Core, DiskState, Done, EndStep, Ends, FitsCore, FitsDisk, IsBound, IsBoundary, IsCore, IsTrue, List, None, Option, Past, Reader, ReaderAnswer, Refused, Refuses, SameCore, Some, State, StepsTo, Still, [], ap, arith, at_slot, begun, bound_at, call_refusal, cond, core_same, emptied, ended, first_true, fits_disk_still, get_or, inl, last, length, length-append, length-set, mark_pushed, not, nothing_may, reader_at, refl, same_files, set, slice_get, subst, sym, times, together_map, together_push, together_set, true, ℕ, ◌++◌, ◌+◌, ◌<◌, ◌==◌, ◌∙◌, ◌∷◌, ◌≡◌}
+use Rattle.walcore.proofs.machine.FitUnderUnchangedFiles.{stays}
 
 -- ---- a past with other readers
 

@@ -1,14 +1,6 @@
 -- A new header is written over a log whose last database is all in the file, or into an empty one, and then synced.
-use Rattle.std.proofs.Common.{◌≡◌, ◌⊎◌, inl, inr, ⊎_elim, ℕ, ◌+◌, ◌-◌, ◌<◌, ◌≤◌, max, Bool, true, false, List, ◌∷◌, ◌++◌, length, take, get_or, refl, sym, ◌∙◌, ap, subst, arith, [], Result, Ok, Err, take_all}
-use Rattle.walcore.proofs.Words.{Contains, Contains-push_cases, div-eq_of_lt, FileState, IsImage, WriteTouches, written, DiskState, IsSoundDisk, ArePresent, Writes, Syncs, ChangedBy, with_write, SinceSync, HasFixed, AltersFile, Log, DiskError, Stopped, Failed, TooLong, started, then_write, settled_one, written_inside, part, Database, IsJust, IsHeld, IsLogDurable, Suits, sector_some, suits_writes, suits_syncs, sector_within, file_syncs, MayBeRead, read_cases, image_write, image_elsewhere, fixed_written, present_written, IsHeader, named_size, frame_end, IsFront, IsLog, frame_end-suc, frame_end-zero, frame_end-head, front_exists, AreWhole, wal_log, AreMade, HasNewSalts, IsBegun, shown, IsDurable, ShowsHistory, HasMadeHeader, Stands}
+use Rattle.walcore.proofs.Between.{AltersFile, AreMade, ArePresent, AreWhole, Bool, ChangedBy, Contains, Contains-push_cases, Database, DiskError, DiskState, Err, Failed, FileState, HasFixed, HasMadeHeader, HasNewSalts, IsBegun, IsDurable, IsFront, IsHeader, IsHeld, IsImage, IsJust, IsLog, IsLogDurable, IsSoundDisk, List, Log, MayBeRead, Ok, Result, ShowsHistory, SinceSync, Stands, Stopped, Suits, Syncs, TooLong, WriteTouches, Writes, [], altered_rest, ap, arith, begun_log, div-eq_of_lt, down_head, down_image, era_begin, false, file_syncs, fixed_written, frame_end, frame_end-head, frame_end-suc, frame_end-zero, front_exists, get_or, image_elsewhere, image_write, inl, inr, just_file, just_shows, length, made_before, made_begun, made_here, max, named_size, part, present_written, read_cases, refl, same_front, sector_some, sector_within, settled_one, shown, started, subst, suits_syncs, suits_writes, sym, syncs_untorn, take, take_all, then_write, true, turned_shows, untorn, wal_log, with_write, writes_untorn, written, written_inside, zeros_bad, ℕ, ⊎_elim, ◌++◌, ◌+◌, ◌-◌, ◌<◌, ◌∙◌, ◌∷◌, ◌≡◌, ◌≤◌, ◌⊎◌}
 use Rattle.recovery.proofs.Words.{NoMemory}
-use Rattle.walcore.proofs.folds.ZeroedHeader.{zeros_bad}
-use Rattle.walcore.proofs.log.GrowthOfMadeLogs.{made_here, made_before, made_begun, begun_log}
-use Rattle.walcore.proofs.crash.FrontOfSurvivingLog.{same_front, just_file}
-use Rattle.walcore.proofs.crash.HistoryInCrashImages.{down_image, down_head}
-use Rattle.walcore.proofs.log.EraOfExtendedLog.{era_begin}
-use Rattle.walcore.proofs.disk.UntornDisk.{untorn, writes_untorn, syncs_untorn}
-use Rattle.walcore.proofs.restart.ShownDatabaseDuringRestart.{just_shows, turned_shows, altered_rest}
 
 zero_plus : (i : ℕ) → 0 + i ≡ i
 zero_plus i = omega arith

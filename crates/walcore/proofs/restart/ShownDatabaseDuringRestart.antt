@@ -1,6 +1,5 @@
 -- While a new header is put over a log whose last database is all in the file, what is left shows that database.
-use Rattle.std.proofs.Common.{◌≡◌, ◌⊎◌, inl, inr, ⊎_elim, ℕ, ◌+◌, ◌-◌, ◌/◌, ◌<◌, ◌≤◌, Bool, true, false, List, [], length, take, get_or, refl, sym, ◌∙◌, ap, subst, arith, IsTrue, get_or-take, length-take-le}
-use Rattle.walcore.proofs.Words.{Contains, cases_lt, le-div, div-eq_of_lt, FileState, IsSound, IsImage, HasFixed, Spreads, AltersFile, Database, page, IsFile, IsJust, ShowsWhole, IsHeader, named_size, frame_end, Passes, IsFront, IsLog, IsOver, IsView, frame_end-suc, frame_end-zero, frame_end-head, frame_end-le, take_less, front_exists, front_unique, view_file, view_same, AreMade, NoChance, IsBoundary, shown, IsEra, IsDurable, wal_log}
+use Rattle.walcore.proofs.Below.{AltersFile, AreMade, Bool, Contains, Database, FileState, HasFixed, IsBoundary, IsDurable, IsEra, IsFile, IsFront, IsHeader, IsImage, IsJust, IsLog, IsOver, IsSound, IsTrue, IsView, List, NoChance, Passes, ShowsWhole, Spreads, [], ap, arith, cases_lt, div-eq_of_lt, false, frame_end, frame_end-head, frame_end-le, frame_end-suc, frame_end-zero, front_exists, front_unique, get_or, get_or-take, inl, inr, le-div, length, length-take-le, named_size, page, refl, shown, subst, sym, take, take_less, true, view_file, view_same, wal_log, ℕ, ⊎_elim, ◌+◌, ◌-◌, ◌/◌, ◌<◌, ◌∙◌, ◌≡◌, ◌≤◌, ◌⊎◌}
 use Rattle.walcore.proofs.crash.OriginOfValidFrames.{known, named_same}
 use Rattle.walcore.proofs.crash.FrontOfSurvivingLog.{same_front, just_file, Fronts, fronts, down_front}
 

@@ -1,14 +1,8 @@
 -- A restart steps the machine, whatever the disk answers.
-use Rattle.std.proofs.Common.{◌≡◌, ◌⊎◌, inl, inr, ⊎_elim, ℕ, zero, suc, ◌+◌, ◌-◌, ◌%◌, ◌^◌, ◌<◌, ◌≤◌, ◌==◌, not, Bool, true, false, cond, IsTrue, List, ◌∷◌, length, get_or, refl, sym, ◌∙◌, ap, subst, arith, Option, Some, None, [], Result, Ok, Err, ◌≢◌, sum_by, is_some}
-use Rattle.walcore.proofs.Words.{list_any, sum_by-cons, word, IsImage, DiskState, Log, IsJust, Later, Refused, Refuses, Done, first_true, sound_writes, refuses_first, still, suits_by, answered, narrows_syncs, newest, quiet_ok, summed, IsHeaderOf, IsSumOf, Sum, WalHeader, number_of, reader_at, restart_refusal, closed, restarted, Restarts, HasNewSalts, IsBegun, has_begun, RestartsAnew, MadeByRestart, shown, MayBegin, ShowsHistory, HasMadeHeader, Stands, Past, AreTogether, IsCore, FitsCore, StepsTo, times, has_mark, IsNewLog, IsNewCore, HeaderSteps, MayRestart, RestartJudged, IsRestarted, IsClosed, TakesOver, NewLog, Reader, Core, WalError, Closed, NotDrained, ReadersOpen, Device, wal_log}
-use Rattle.walcore.proofs.machine.FitUnderUnchangedFiles.{same_core, stays}
-use Rattle.walcore.proofs.machine.FitOverEmptyLog.{HasNoReader, fresh_core}
-use Rattle.walcore.proofs.log.GrowthOfMadeLogs.{made_begun}
-use Rattle.walcore.proofs.crash.NarrowedImages.{history_narrows, headers_narrow}
+use Rattle.walcore.proofs.Facts.{AreTogether, Bool, Closed, Core, Device, DiskState, Done, Err, FitsCore, HasMadeHeader, HasNewSalts, HasNoReader, HeaderSteps, IsBegun, IsClosed, IsCore, IsHeaderOf, IsImage, IsJust, IsNewCore, IsNewLog, IsRestarted, IsSumOf, IsTrue, Later, List, Log, MadeByRestart, MayBegin, MayRestart, NewLog, None, NotDrained, Ok, Option, Past, Reader, ReadersOpen, Refused, Refuses, RestartJudged, Restarts, RestartsAnew, Result, ShowsHistory, Some, Stands, StepsTo, Sum, TakesOver, WalError, WalHeader, [], answered, ap, arith, begin_stands, closed, cond, false, first_true, fresh_core, get_or, has_begun, has_mark, headers_narrow, history_narrows, inl, inr, is_some, length, list_any, made_begun, narrows_syncs, newest, not, number_of, quiet_ok, reader_at, refl, refuses_first, restart_refusal, restart_shows, restarted, same_core, same_one, shown, sound_writes, still, subst, suc, suits_by, sum_by-cons, summed, sym, tells_header, times, true, wal_log, word, zero, ℕ, ⊎_elim, ◌%◌, ◌+◌, ◌-◌, ◌<◌, ◌==◌, ◌^◌, ◌∙◌, ◌∷◌, ◌≡◌, ◌≢◌, ◌≤◌, ◌⊎◌}
+use Rattle.std.proofs.Common.{sum_by}
+use Rattle.walcore.proofs.machine.FitUnderUnchangedFiles.{stays}
 use Rattle.walcore.proofs.openings.StepOfOpening.{header_later, header_refused, HeaderDone, header_done, present_header}
-use Rattle.walcore.proofs.read.MarksOfReaders.{same_one}
-use Rattle.walcore.proofs.restart.NewHeaderOverLog.{restart_shows, begin_stands}
-use Rattle.walcore.proofs.disk.ToldRefusals.{tells_header}
 
 -- ---- whether anybody reads
 

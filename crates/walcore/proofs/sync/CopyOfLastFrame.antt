@@ -1,17 +1,6 @@
 -- The last frame is read, and a copy of it is written behind it.
-use Rattle.std.proofs.Common.{◌≡◌, ℕ, suc, ◌+◌, ◌-◌, ◌*◌, ◌<◌, ◌≤◌, cond, ◌==◌, List, ◌∷◌, length, take, drop, get_or, refl, sym, ◌∙◌, ap, subst, arith, length-drop, take-append-drop, [], Result, Ok, Err, get_or-take, get_or-drop, length-take-le, drop_at}
-use Rattle.walcore.proofs.Words.{same_number_lists, byte, longest, DiskState, IsSoundDisk, Log, one_write, calls_then, sound_writes, counted_grows, AreBytes, Still, still_sound, refusal_after, frame_at, frame_end, page_of, size_of, content_of, IsLog, frame_at-end, frame_end-le, word_fits, put_two, put_mid, PlaceAnswer, IsPresent, FrameStep, KnowsLog, Going, FramesAnswer, IsRepeated, KnowsLast, Core, WalError, Device}
-use Rattle.walcore.proofs.disk.PermittedChanges.{nothing_may}
-use Rattle.walcore.proofs.commit.EraAfterCommit.{content_whole}
-use Rattle.walcore.proofs.log.BytesOfNextFrame.{take_bytes, drop_bytes}
-use Rattle.walcore.proofs.log.ExistenceOfExtendedLog.{IsFrame, extended_exists}
-use Rattle.walcore.proofs.log.CommitOfExtendedLog.{extended_front, extended_count}
-use Rattle.walcore.proofs.log.PresentFrames.{present_by}
-use Rattle.walcore.proofs.checkpoint.DiskInvariantUnderCheckpoint.{stands_still}
-use Rattle.walcore.proofs.sync.LogWithRepeatedFrame.{behind_same}
-use Rattle.walcore.proofs.commit.FitAfterCommit.{knows_more}
-use Rattle.walcore.proofs.commit.LogAfterFrameWrite.{IsFrameAt, KeepsLog, Reaches, frame_place, frame_may, frame_known, frame_quiet, frame_refused, frame_stands}
-use Rattle.walcore.proofs.commit.SequenceOfFrameWrites.{size_most}
+use Rattle.walcore.proofs.Facts.{AreBytes, Core, Device, DiskState, Err, FrameStep, FramesAnswer, Going, IsFrame, IsFrameAt, IsLog, IsPresent, IsRepeated, IsSoundDisk, KnowsLast, KnowsLog, List, Log, Ok, PlaceAnswer, Reaches, Result, Still, WalError, [], ap, arith, behind_same, byte, calls_then, cond, content_of, content_whole, counted_grows, drop, drop_at, drop_bytes, extended_count, extended_exists, extended_front, frame_at, frame_at-end, frame_end, frame_end-le, frame_known, frame_may, frame_place, frame_quiet, frame_refused, frame_stands, get_or, get_or-drop, get_or-take, knows_more, length, length-drop, length-take-le, longest, nothing_may, one_write, page_of, present_by, put_mid, put_two, refl, refusal_after, same_number_lists, size_most, size_of, sound_writes, stands_still, still_sound, subst, suc, sym, take, take-append-drop, take_bytes, word_fits, ℕ, ◌*◌, ◌+◌, ◌-◌, ◌<◌, ◌==◌, ◌∙◌, ◌∷◌, ◌≡◌, ◌≤◌}
+use Rattle.walcore.proofs.commit.LogAfterFrameWrite.{KeepsLog}
 
 -- ---- there is one
 

@@ -1,11 +1,7 @@
 -- On a disk that tears the last frame is written once more, as a frame of its own, before the log is synced: so the next
 -- frames lie in other sectors than what is durable.
-use Rattle.std.proofs.Common.{◌≡◌, ⊎_elim, ℕ, suc, ◌+◌, ◌*◌, ◌/◌, ◌≤◌, min, true, false, List, ◌∷◌, take, get_or, refl, sym, ◌∙◌, ap, subst, arith, []}
-use Rattle.walcore.proofs.Words.{cases_lt, le-div, div-mul-le_self, mul-le-mul_right, lt-div-mul-add, DiskState, Database, Suits, sector_some, sector_within, frame_end, page_of, size_of, content_of, IsCommit, most_frames, frame_end-suc, frame_end-head, take_less, shown, IsEra, IsApplied, IsBehind, Stands, IsRepeated}
-use Rattle.walcore.proofs.log.GrowthOfMadeLogs.{made_more}
-use Rattle.walcore.proofs.crash.FrontOfSurvivingLog.{boundary_same}
-use Rattle.walcore.proofs.log.CommitOfExtendedLog.{extended_front, extended_count}
-use Rattle.walcore.proofs.log.EraOfExtendedLog.{GoesOn, era_more}
+use Rattle.walcore.proofs.Between.{Database, DiskState, IsApplied, IsBehind, IsCommit, IsEra, IsRepeated, List, Stands, Suits, [], ap, arith, boundary_same, cases_lt, content_of, div-mul-le_self, era_more, extended_count, extended_front, false, frame_end, frame_end-head, frame_end-suc, get_or, le-div, lt-div-mul-add, made_more, min, most_frames, mul-le-mul_right, page_of, refl, sector_some, sector_within, shown, size_of, subst, suc, sym, take, take_less, true, ℕ, ⊎_elim, ◌*◌, ◌+◌, ◌/◌, ◌∙◌, ◌∷◌, ◌≡◌, ◌≤◌}
+use Rattle.walcore.proofs.log.EraOfExtendedLog.{GoesOn}
 use Rattle.walcore.proofs.disk.DiskInvariantUnderCalls.{stands_more}
 
 -- the number of the last database stays

@@ -1,18 +1,9 @@
 -- A sync steps to all commits being durable.
-use Rattle.std.proofs.Common.{◌≡◌, ◌⊎◌, inl, inr, ⊎_elim, ℕ, suc, ◌+◌, ◌-◌, ◌*◌, ◌/◌, ◌%◌, ◌≤◌, Bool, true, false, cond, not, ◌&&◌, ◌==◌, List, ◌∷◌, length, take, get_or, refl, sym, ◌∙◌, ap, subst, arith, Option, lit≤, [], IsTrue, Some, None, Result, Ok, Err}
-use Rattle.walcore.proofs.Words.{nat_tests, IsImage, Log, DiskError, image_elsewhere, counted_grows, Files, Done, Refused, Refuses, IsJust, HadRefusal, IsSameDisk, SyncStep, had_refusal, refusal_after, told_err, told_ok, present_image, sector_some, one_sync, calls_then, AreFiles, answered, ShowsWhole, last, newest, DiskState, frame_end, page_of, size_of, content_of, summed, IsSumOf, most_frames, frame_end-le, number_of, reader_at, synced, closed, call_refusal, NoChance, Made, MadeByCopy, MadeBySync, MayChange, IsBehind, Stands, IsPresent, Past, IsIndexed, IsBound, AreTogether, IsNewestDurable, IsCore, FitsCore, StepsTo, times, Rests, Closes, RestAnswer, KnowsLog, Going, FramesAnswer, IsRepeated, is_due, KnowsLast, SyncsBehind, SyncsCopy, SyncsBy, Core, Reader, WalError, Device, wal_log}
-use Rattle.crashdisk.specs.Call.{Syncs as CallSyncs}
+use Rattle.walcore.proofs.Facts.{AreFiles, AreTogether, Bool, CallSyncs, Closes, Core, Device, DiskError, DiskState, Done, Err, Files, FitsCore, FramesAnswer, Going, HadRefusal, IsBehind, IsBound, IsCore, IsImage, IsIndexed, IsJust, IsNewestDurable, IsPresent, IsRepeated, IsSameDisk, IsSumOf, IsTrue, KnowsLast, KnowsLog, List, Log, Made, MadeByCopy, MadeBySync, MayChange, NoChance, None, Ok, Option, Past, Reader, Refused, Refuses, RestAnswer, Rests, Result, ShowsWhole, Some, Stands, StepsTo, SyncStep, SyncsBehind, SyncsBy, SyncsCopy, WalError, [], answered, ap, arith, behind_copy, behind_even, behind_same, behind_whole, boundary_same, call_refusal, calls_then, closed, cond, content_of, copies_may, counted_grows, disk_by, extended_front, facts_stand, false, frame_end, frame_end-le, get_or, had_refusal, image_elsewhere, index_to, index_to-low, inl, inr, is_due, knows_same, last, length, lit≤, most_frames, nat_tests, newest, not, number_of, one_sync, page_of, present_bytes, present_image, present_last, present_syncs, reader_at, refl, refusal_after, repeated_stands, sector_some, size_of, stands_fewer, stands_synced, stands_syncs, subst, suc, summed, sym, synced, take, times, told_err, told_ok, true, wal_log, ℕ, ⊎_elim, ◌%◌, ◌&&◌, ◌*◌, ◌+◌, ◌-◌, ◌/◌, ◌==◌, ◌∙◌, ◌∷◌, ◌≡◌, ◌≤◌, ◌⊎◌}
 use Rattle.walcore.specs.Machine.{Syncs}
 use Rattle.walcore.specs.internal.Syncing.{Repeats}
-use Rattle.walcore.proofs.crash.HistoryInCrashImages.{present_last}
-use Rattle.walcore.proofs.disk.DiskInvariantUnderCalls.{stands_syncs, stands_synced, stands_fewer}
-use Rattle.walcore.proofs.log.PresentFrames.{present_syncs}
-use Rattle.walcore.proofs.disk.PermittedChanges.{copies_may}
-use Rattle.walcore.proofs.crash.FrontOfSurvivingLog.{boundary_same}
-use Rattle.walcore.proofs.log.CommitOfExtendedLog.{extended_front}
-use Rattle.walcore.proofs.sync.LogWithRepeatedFrame.{index_to, index_to-low, repeated_stands, behind_whole, behind_even, behind_copy, behind_same}
 use Rattle.walcore.proofs.sync.CopyOfLastFrame.{repeated_exists}
-use Rattle.walcore.proofs.commit.FitAfterCommit.{disk_by, facts_stand, present_bytes, knows_same, together_map}
+use Rattle.walcore.proofs.commit.FitAfterCommit.{together_map}
 
 -- what is present shows the newest database
 pub present_newest : (past : Past) (e : List ℕ) (n : ℕ) (index : ℕ → ℕ) (mark d c size : ℕ) (s : DiskState) → Stands size past.made.logs e n past.state.history index mark d c s → IsPresent size e n s

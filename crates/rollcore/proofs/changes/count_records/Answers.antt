@@ -1,6 +1,5 @@
-use Rattle.std.proofs.Common.{◌≡◌, ◌+◌, ◌<◌, ◌≤◌, ℕ, [], List, length, take, get_or, cond, Bor, ◌∙◌, ap, arith, nat_le}
-use Rattle.rollcore.proofs.Words.{nat_tests, get_or-map, length-map, take-map, sum_by_more_le, Pages, lent, recorded}
-use Rattle.rollcore.proofs.commit.ListedChanges.{there}
+use Rattle.rollcore.proofs.Facts.{List, Pages, [], ap, arith, cond, get_or, get_or-map, length, length-map, lent, nat_le, nat_tests, recorded, sum_by_more_le, take, take-map, there, ℕ, ◌+◌, ◌<◌, ◌∙◌, ◌≡◌, ◌≤◌}
+use Rattle.std.proofs.Common.{Bor}
 use Rattle.rollcore.proofs.changes.count_records.Goals as goal
 
 -- one more page that is there already is one of all

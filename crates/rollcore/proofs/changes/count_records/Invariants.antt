@@ -1,6 +1,4 @@
-use Rattle.std.proofs.Common.{◌≡◌, ◌-◌, ◌+◌, take}
-use Rattle.rollcore.proofs.Words.{lent}
-use Rattle.rollcore.proofs.commit.ListedChanges.{there}
+use Rattle.rollcore.proofs.Facts.{lent, take, there, ◌+◌, ◌-◌, ◌≡◌}
 use Rattle.rollcore.proofs.changes.count_records.Given as goal
 
 abbrev pub invariant-loop-x : goal.invariant-loop-x

@@ -1,7 +1,5 @@
-use Rattle.std.proofs.Common.{rules, List, sym, subst}
-use Rattle.rollcore.proofs.Words.{IsPermutation, IsNonDecreasingBy, IsNonDecreasingBy-from_sort_by_key, lent, faultless, AreChanges, Change}
+use Rattle.rollcore.proofs.Facts.{AreChanges, Change, IsNonDecreasingBy, IsNonDecreasingBy-from_sort_by_key, IsPermutation, List, are_changes, faultless, lent, rules, subst, sym}
 use Rattle.rollcore.specs.internal.Listing.{written}
-use Rattle.rollcore.proofs.commit.ListedChanges.{are_changes}
 use Rattle.rollcore.proofs.changes.list_changes.Goals as goal
 
 pub returns-clause-changes : goal.returns-clause-changes

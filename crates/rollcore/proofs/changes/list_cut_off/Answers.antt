@@ -1,6 +1,4 @@
-use Rattle.std.proofs.Common.{◌≡◌, ◌-◌, ◌+◌, ◌++◌, ◌∷◌, [], ⊎_elim, ℕ, List, sym, ◌∙◌, ap, arith, append_assoc, None}
-use Rattle.rollcore.proofs.Words.{cases_lt, cut_off, Change}
-use Rattle.rollcore.proofs.commit.ListedChanges.{cut_off_more}
+use Rattle.rollcore.proofs.Facts.{Change, List, None, [], ap, append_assoc, arith, cases_lt, cut_off, cut_off_more, sym, ℕ, ⊎_elim, ◌++◌, ◌+◌, ◌-◌, ◌∙◌, ◌∷◌, ◌≡◌}
 use Rattle.rollcore.proofs.changes.list_cut_off.Goals as goal
 
 pub loop-page-preserved : goal.loop-page-preserved

@@ -1,5 +1,4 @@
-use Rattle.std.proofs.Common.{◌≡◌, ◌-◌, ◌++◌, ◌≤◌}
-use Rattle.rollcore.proofs.Words.{cut_off}
+use Rattle.rollcore.proofs.Facts.{cut_off, ◌++◌, ◌-◌, ◌≡◌, ◌≤◌}
 use Rattle.rollcore.proofs.changes.list_cut_off.Given as goal
 
 abbrev pub invariant-loop-page : goal.invariant-loop-page

@@ -1,9 +1,8 @@
-use Rattle.std.proofs.Common.{◌≡◌, ◌+◌, ◌++◌, ◌∷◌, [], ℕ, List, length, take, get_or, Bor, sym, ◌∙◌, ap, Some, length-take-le}
-use Rattle.rollcore.proofs.Words.{map_more, length-map, Pages, lent, Change}
+use Rattle.rollcore.proofs.Facts.{Change, List, Pages, Some, [], ap, get_or, length, length-map, length-take-le, lent, map_more, more_no, more_yes, sym, take, ℕ, ◌++◌, ◌+◌, ◌∙◌, ◌∷◌, ◌≡◌}
+use Rattle.std.proofs.Common.{Bor}
 use Rattle.rollcore.specs.internal.Listing.{written}
-use Rattle.rollcore.proofs.commit.ListedChanges.{more_yes, more_no}
-use Rattle.rollcore.proofs.changes.list_written.Goals as goal
 use Rattle.rollcore.proofs.changes.list_written.Goals.{then-x-old_size+in_ok-push, else-x-old_size}
+use Rattle.rollcore.proofs.changes.list_written.Goals as goal
 
 at : List (ℕ × Bor (List ℕ)) → ℕ → ℕ × Bor (List ℕ)
 at pages k = get_or pages k (0, record { ref_ptr = (0, 0); now = [] })

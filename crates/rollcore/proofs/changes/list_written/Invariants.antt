@@ -1,5 +1,4 @@
-use Rattle.std.proofs.Common.{◌≡◌, take}
-use Rattle.rollcore.proofs.Words.{lent}
+use Rattle.rollcore.proofs.Facts.{lent, take, ◌≡◌}
 use Rattle.rollcore.specs.internal.Listing.{written}
 use Rattle.rollcore.proofs.changes.list_written.Given as goal
 

@@ -1,6 +1,4 @@
-use Rattle.std.proofs.Common.{rules, inl, inr, ⊎_elim, ◌∙◌}
-use Rattle.rollcore.proofs.Words.{during, lent, passed}
-use Rattle.rollcore.proofs.commit.StepOfCommit.{fits_kept, refusal_open, refused_step}
+use Rattle.rollcore.proofs.Facts.{during, fits_kept, inl, inr, lent, passed, refusal_open, refused_step, rules, ⊎_elim, ◌∙◌}
 use Rattle.rollcore.proofs.commits.commit_pages.Goals as goal
 
 pub returns-in_err-prepare-clause-disk : goal.returns-in_err-prepare-clause-disk

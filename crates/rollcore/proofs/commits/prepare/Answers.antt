@@ -1,6 +1,4 @@
-use Rattle.std.proofs.Common.{ℕ, ◌^◌, ◌<◌, sym, subst, arith}
-use Rattle.rollcore.proofs.Words.{lent, recorded}
-use Rattle.rollcore.proofs.commit.StepOfCommit.{few_records}
+use Rattle.rollcore.proofs.Facts.{arith, few_records, lent, recorded, subst, sym, ℕ, ◌<◌, ◌^◌}
 use Rattle.rollcore.proofs.commits.prepare.Goals as goal
 
 pub count_records-requires : goal.count_records-requires

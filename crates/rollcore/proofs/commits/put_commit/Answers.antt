@@ -1,11 +1,4 @@
-use Rattle.std.proofs.Common.{rules, ◌≡◌, ◌*◌, ◌<◌, ◌≤◌, ◌∙◌, ℕ, List, length, sym, subst, arith, Result, None, OnOk, take}
-use Rattle.rollcore.proofs.Words.{during, on_ok_weaker, Database, apply, lent, IsLogDurable, passed, most_bytes, refusal_of, segments_of, sizes, HasParts, parts_of, zeroed, AreChanges, PutAnswer, ArePlaced, Journaled, ArePut, pages_of, Change, RollError, RestsAt, MayReplay, MayCommit, Asks}
-use Rattle.rollcore.proofs.commit.SegmentsOfCommit.{part_short, ready_placed}
-use Rattle.rollcore.proofs.commit.AcceptedCommit.{granted}
-use Rattle.rollcore.proofs.commit.AppendedPages.{lent_at, lent_length}
-use Rattle.rollcore.proofs.commit.CompletedCommit.{put_harmless, put_after}
-use Rattle.rollcore.proofs.disk.ToldRefusals.{asks_err, asks_then, asks_wider}
-use Rattle.rollcore.proofs.disk.PermittedChanges.{replay_may}
+use Rattle.rollcore.proofs.Facts.{AreChanges, ArePlaced, ArePut, Asks, Change, Database, HasParts, IsLogDurable, Journaled, List, MayCommit, MayReplay, None, OnOk, PutAnswer, RestsAt, Result, RollError, apply, arith, asks_err, asks_then, asks_wider, during, granted, length, lent, lent_at, lent_length, most_bytes, on_ok_weaker, pages_of, part_short, parts_of, passed, put_after, put_harmless, ready_placed, refusal_of, replay_may, rules, segments_of, sizes, subst, sym, take, zeroed, ℕ, ◌*◌, ◌<◌, ◌∙◌, ◌≡◌, ◌≤◌}
 use Rattle.rollcore.proofs.commits.put_commit.Goals as goal
 
 pub returns-in_err-put_segments-clause-disk : goal.returns-in_err-put_segments-clause-disk

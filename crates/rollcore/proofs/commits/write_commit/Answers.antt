@@ -1,6 +1,4 @@
-use Rattle.std.proofs.Common.{rules, sym, subst, Result, length, take, OnOk}
-use Rattle.rollcore.proofs.Words.{during, apply, lent, Done, answered, Commits, segments_of, sizes, parts_of, StepsTo, LeavesParts, TakesNonces, PutAnswer, RollError, pages_of, on_ok_weaker, number_of}
-use Rattle.rollcore.proofs.commit.StepOfCommit.{commit_step, changed_here, put_here}
+use Rattle.rollcore.proofs.Facts.{Commits, Done, LeavesParts, OnOk, PutAnswer, Result, RollError, StepsTo, TakesNonces, answered, apply, changed_here, commit_step, during, length, lent, number_of, on_ok_weaker, pages_of, parts_of, put_here, rules, segments_of, sizes, subst, sym, take}
 use Rattle.rollcore.proofs.commits.write_commit.Goals as goal
 
 pub returns-clause-disk : goal.returns-clause-disk

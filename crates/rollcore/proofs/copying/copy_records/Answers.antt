@@ -1,7 +1,5 @@
-use Rattle.std.proofs.Common.{sym, ◌∙◌}
-use Rattle.rollcore.proofs.Words.{during, later_wider, copied_keeps, record_plan, Device}
-use Rattle.rollcore.proofs.replays.CopiedPages.{replay_may, rolled_made}
-use Rattle.rollcore.proofs.replays.PhasesOfReplay.{writing_keeps}
+use Rattle.rollcore.proofs.Facts.{Device, copied_keeps, during, later_wider, record_plan, rolled_made, sym, writing_keeps, ◌∙◌}
+use Rattle.rollcore.proofs.replays.CopiedPages.{replay_may}
 use Rattle.rollcore.proofs.copying.copy_records.Goals as goal
 
 pub returns : goal.returns

@@ -1,6 +1,4 @@
-use Rattle.std.proofs.Common.{rules, Ok}
-use Rattle.rollcore.proofs.Words.{during, passed, told_device, told_done, end_told, Device}
-use Rattle.rollcore.proofs.commit.CompletedCommit.{finishes}
+use Rattle.rollcore.proofs.Facts.{Device, Ok, during, end_told, finishes, passed, rules, told_device, told_done}
 use Rattle.rollcore.proofs.copying.finish.Goals as goal
 
 pub returns-in_err-finish-clause-disk : goal.returns-in_err-finish-clause-disk

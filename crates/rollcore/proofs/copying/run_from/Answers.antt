@@ -1,6 +1,4 @@
-use Rattle.std.proofs.Common.{◌≡◌, ⊎_elim, ℕ, ◌+◌, ◌*◌, subst, arith, Some}
-use Rattle.rollcore.proofs.Words.{cases_lt, HasEntry, Record}
-use Rattle.rollcore.proofs.replays.DecisivePrefixOfJournal.{read_entry}
+use Rattle.rollcore.proofs.Facts.{HasEntry, Record, Some, arith, cases_lt, read_entry, subst, ℕ, ⊎_elim, ◌*◌, ◌+◌, ◌≡◌}
 use Rattle.rollcore.proofs.copying.run_from.Goals as goal
 
 pub loop-run-preserved : goal.loop-run-preserved

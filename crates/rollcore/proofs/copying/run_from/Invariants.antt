@@ -1,5 +1,4 @@
-use Rattle.std.proofs.Common.{ℕ, List, ◌+◌, ◌-◌, ◌*◌, ◌<◌, ◌≤◌, Some}
-use Rattle.rollcore.proofs.Words.{HasEntry, HasRead}
+use Rattle.rollcore.proofs.Facts.{HasEntry, HasRead, List, Some, ℕ, ◌*◌, ◌+◌, ◌-◌, ◌<◌, ◌≤◌}
 use Rattle.rollcore.proofs.copying.run_from.Given as goal
 
 abbrev pub invariant-loop-run : goal.invariant-loop-run

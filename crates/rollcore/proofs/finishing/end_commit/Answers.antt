@@ -1,8 +1,5 @@
-use Rattle.std.proofs.Common.{rules, ◌≡◌, ◌*◌, ◌∙◌, ℕ, refl, sym, ap, subst, arith, Result, Ok}
-use Rattle.rollcore.proofs.Words.{during, apply, lent, most_bytes, Db, passed, later_cut, Later, PutAnswer, pages_of, RollError, Device, MayReplay}
-use Rattle.rollcore.proofs.commit.CompletedCommit.{put_harmless, put_after, ends_log, of_pages, some_changes, held_after, cut_failed, cut_done, cut_pages}
+use Rattle.rollcore.proofs.Facts.{Db, Device, Later, MayReplay, Ok, PutAnswer, Result, RollError, ap, apply, arith, asks_device, asks_done, asks_err, asks_then, cut_done, cut_failed, cut_pages, during, ends_log, held_after, later_cut, lent, most_bytes, of_pages, pages_of, passed, put_after, put_harmless, refl, rules, some_changes, subst, sym, ℕ, ◌*◌, ◌∙◌, ◌≡◌}
 use Rattle.rollcore.proofs.finishing.end_commit.Goals as goal
-use Rattle.rollcore.proofs.disk.ToldRefusals.{asks_err, asks_then, asks_device, asks_done}
 
 pub returns-in_err-put_new_pages-clause-disk : goal.returns-in_err-put_new_pages-clause-disk
 returns-in_err-put_new_pages-clause-disk g c = during (search rules) (λ word.

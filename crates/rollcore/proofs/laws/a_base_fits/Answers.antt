@@ -1,4 +1,4 @@
-use Rattle.rollcore.proofs.machine.FitOfSettledFiles.{base_fits, down_fits}
+use Rattle.rollcore.proofs.Facts.{base_fits, down_fits}
 use Rattle.rollcore.proofs.laws.a_base_fits.Goals as goal
 
 pub returns-clause-new : goal.returns-clause-new

@@ -1,4 +1,4 @@
-use Rattle.rollcore.proofs.crash.FitAfterCrash.{fits_crash}
+use Rattle.rollcore.proofs.Facts.{fits_crash}
 use Rattle.rollcore.proofs.laws.a_crash_fits.Goals as goal
 
 pub returns : goal.returns

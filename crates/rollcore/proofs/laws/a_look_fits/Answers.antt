@@ -1,4 +1,4 @@
-use Rattle.rollcore.proofs.read.ContentOfReadPage.{fits_disk_still, fits_still}
+use Rattle.rollcore.proofs.Facts.{fits_disk_still, fits_still}
 use Rattle.rollcore.proofs.laws.a_look_fits.Goals as goal
 
 pub returns-clause-core : goal.returns-clause-core

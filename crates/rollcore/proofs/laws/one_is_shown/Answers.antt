@@ -1,6 +1,5 @@
-use Rattle.std.proofs.Common.{refl, Ok}
-use Rattle.rollcore.proofs.Words.{Files, byte, table, present_list, AreFiles}
-use Rattle.rollcore.proofs.openings.RecoveredFiles.{is_found, settled_one}
+use Rattle.rollcore.proofs.Facts.{AreFiles, Files, Ok, byte, is_found, present_list, refl, table}
+use Rattle.rollcore.proofs.openings.RecoveredFiles.{settled_one}
 use Rattle.rollcore.proofs.laws.one_is_shown.Goals as goal
 
 pub returns : goal.returns

@@ -1,4 +1,4 @@
-use Rattle.rollcore.proofs.machine.StepAnswers.{step_of}
+use Rattle.rollcore.proofs.Facts.{step_of}
 use Rattle.rollcore.proofs.laws.one_step.Goals as goal
 
 pub returns-clause-answer : goal.returns-clause-answer

@@ -1,5 +1,4 @@
-use Rattle.rollcore.proofs.Words.{start}
-use Rattle.rollcore.proofs.machine.StepInvariants.{sane_start, sane_runs}
+use Rattle.rollcore.proofs.Facts.{sane_runs, sane_start, start}
 use Rattle.rollcore.proofs.laws.runs_are_sane.Goals as goal
 
 pub returns : goal.returns

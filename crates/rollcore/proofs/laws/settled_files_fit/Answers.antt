@@ -1,4 +1,4 @@
-use Rattle.rollcore.proofs.machine.FitOfSettledFiles.{settled_fits}
+use Rattle.rollcore.proofs.Facts.{settled_fits}
 use Rattle.rollcore.proofs.laws.settled_files_fit.Goals as goal
 
 pub returns : goal.returns

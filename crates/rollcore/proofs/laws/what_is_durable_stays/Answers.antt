@@ -1,5 +1,4 @@
-use Rattle.rollcore.proofs.Words.{start}
-use Rattle.rollcore.proofs.machine.StepInvariants.{sane_start, sane_runs, kept_runs}
+use Rattle.rollcore.proofs.Facts.{kept_runs, sane_runs, sane_start, start}
 use Rattle.rollcore.proofs.laws.what_is_durable_stays.Goals as goal
 
 pub returns : goal.returns

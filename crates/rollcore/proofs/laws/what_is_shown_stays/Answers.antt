@@ -1,4 +1,4 @@
-use Rattle.rollcore.proofs.Words.{alone_syncs, alone_looks, alone_same, crash_shows, journal_log}
+use Rattle.rollcore.proofs.Facts.{alone_looks, alone_same, alone_syncs, crash_shows, journal_log}
 use Rattle.rollcore.proofs.laws.what_is_shown_stays.Goals as goal
 
 pub returns-clause-sync : goal.returns-clause-sync

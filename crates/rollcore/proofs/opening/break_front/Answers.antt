@@ -1,10 +1,4 @@
-use Rattle.std.proofs.Common.{rules, ◌∙◌, inl, refl, ap, Ok}
-use Rattle.rollcore.proofs.Words.{during, Log, passed, InFile, Later}
-use Rattle.rollcore.proofs.disk.PermittedChanges.{front_may}
-use Rattle.rollcore.proofs.disk.InvariantsOfCalls.{goes_broken, asks_broken}
-use Rattle.rollcore.proofs.disk.ToldRefusals.{asks_step, asks_as, asks_err, asks_then}
-use Rattle.rollcore.proofs.openings.ErasedMagic.{front_failed, front_none, front_unsynced, front_synced}
-use Rattle.rollcore.proofs.openings.RefusalOfOpening.{broken_refused, settled_refused}
+use Rattle.rollcore.proofs.Facts.{InFile, Later, Log, Ok, ap, asks_as, asks_broken, asks_err, asks_step, asks_then, broken_refused, during, front_failed, front_may, front_none, front_synced, front_unsynced, goes_broken, inl, passed, refl, rules, settled_refused, ◌∙◌}
 use Rattle.rollcore.proofs.opening.break_front.Goals as goal
 
 pub returns-in_err-break_magic : goal.returns-in_err-break_magic

@@ -1,7 +1,5 @@
-use Rattle.std.proofs.Common.{rules, refl, Ok, IsTrue, Bool, true, false}
-use Rattle.rollcore.proofs.Words.{during, Device, passed, still_looks, tells_ok}
-use Rattle.rollcore.proofs.disk.ToldRefusals.{told_device, told_then}
-use Rattle.rollcore.proofs.openings.MagicAsRead.{magic_read, magic_there, puts_zero, break_failed, break_unread}
+use Rattle.rollcore.proofs.Facts.{Bool, Device, IsTrue, Ok, break_failed, break_unread, during, false, magic_read, magic_there, passed, puts_zero, refl, rules, still_looks, tells_ok, told_then, true}
+use Rattle.rollcore.proofs.disk.ToldRefusals.{told_device}
 use Rattle.rollcore.proofs.opening.break_magic.Goals as goal
 
 pub returns-then-not-is_magic-clause-disk : goal.returns-then-not-is_magic-clause-disk

@@ -1,6 +1,4 @@
-use Rattle.std.proofs.Common.{rules, ◌∙◌, ℕ, sym, subst, arith, Err}
-use Rattle.rollcore.proofs.Words.{during, IsPageSize, count_zero, count_rest, passed, still_looks, tells_ok, TooLarge, PageSize, Device}
-use Rattle.rollcore.proofs.replays.PlanOfScannedLog.{count_whole}
+use Rattle.rollcore.proofs.Facts.{Device, Err, IsPageSize, PageSize, TooLarge, arith, count_rest, count_whole, count_zero, during, passed, rules, still_looks, subst, sym, tells_ok, ℕ, ◌∙◌}
 use Rattle.rollcore.proofs.disk.ToldRefusals.{told_device}
 use Rattle.rollcore.proofs.opening.count_pages.Goals.{then-long-eq0-via-then-long-eq0, then-long-eq0-via-else-long-eq0+then-long-size-ne0}
 use Rattle.rollcore.proofs.opening.count_pages.Goals as goal

@@ -1,8 +1,4 @@
-use Rattle.std.proofs.Common.{◌≡◌, ℕ, length, rules, arith, subst, sym, ◌∙◌, inl, inr, refl}
-use Rattle.rollcore.proofs.Words.{during, size_bounds, sector_some, TearsPages, passed, match_err, if_err, RefusedFor, OpenRefused}
-use Rattle.rollcore.proofs.openings.RecoveredFiles.{given_up, opened_to}
-use Rattle.rollcore.proofs.openings.RefusalOfOpening.{from_err, files_refused, files_opened, tears_pages, no_tears}
-use Rattle.rollcore.proofs.openings.InitialSync.{opens_err}
+use Rattle.rollcore.proofs.Facts.{OpenRefused, RefusedFor, TearsPages, arith, during, files_opened, files_refused, from_err, given_up, if_err, inl, inr, length, match_err, no_tears, opened_to, opens_err, passed, refl, rules, sector_some, size_bounds, subst, sym, tears_pages, ℕ, ◌∙◌, ◌≡◌}
 use Rattle.rollcore.proofs.opening.open_core.Goals as goal
 
 pub returns-in_err-pages : goal.returns-in_err-pages

@@ -1,9 +1,4 @@
-use Rattle.std.proofs.Common.{rules}
-use Rattle.rollcore.proofs.Words.{during, Log, passed, unwritten_shows, unwritten_syncs, sync_refused, match_err, journal_log, Device}
-use Rattle.rollcore.proofs.replays.PhasesOfReplay.{agrees_by}
-use Rattle.rollcore.proofs.openings.RecoveredFiles.{unsettled, settled}
-use Rattle.rollcore.proofs.openings.RefusalOfOpening.{refused_device, files_err, synced_files}
-use Rattle.rollcore.proofs.openings.InitialSync.{sync_fails, sync_goes}
+use Rattle.rollcore.proofs.Facts.{Device, Log, agrees_by, during, files_err, journal_log, match_err, passed, refused_device, rules, settled, sync_fails, sync_goes, sync_refused, synced_files, unsettled, unwritten_shows, unwritten_syncs}
 use Rattle.rollcore.proofs.opening.recover.Goals as goal
 
 pub returns-in_err-sync_log-clause-disk : goal.returns-in_err-sync_log-clause-disk

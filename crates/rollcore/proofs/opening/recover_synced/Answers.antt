@@ -1,12 +1,4 @@
-use Rattle.std.proofs.Common.{rules, ℕ, sym, ◌∙◌, ap, subst, Ok}
-use Rattle.rollcore.proofs.Words.{during, byte, IsSectorSize, table, present_list, most_bytes, passed, present_in, still_sound, still_then, down_present, down_by, unwritten_begins, unwritten_shows, unwritten_still, IsFit, torn_sector, journal_log, MayReplay, MayRecover, Asks}
-use Rattle.rollcore.proofs.replays.AnswerOfParts.{within_some, torn_still, read_plans, plan_cold}
-use Rattle.rollcore.proofs.replays.PhasesOfReplay.{agrees_by}
-use Rattle.rollcore.proofs.openings.ErasedMagic.{cold_alone}
-use Rattle.rollcore.proofs.openings.RecoveredFiles.{unplanned, misjudged, unreplayed, replayed, uncounted, unbroken, broken, few_some, small_some}
-use Rattle.rollcore.proofs.openings.RefusalOfOpening.{read_refuses, size_refuses, replay_refuses, count_refuses, break_refuses, hot_opens, count_opens, files_err, hot_leaves, cold_leaves}
-use Rattle.rollcore.proofs.disk.PermittedChanges.{recover_may}
-use Rattle.rollcore.proofs.disk.ToldRefusals.{asks_still, asks_as, asks_err, asks_then, asks_wider}
+use Rattle.rollcore.proofs.Facts.{Asks, IsFit, IsSectorSize, MayRecover, MayReplay, Ok, agrees_by, ap, asks_as, asks_err, asks_still, asks_then, asks_wider, break_refuses, broken, byte, cold_alone, cold_leaves, count_opens, count_refuses, down_by, down_present, during, few_some, files_err, hot_leaves, hot_opens, journal_log, misjudged, most_bytes, passed, plan_cold, present_in, present_list, read_plans, read_refuses, recover_may, replay_refuses, replayed, rules, size_refuses, small_some, still_sound, still_then, subst, sym, table, torn_sector, torn_still, unbroken, uncounted, unplanned, unreplayed, unwritten_begins, unwritten_shows, unwritten_still, within_some, ℕ, ◌∙◌}
 use Rattle.rollcore.proofs.opening.recover_synced.Goals as goal
 
 pub returns-in_err-plan-clause-disk : goal.returns-in_err-plan-clause-disk

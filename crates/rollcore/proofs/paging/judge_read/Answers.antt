@@ -1,5 +1,4 @@
-use Rattle.std.proofs.Common.{arith, ◌∙◌, sym}
-use Rattle.rollcore.proofs.Words.{ReadJudged}
+use Rattle.rollcore.proofs.Facts.{ReadJudged, arith, sym, ◌∙◌}
 use Rattle.rollcore.proofs.paging.judge_read.Goals as goal
 
 pub returns-then-not-core-clause-judged : goal.returns-then-not-core-clause-judged

@@ -1,5 +1,4 @@
-use Rattle.std.proofs.Common.{rules, ◌+◌, inr, sym, ap, Ok}
-use Rattle.rollcore.proofs.Words.{during, Device, passed, place_read, place_refused, tells_ok}
+use Rattle.rollcore.proofs.Facts.{Device, Ok, ap, during, inr, passed, place_read, place_refused, rules, sym, tells_ok, ◌+◌}
 use Rattle.rollcore.proofs.disk.ToldRefusals.{told_device}
 use Rattle.rollcore.proofs.paging.read_place.Goals as goal
 

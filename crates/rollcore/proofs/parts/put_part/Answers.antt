@@ -1,6 +1,4 @@
-use Rattle.std.proofs.Common.{◌≡◌, rules, refl, inl, inr, ⊎_elim, ◌∙◌, sym, ap, subst, arith, ◌*◌, ◌<◌, ℕ, length, ◌-◌, List, take, drop, length-take, length-drop}
-use Rattle.rollcore.proofs.Words.{during, length-map, Database, apply, lent, size_bounds, MayCommit, Asks, ArePlaced, AreWithin, segments_of, pages_of, Change}
-use Rattle.rollcore.proofs.commit.SegmentsOfCommit.{ready_placed, part_limit, part_within, part_numbered, part_short, before_part, part_back, part_after, part_some, part_cases, part_fresh, part_turned, part_somes}
+use Rattle.rollcore.proofs.Facts.{ArePlaced, AreWithin, Asks, Change, Database, List, MayCommit, ap, apply, arith, before_part, drop, during, inl, inr, length, length-drop, length-map, length-take, lent, pages_of, part_after, part_back, part_cases, part_fresh, part_limit, part_numbered, part_short, part_some, part_somes, part_turned, part_within, ready_placed, refl, rules, segments_of, size_bounds, subst, sym, take, ℕ, ⊎_elim, ◌*◌, ◌-◌, ◌<◌, ◌∙◌, ◌≡◌}
 use Rattle.rollcore.proofs.parts.put_part.Goals as goal
 
 pub put_segment-requires-clause-buffer : goal.put_segment-requires-clause-buffer

@@ -1,8 +1,4 @@
-use Rattle.std.proofs.Common.{◌≡◌, ◌<◌, List, ◌∙◌, ℕ, sym, ap, subst, refl, arith, rules, length, Result, Ok, Err}
-use Rattle.rollcore.proofs.Words.{during, length-map, apply, lent, passed, segments_of, MayCommit, Asks, pages_of, SegmentsAnswer, Change, RollError}
-use Rattle.rollcore.proofs.disk.ToldRefusals.{asks_same, asks_as, asks_err, asks_then}
-use Rattle.rollcore.proofs.journal.DurableRecords.{harmless_after}
-use Rattle.rollcore.proofs.commit.SegmentsOfCommit.{enough, parts_begin, parts_end, parts_all, part_forth, part_back, ready_kept, places_few, kept_same, kept_then}
+use Rattle.rollcore.proofs.Facts.{Asks, Change, Err, List, MayCommit, Ok, Result, RollError, SegmentsAnswer, ap, apply, arith, asks_as, asks_err, asks_same, asks_then, during, enough, harmless_after, kept_same, kept_then, length, length-map, lent, pages_of, part_back, part_forth, parts_all, parts_begin, parts_end, passed, places_few, ready_kept, refl, rules, segments_of, subst, sym, ℕ, ◌<◌, ◌∙◌, ◌≡◌}
 use Rattle.rollcore.proofs.parts.put_segments.Goals as goal
 
 pub loop-k-init : goal.loop-k-init

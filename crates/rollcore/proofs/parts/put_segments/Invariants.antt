@@ -1,5 +1,4 @@
-use Rattle.std.proofs.Common.{◌≡◌, ◌↔◌, ◌*◌, ◌^◌, ◌≤◌, ℕ, length, Ok}
-use Rattle.rollcore.proofs.Words.{Database, apply, lent, RestsAt, MayCommit, Asks, KeepsCore, IsReady, pages_of, Parted}
+use Rattle.rollcore.proofs.Facts.{Asks, Database, IsReady, KeepsCore, MayCommit, Ok, Parted, RestsAt, apply, length, lent, pages_of, ℕ, ◌*◌, ◌^◌, ◌↔◌, ◌≡◌, ◌≤◌}
 use Rattle.rollcore.proofs.parts.put_segments.Given as goal
 
 abbrev pub invariant-loop-k : goal.invariant-loop-k

@@ -1,5 +1,4 @@
-use Rattle.std.proofs.Common.{◌≡◌, ◌<◌, ◌≤◌, ◌*◌, inl, inr, arith}
-use Rattle.rollcore.proofs.replays.PlanOfScannedLog.{judged_large, judged_below, judged_fit}
+use Rattle.rollcore.proofs.Facts.{arith, inl, inr, judged_below, judged_fit, judged_large, ◌*◌, ◌<◌, ◌≡◌, ◌≤◌}
 use Rattle.rollcore.proofs.plan.judge.Goals.{then-page_size-torn-via-then-page_size-torn, then-page_size-torn-via-else-page_size-torn+then-header-torn}
 use Rattle.rollcore.proofs.plan.judge.Goals as goal
 

@@ -1,7 +1,4 @@
-use Rattle.std.proofs.Common.{◌≡◌, ◌+◌, length, rules, arith, Some, None}
-use Rattle.rollcore.proofs.Words.{size_bounds, passed, NoMemory}
-use Rattle.rollcore.proofs.replays.PlanOfScannedLog.{plan_none, plan_some, plan_refused, plan_memory}
-use Rattle.rollcore.proofs.replays.DecisivePrefixOfJournal.{read_first}
+use Rattle.rollcore.proofs.Facts.{NoMemory, None, Some, arith, length, passed, plan_memory, plan_none, plan_refused, plan_some, read_first, rules, size_bounds, ◌+◌, ◌≡◌}
 use Rattle.rollcore.proofs.plan.plan_of.Goals as goal
 
 pub returns-in_default-clause-plan : goal.returns-in_default-clause-plan

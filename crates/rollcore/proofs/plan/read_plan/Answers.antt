@@ -1,7 +1,5 @@
-use Rattle.std.proofs.Common.{rules, ap, ◌∙◌, Ok, Option, None}
-use Rattle.rollcore.proofs.Words.{during, Plan, passed, tells_again, Device}
+use Rattle.rollcore.proofs.Facts.{Device, None, Ok, Option, Plan, ap, during, passed, plan_none, read_planned, read_scan, rules, scan_cold, scan_read, tells_again, ◌∙◌}
 use Rattle.rollcore.proofs.disk.ToldRefusals.{told_err}
-use Rattle.rollcore.proofs.replays.PlanOfScannedLog.{plan_none, read_planned, read_scan, scan_read, scan_cold}
 use Rattle.rollcore.proofs.plan.read_plan.Goals as goal
 
 pub returns-in_err-scan-clause-disk : goal.returns-in_err-scan-clause-disk

@@ -1,7 +1,4 @@
-use Rattle.std.proofs.Common.{rules, arith, Err, Option}
-use Rattle.rollcore.proofs.Words.{during, Replay, TooLarge}
-use Rattle.rollcore.proofs.disk.ToldRefusals.{told_same}
-use Rattle.rollcore.proofs.replays.ScanOfLogPrefix.{scan_long}
+use Rattle.rollcore.proofs.Facts.{Err, Option, Replay, TooLarge, arith, during, rules, scan_long, told_same}
 use Rattle.rollcore.proofs.reading.scan_log.Goals as goal
 
 pub returns-then-long-gt-LONGEST : goal.returns-then-long-gt-LONGEST

@@ -1,7 +1,5 @@
-use Rattle.std.proofs.Common.{rules, ◌≡◌, refl, sym, ap, ◌∙◌, Ok}
-use Rattle.rollcore.proofs.Words.{during, FileState, passed, present_in, still_looks, still_then, tells_ok, Device}
-use Rattle.rollcore.proofs.replays.AnswerOfParts.{torn_still, read_torn, look_unread, read_looked}
-use Rattle.rollcore.proofs.disk.ToldRefusals.{told_device, told_then}
+use Rattle.rollcore.proofs.Facts.{Device, FileState, Ok, ap, during, look_unread, passed, present_in, read_looked, read_torn, refl, rules, still_looks, still_then, sym, tells_ok, told_then, torn_still, ◌∙◌, ◌≡◌}
+use Rattle.rollcore.proofs.disk.ToldRefusals.{told_device}
 use Rattle.rollcore.proofs.replaying.find_plan.Goals as goal
 
 pub returns-in_err-long-clause-disk : goal.returns-in_err-long-clause-disk

@@ -1,10 +1,4 @@
-use Rattle.std.proofs.Common.{rules, ◌≡◌, ◌≤◌, ◌*◌, ℕ, refl, sym, subst}
-use Rattle.rollcore.proofs.Words.{during, byte, IsSectorSize, table, present_list, passed, present_in, down_present, down_by, copy_done, EndsBy, MayReplayWithin, Asks, Device}
-use Rattle.rollcore.proofs.replays.AnswerOfParts.{planned, rolled_copy, rolled_end, rolled_done, writing_at, pages_at, rolled_present}
-use Rattle.rollcore.proofs.replays.LengthOfDatabaseFile.{ends_hot, named_by, fit_named, rolled_length}
-use Rattle.rollcore.proofs.replays.PhasesOfReplay.{fit_begins, writing_shows}
-use Rattle.rollcore.proofs.disk.ToldRefusals.{asks_as, asks_err, asks_then}
-use Rattle.rollcore.proofs.replays.DecisivePrefixOfJournal.{read_count}
+use Rattle.rollcore.proofs.Facts.{Asks, Device, EndsBy, IsSectorSize, MayReplayWithin, asks_as, asks_err, asks_then, byte, copy_done, down_by, down_present, during, ends_hot, fit_begins, fit_named, named_by, pages_at, passed, planned, present_in, present_list, read_count, refl, rolled_copy, rolled_done, rolled_end, rolled_length, rolled_present, rules, subst, sym, table, writing_at, writing_shows, ℕ, ◌*◌, ◌≡◌, ◌≤◌}
 use Rattle.rollcore.proofs.replaying.replay_plan.Goals as goal
 
 pub returns-in_err-copy_records-clause-disk : goal.returns-in_err-copy_records-clause-disk

@@ -1,9 +1,5 @@
-use Rattle.std.proofs.Common.{rules, ℕ, refl, sym, ◌∙◌, ap, subst, Ok}
-use Rattle.rollcore.proofs.Words.{during, IsSectorSize, passed, present_in, down_present, down_by, unwritten_shows, unwritten_still, narrows_still, EndsBy, IsFit, torn_sector, MayReplayWithin, Asks, journal_log}
-use Rattle.rollcore.proofs.crash.NarrowedImages.{ends_narrow}
-use Rattle.rollcore.proofs.replays.AnswerOfParts.{within_some, torn_still, read_refused, read_cold, plan_replays, read_plans}
-use Rattle.rollcore.proofs.replays.PhasesOfReplay.{agrees_by}
-use Rattle.rollcore.proofs.disk.ToldRefusals.{told_err, asks_still, asks_as, asks_then}
+use Rattle.rollcore.proofs.Facts.{Asks, EndsBy, IsFit, IsSectorSize, MayReplayWithin, Ok, agrees_by, ap, asks_as, asks_still, asks_then, down_by, down_present, during, ends_narrow, journal_log, narrows_still, passed, plan_replays, present_in, read_cold, read_plans, read_refused, refl, rules, subst, sym, torn_sector, torn_still, unwritten_shows, unwritten_still, within_some, ℕ, ◌∙◌}
+use Rattle.rollcore.proofs.disk.ToldRefusals.{told_err}
 use Rattle.rollcore.proofs.replaying.replay_synced_within.Goals as goal
 
 pub returns-in_err-plan : goal.returns-in_err-plan

@@ -1,10 +1,5 @@
-use Rattle.std.proofs.Common.{rules, refl, Ok}
-use Rattle.rollcore.proofs.Words.{during, Device, passed, unwritten_shows, unwritten_syncs, Log, down_syncs, later_sync, Later, goes_on, stays, journal_log, MayReplayWithin}
-use Rattle.rollcore.proofs.replays.AnswerOfParts.{sync_unreplayed, synced_present, replay_after}
-use Rattle.rollcore.proofs.replays.PhasesOfReplay.{agrees_by}
-use Rattle.rollcore.proofs.replays.LengthOfDatabaseFile.{ends_resynced}
+use Rattle.rollcore.proofs.Facts.{Device, Later, Log, MayReplayWithin, Ok, agrees_by, asks_device, asks_done, asks_then, down_syncs, during, ends_resynced, goes_on, journal_log, later_sync, passed, refl, replay_after, rules, stays, sync_unreplayed, synced_present, unwritten_shows, unwritten_syncs}
 use Rattle.sqval.specs.Bytes.{word as word_of}
-use Rattle.rollcore.proofs.disk.ToldRefusals.{asks_device, asks_done, asks_then}
 use Rattle.rollcore.proofs.replaying.replay_within.Goals as goal
 
 pub returns-in_err-sync : goal.returns-in_err-sync

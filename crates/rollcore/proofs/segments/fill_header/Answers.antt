@@ -1,5 +1,4 @@
-use Rattle.std.proofs.Common.{◌∙◌, ℕ, List, length, sym, ap, subst, length-take-le}
-use Rattle.rollcore.proofs.Words.{Names}
+use Rattle.rollcore.proofs.Facts.{List, Names, ap, length, length-take-le, subst, sym, ℕ, ◌∙◌}
 use Rattle.rollcore.proofs.segments.fill_header.Goals as goal
 
 pub copy_from_slice-requires : goal.copy_from_slice-requires

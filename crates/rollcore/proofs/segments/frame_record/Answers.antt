@@ -1,6 +1,4 @@
-use Rattle.std.proofs.Common.{◌≡◌, ◌+◌, ◌-◌, ◌++◌, ◌∙◌, ℕ, length, take, drop, ap, arith}
-use Rattle.rollcore.proofs.Words.{big_bytes, nonce_sum}
-use Rattle.rollcore.proofs.journal.RecordsOfOldPages.{framed}
+use Rattle.rollcore.proofs.Facts.{ap, arith, big_bytes, drop, framed, length, nonce_sum, take, ℕ, ◌++◌, ◌+◌, ◌-◌, ◌∙◌, ◌≡◌}
 use Rattle.rollcore.proofs.segments.frame_record.Goals as goal
 
 pub returns : goal.returns

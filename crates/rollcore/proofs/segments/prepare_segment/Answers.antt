@@ -1,10 +1,5 @@
-use Rattle.std.proofs.Common.{rules, ◌≡◌, ◌⊎◌, ◌≤◌, ◌+◌, ◌-◌, ◌*◌, ◌∙◌, inl, inr, ⊎_elim, ℕ, ◌<◌, ◌^◌, length, refl, sym, ap, subst, arith, Ok, Err, Result}
-use Rattle.rollcore.proofs.Words.{during, mul-le-mul_right, length-map, next_header, size_bounds, longest, InFile, Later, passed, sync_later, Log, BreakSteps, PreparedAnswer, pages_of, Change, RollError, Device}
-use Rattle.rollcore.proofs.journal.WritesBehindHeader.{recording_begins}
-use Rattle.rollcore.proofs.journal.DurableRecords.{ended, break_failed, settle_failed, settled, break_later, break_file, harmless_after}
-use Rattle.rollcore.proofs.disk.PermittedChanges.{zero_may}
-use Rattle.rollcore.proofs.disk.InvariantsOfCalls.{asks_broken}
-use Rattle.rollcore.proofs.disk.ToldRefusals.{asks_step, asks_as, asks_err, asks_then}
+use Rattle.rollcore.proofs.Facts.{BreakSteps, Change, Device, Err, InFile, Later, Log, Ok, PreparedAnswer, Result, RollError, ap, arith, asks_as, asks_broken, asks_err, asks_step, asks_then, break_file, break_later, during, harmless_after, inl, inr, length, length-map, longest, mul-le-mul_right, next_header, pages_of, passed, recording_begins, refl, rules, settle_failed, size_bounds, subst, sym, sync_later, zero_may, ℕ, ⊎_elim, ◌*◌, ◌+◌, ◌-◌, ◌<◌, ◌^◌, ◌∙◌, ◌≡◌, ◌≤◌, ◌⊎◌}
+use Rattle.rollcore.proofs.journal.DurableRecords.{ended, break_failed, settled}
 use Rattle.rollcore.proofs.segments.prepare_segment.Goals as goal
 
 near_place : (place count size sector end next : ℕ) → count ≤ 64 → size ≤ 65544 → sector ≤ 65536 → place ≤ 2 ^ 38 → end ≡ place + sector + count * size → next < end + sector → next + 1 ≤ longest

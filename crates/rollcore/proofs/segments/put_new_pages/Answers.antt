@@ -1,9 +1,7 @@
-use Rattle.std.proofs.Common.{◌<◌, ◌++◌, ◌+◌, ℕ, length, refl, sym, ap, subst, arith, rules, [], Result, Ok}
-use Rattle.rollcore.proofs.Words.{during, lent, DiskState, passed, MayReplay, Asks, PutPagesAnswer, new_numbers, RollError}
-use Rattle.rollcore.proofs.disk.ToldRefusals.{asks_same, asks_as, asks_err, asks_then, page_within}
-use Rattle.rollcore.proofs.commit.AppendedPages.{Grown, grown_none, grown_all, grown_old, grown_put, grown_failed, lent_at, lent_length}
-use Rattle.rollcore.proofs.segments.put_new_pages.Goals as goal
+use Rattle.rollcore.proofs.Facts.{Asks, DiskState, Grown, MayReplay, Ok, PutPagesAnswer, Result, RollError, [], ap, arith, asks_as, asks_err, asks_same, asks_then, during, grown_all, grown_failed, grown_none, grown_old, grown_put, length, lent, lent_at, lent_length, new_numbers, passed, refl, rules, subst, sym, ℕ, ◌++◌, ◌+◌, ◌<◌}
+use Rattle.rollcore.proofs.disk.ToldRefusals.{page_within}
 use Rattle.rollcore.proofs.segments.put_new_pages.Goals.{then-page-old_size+in_ok-put_page, else-page-old_size}
+use Rattle.rollcore.proofs.segments.put_new_pages.Goals as goal
 
 pub loop-x-init : goal.loop-x-init
 loop-x-init g c = record {

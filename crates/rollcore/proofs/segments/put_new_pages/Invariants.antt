@@ -1,6 +1,4 @@
-use Rattle.std.proofs.Common.{◌≡◌, ◌↔◌, ◌<◌, ℕ, List, length, Ok}
-use Rattle.rollcore.proofs.Words.{Database, lent, MayReplay, Asks, ArePlaced, Journaled, ArePut, AreSome, AreOf}
-use Rattle.rollcore.proofs.commit.AppendedPages.{Grown}
+use Rattle.rollcore.proofs.Facts.{AreOf, ArePlaced, ArePut, AreSome, Asks, Database, Grown, Journaled, List, MayReplay, Ok, length, lent, ℕ, ◌<◌, ◌↔◌, ◌≡◌}
 use Rattle.rollcore.proofs.segments.put_new_pages.Given as goal
 
 abbrev pub invariant-loop-x : goal.invariant-loop-x

@@ -1,6 +1,4 @@
-use Rattle.std.proofs.Common.{rules, ◌≡◌, ◌-◌, ◌*◌, ℕ, length, ap, arith}
-use Rattle.rollcore.proofs.Words.{during, Db, later_write, page_end, passed, Device}
-use Rattle.rollcore.proofs.disk.ToldRefusals.{asks_done, asks_device, one_page}
+use Rattle.rollcore.proofs.Facts.{Db, Device, ap, arith, asks_device, asks_done, during, later_write, length, one_page, page_end, passed, rules, ℕ, ◌*◌, ◌-◌, ◌≡◌}
 use Rattle.rollcore.proofs.segments.put_page.Goals as goal
 
 pub returns-in_err-write_at-clause-disk : goal.returns-in_err-write_at-clause-disk

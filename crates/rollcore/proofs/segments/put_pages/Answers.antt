@@ -1,9 +1,6 @@
-use Rattle.std.proofs.Common.{◌++◌, ◌+◌, ◌*◌, ◌≤◌, ℕ, refl, sym, ap, subst, arith, rules, [], Result, Ok}
-use Rattle.rollcore.proofs.Words.{during, lent, DiskState, most_bytes, passed, MayReplay, Asks, change_at, PutPagesAnswer, pages_of, RollError}
-use Rattle.rollcore.proofs.disk.ToldRefusals.{asks_same, asks_as, asks_err, asks_then}
-use Rattle.rollcore.proofs.commit.OverwrittenPages.{turned_none, turned_all, turned_cut, turned_put, turned_failed, lent_content, Turned}
-use Rattle.rollcore.proofs.segments.put_pages.Goals as goal
+use Rattle.rollcore.proofs.Facts.{Asks, DiskState, MayReplay, Ok, PutPagesAnswer, Result, RollError, Turned, [], ap, arith, asks_as, asks_err, asks_same, asks_then, change_at, during, lent, lent_content, most_bytes, pages_of, passed, refl, rules, subst, sym, turned_all, turned_cut, turned_failed, turned_none, turned_put, ℕ, ◌*◌, ◌++◌, ◌+◌, ◌≤◌}
 use Rattle.rollcore.proofs.segments.put_pages.Goals.{in-Some+in_ok-put_page-in-Some, in-None}
+use Rattle.rollcore.proofs.segments.put_pages.Goals as goal
 
 pub loop-change-init : goal.loop-change-init
 loop-change-init g c = record {

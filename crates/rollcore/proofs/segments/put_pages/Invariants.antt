@@ -1,6 +1,4 @@
-use Rattle.std.proofs.Common.{◌↔◌, ◌<◌, ℕ, List, Ok}
-use Rattle.rollcore.proofs.Words.{Database, lent, MayReplay, Asks, ArePlaced, AreWithin, Journaled, ArePut, AreTurned, AreSome}
-use Rattle.rollcore.proofs.commit.OverwrittenPages.{Turned}
+use Rattle.rollcore.proofs.Facts.{ArePlaced, ArePut, AreSome, AreTurned, AreWithin, Asks, Database, Journaled, List, MayReplay, Ok, Turned, lent, ℕ, ◌<◌, ◌↔◌}
 use Rattle.rollcore.proofs.segments.put_pages.Given as goal
 
 abbrev pub invariant-loop-change : goal.invariant-loop-change

@@ -1,10 +1,5 @@
-use Rattle.std.proofs.Common.{rules, ◌≡◌, ◌<◌, ◌≤◌, ◌-◌, ◌++◌, ◌∙◌, ◌∷◌, [], ℕ, length, sym, subst, arith, Result}
-use Rattle.rollcore.proofs.Words.{during, length-map, size_bounds, FileState, passed, old_pages, sizes, next_place, HasParts, SegmentAnswer, Journaled, ArePut, pages_of, Change, RollError}
-use Rattle.rollcore.proofs.journal.DurableRecords.{harmless_after}
-use Rattle.rollcore.proofs.journal.WholeSegments.{next_of}
+use Rattle.rollcore.proofs.Facts.{ArePut, Change, FileState, HasParts, Journaled, Result, RollError, SegmentAnswer, [], arith, asks_as, asks_err, asks_then, asks_wider, during, harmless_after, length, length-map, next_of, next_place, old_pages, pages_of, passed, replay_may, rules, size_bounds, sizes, subst, sym, ℕ, ◌++◌, ◌-◌, ◌<◌, ◌∙◌, ◌∷◌, ◌≡◌, ◌≤◌}
 use Rattle.rollcore.proofs.segments.put_segment.Goals as goal
-use Rattle.rollcore.proofs.disk.PermittedChanges.{replay_may}
-use Rattle.rollcore.proofs.disk.ToldRefusals.{asks_as, asks_err, asks_then, asks_wider}
 
 pub returns-in_err-next-clause-disk : goal.returns-in_err-next-clause-disk
 returns-in_err-next-clause-disk g c = during (search rules) (λ word.

@@ -1,4 +1,4 @@
-use Rattle.rollcore.proofs.Words.{big_bytes, put_at}
+use Rattle.rollcore.proofs.Facts.{big_bytes, put_at}
 use Rattle.rollcore.proofs.segments.put_word.Goals as goal
 
 pub returns : goal.returns

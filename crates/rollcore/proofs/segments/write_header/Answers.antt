@@ -1,8 +1,4 @@
-use Rattle.std.proofs.Common.{rules, ◌≡◌, ◌-◌, ◌∙◌, ◌++◌, ℕ, length, replicate, inl, refl, sym, ap, subst, arith, Result, Ok}
-use Rattle.rollcore.proofs.Words.{during, header_bytes, HeaderAnswer, RollError, Device, passed, Later, Log, later_sync, later_then, later_write, MayCommit}
-use Rattle.rollcore.proofs.disk.PermittedChanges.{header_may}
-use Rattle.rollcore.proofs.disk.ToldRefusals.{asks_device, asks_done, asks_then}
-use Rattle.rollcore.proofs.journal.StepsOfSegmentHeader.{header_failed, header_unsynced, header_done}
+use Rattle.rollcore.proofs.Facts.{Device, HeaderAnswer, Later, Log, MayCommit, Ok, Result, RollError, ap, arith, asks_device, asks_done, asks_then, during, header_bytes, header_done, header_failed, header_may, header_unsynced, inl, later_sync, later_then, later_write, length, passed, refl, replicate, rules, subst, sym, ℕ, ◌++◌, ◌-◌, ◌∙◌, ◌≡◌}
 use Rattle.rollcore.proofs.segments.write_header.Goals as goal
 
 pub returns-in_err-write_at-clause-disk : goal.returns-in_err-write_at-clause-disk

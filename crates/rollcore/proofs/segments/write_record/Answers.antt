@@ -1,8 +1,4 @@
-use Rattle.std.proofs.Common.{rules, ◌≡◌, ◌+◌, ◌-◌, ◌*◌, ◌∙◌, ℕ, length, take, drop, List, refl, ap, arith, subst, length-drop, Ok, length-take-le}
-use Rattle.rollcore.proofs.Words.{during, byte, Writes, Looks, Log, Later, passed, still_looks, later_still, later_then, later_write, record_bytes, MayCommit, Device, same_len_mid}
-use Rattle.rollcore.proofs.disk.PermittedChanges.{record_may}
-use Rattle.rollcore.proofs.disk.ToldRefusals.{asks_device, asks_done, asks_then}
-use Rattle.rollcore.proofs.journal.RecordsOfOldPages.{step_unread, step_unwritten, step_put, middle, record_fits}
+use Rattle.rollcore.proofs.Facts.{Device, Later, List, Log, Looks, MayCommit, Ok, Writes, ap, arith, asks_device, asks_done, asks_then, byte, drop, during, later_still, later_then, later_write, length, length-drop, length-take-le, middle, passed, record_bytes, record_fits, record_may, refl, rules, same_len_mid, step_put, step_unread, step_unwritten, still_looks, subst, take, ℕ, ◌*◌, ◌+◌, ◌-◌, ◌∙◌, ◌≡◌}
 use Rattle.rollcore.proofs.segments.write_record.Goals as goal
 
 pub returns-in_err-read_at-clause-disk : goal.returns-in_err-read_at-clause-disk

@@ -1,7 +1,4 @@
-use Rattle.std.proofs.Common.{◌≡◌, ◌<◌, ◌≤◌, ◌+◌, ◌-◌, ◌*◌, ◌∙◌, ℕ, length, refl, sym, ap, subst, arith, rules, None, Ok}
-use Rattle.rollcore.proofs.Words.{during, length-map, most_bytes, passed, MayCommit, Asks, RecordStep, RecordsAnswer, pages_of, change_at, Change}
-use Rattle.rollcore.proofs.disk.ToldRefusals.{asks_same, asks_as, asks_err, asks_then}
-use Rattle.rollcore.proofs.journal.RecordsOfOldPages.{gone_none, gone_on, gone_off, gone_fits, page_in, gone_end}
+use Rattle.rollcore.proofs.Facts.{Asks, Change, MayCommit, None, Ok, RecordStep, RecordsAnswer, ap, arith, asks_as, asks_err, asks_same, asks_then, change_at, during, gone_end, gone_fits, gone_none, gone_off, gone_on, length, length-map, most_bytes, page_in, pages_of, passed, refl, rules, subst, sym, ℕ, ◌*◌, ◌+◌, ◌-◌, ◌<◌, ◌∙◌, ◌≡◌, ◌≤◌}
 use Rattle.rollcore.proofs.segments.write_records.Goals as goal
 
 pub loop-change-init : goal.loop-change-init

@@ -1,6 +1,4 @@
-use Rattle.std.proofs.Common.{◌≡◌, ◌↔◌, ◌+◌, ◌-◌, ◌*◌, ℕ, List, length, Ok}
-use Rattle.rollcore.proofs.Words.{Database, MayCommit, Asks, Recording, pages_of, AreFresh}
-use Rattle.rollcore.proofs.journal.RecordsOfOldPages.{GoneTo}
+use Rattle.rollcore.proofs.Facts.{AreFresh, Asks, Database, GoneTo, List, MayCommit, Ok, Recording, length, pages_of, ℕ, ◌*◌, ◌+◌, ◌-◌, ◌↔◌, ◌≡◌}
 use Rattle.rollcore.proofs.segments.write_records.Given as goal
 
 abbrev pub invariant-loop-change : goal.invariant-loop-change

@@ -1,4 +1,4 @@
-use Rattle.rollcore.proofs.machine.WorkedRuns.{played_committed, played_stopped, played_stopped_late, played_calls_refused}
+use Rattle.rollcore.proofs.Facts.{played_calls_refused, played_committed, played_stopped, played_stopped_late}
 use Rattle.rollcore.proofs.worked.commits_are_whole.Goals as goal
 
 pub returns-clause-committed : goal.returns-clause-committed

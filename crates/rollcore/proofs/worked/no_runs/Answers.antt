@@ -1,4 +1,4 @@
-use Rattle.rollcore.proofs.machine.ImpossibleRuns.{no_lost_commit, no_half}
+use Rattle.rollcore.proofs.Facts.{no_half, no_lost_commit}
 use Rattle.rollcore.proofs.worked.no_runs.Goals as goal
 
 pub returns-clause-lost_commit : goal.returns-clause-lost_commit

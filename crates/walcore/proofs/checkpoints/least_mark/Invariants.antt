@@ -1,5 +1,4 @@
-use Rattle.std.proofs.Common.{take}
-use Rattle.walcore.proofs.Words.{IsLeast}
+use Rattle.walcore.proofs.Facts.{IsLeast, take}
 use Rattle.walcore.proofs.checkpoints.least_mark.Given as goal
 
 abbrev pub invariant-loop-mark : goal.invariant-loop-mark

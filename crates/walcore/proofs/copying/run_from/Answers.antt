@@ -1,5 +1,4 @@
-use Rattle.std.proofs.Common.{◌≡◌, ℕ, ◌+◌, subst, arith, below_more}
-use Rattle.walcore.proofs.Words.{IsNewest}
+use Rattle.walcore.proofs.Facts.{IsNewest, arith, below_more, subst, ℕ, ◌+◌, ◌≡◌}
 use Rattle.walcore.proofs.copying.run_from.Goals as goal
 
 pub loop-count-preserved : goal.loop-count-preserved

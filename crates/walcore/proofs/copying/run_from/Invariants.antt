@@ -1,5 +1,4 @@
-use Rattle.std.proofs.Common.{ℕ, ◌+◌, ◌-◌, ◌<◌, ◌≤◌}
-use Rattle.walcore.proofs.Words.{IsNewest}
+use Rattle.walcore.proofs.Facts.{IsNewest, ℕ, ◌+◌, ◌-◌, ◌<◌, ◌≤◌}
 use Rattle.walcore.proofs.copying.run_from.Given as goal
 
 abbrev pub invariant-loop-count : goal.invariant-loop-count

@@ -1,8 +1,4 @@
-use Rattle.std.proofs.Common.{ℕ, List, ◌∙◌, rules}
-use Rattle.walcore.proofs.Words.{during, passed, present_in, down_present, down_still, later_then, later_still, byte, ArePresent, table, present_list, quiet_ok, passes_device, tells_then, Device}
-use Rattle.walcore.proofs.folds.AnswerOfParts.{read_folds, plan_folds, read_plans}
-use Rattle.walcore.proofs.folds.PhasesOfFold.{scanning_shows, scanning_still}
-use Rattle.walcore.proofs.folds.LengthOfDatabaseFile.{ends_down, length_still}
+use Rattle.walcore.proofs.Facts.{ArePresent, Device, List, byte, down_present, down_still, during, ends_down, later_still, later_then, length_still, passed, passes_device, plan_folds, present_in, present_list, quiet_ok, read_folds, read_plans, rules, scanning_shows, scanning_still, table, tells_then, ℕ, ◌∙◌}
 use Rattle.walcore.proofs.folding.fold_log.Goals as goal
 
 pub returns-in_err-plan : goal.returns-in_err-plan

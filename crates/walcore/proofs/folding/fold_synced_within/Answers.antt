@@ -1,8 +1,4 @@
-use Rattle.std.proofs.Common.{◌≡◌, refl, sym, ◌∙◌, ap, arith, rules}
-use Rattle.walcore.proofs.Words.{during, FileState, present_in, still_looks, still, down_still, later_then, later_same, later_still, passed, tells_then, called_quiet, Device}
-use Rattle.walcore.proofs.folds.AnswerOfParts.{fold_empty, fold_looked, fits_still}
-use Rattle.walcore.proofs.folds.PhasesOfFold.{scanning_shows, scanning_still, agrees_by}
-use Rattle.walcore.proofs.folds.LengthOfDatabaseFile.{ends_down, length_still}
+use Rattle.walcore.proofs.Facts.{Device, FileState, agrees_by, ap, arith, called_quiet, down_still, during, ends_down, fits_still, fold_empty, fold_looked, later_same, later_still, later_then, length_still, passed, present_in, refl, rules, scanning_shows, scanning_still, still, still_looks, sym, tells_then, ◌∙◌, ◌≡◌}
 use Rattle.walcore.proofs.folding.fold_synced_within.Goals as goal
 
 pub returns-in_err-judge_sector : goal.returns-in_err-judge_sector

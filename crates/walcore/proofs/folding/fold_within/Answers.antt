@@ -1,10 +1,4 @@
-use Rattle.std.proofs.Common.{arith, rules}
-use Rattle.walcore.proofs.Words.{during, Log, passed, down_syncs, later_same, later_then, goes_on, stays, tells_then, called_quiet, Device}
-use Rattle.walcore.proofs.folds.AnswerOfParts.{fold_after, empty_down}
-use Rattle.walcore.proofs.openings.ShownDatabaseAfterOpening.{synced_empty}
-use Rattle.walcore.proofs.folds.PhasesOfFold.{scanning_shows, scanning_syncs, agrees_by}
-use Rattle.walcore.proofs.folds.LengthOfDatabaseFile.{ends_down, length_syncs}
-use Rattle.walcore.proofs.disk.PermittedChanges.{fold_sync}
+use Rattle.walcore.proofs.Facts.{Device, Log, agrees_by, arith, called_quiet, down_syncs, during, empty_down, ends_down, fold_after, fold_sync, goes_on, later_same, later_then, length_syncs, passed, rules, scanning_shows, scanning_syncs, stays, synced_empty, tells_then}
 use Rattle.walcore.proofs.folding.fold_within.Goals as goal
 
 pub returns-in_err-judge_sector : goal.returns-in_err-judge_sector

@@ -1,5 +1,4 @@
-use Rattle.std.proofs.Common.{ℕ, ◌+◌, ◌*◌, ◌∙◌, ap}
-use Rattle.walcore.proofs.Words.{frame_end}
+use Rattle.walcore.proofs.Facts.{ap, frame_end, ℕ, ◌*◌, ◌+◌, ◌∙◌}
 use Rattle.walcore.proofs.frames.end_of.Goals as goal
 
 pub returns : goal.returns

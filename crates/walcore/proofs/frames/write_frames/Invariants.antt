@@ -1,5 +1,4 @@
-use Rattle.std.proofs.Common.{◌≡◌, ℕ, ◌+◌, ◌≤◌, List, length, ◌↔◌}
-use Rattle.walcore.proofs.Words.{most_frames, lent, IsExtended, KeepsCore, KnowsLog, Going}
+use Rattle.walcore.proofs.Facts.{Going, IsExtended, KeepsCore, KnowsLog, List, length, lent, most_frames, ℕ, ◌+◌, ◌↔◌, ◌≡◌, ◌≤◌}
 use Rattle.walcore.proofs.frames.write_frames.Given as goal
 
 abbrev pub invariant-loop-k : goal.invariant-loop-k

@@ -1,9 +1,4 @@
-use Rattle.std.proofs.Common.{[]}
-use Rattle.walcore.proofs.machine.FitOfNewDisk.{base_fits, made_nothing}
-use Rattle.walcore.proofs.machine.FitOfSettledFiles.{beside_fits}
-use Rattle.walcore.proofs.crash.FrontOfSurvivingLog.{just_file}
-use Rattle.walcore.proofs.openings.RecoveredFiles.{none_front}
-use Rattle.walcore.proofs.restart.ShownDatabaseDuringRestart.{just_shows}
+use Rattle.walcore.proofs.Facts.{[], base_fits, beside_fits, just_file, just_shows, made_nothing, none_front}
 use Rattle.walcore.proofs.laws.a_base_fits.Goals as goal
 
 pub returns-clause-durable : goal.returns-clause-durable

@@ -1,4 +1,4 @@
-use Rattle.walcore.proofs.crash.FitAfterCrash.{fits_crash}
+use Rattle.walcore.proofs.Facts.{fits_crash}
 use Rattle.walcore.proofs.laws.a_crash_fits.Goals as goal
 
 pub returns : goal.returns

@@ -1,5 +1,4 @@
-use Rattle.std.proofs.Common.{refl}
-use Rattle.walcore.proofs.machine.FitUnderUnchangedFiles.{same_core, fits_same, fits_disk_still}
+use Rattle.walcore.proofs.Facts.{fits_disk_still, fits_same, refl, same_core}
 use Rattle.walcore.proofs.laws.a_look_fits.Goals as goal
 
 pub returns-clause-alone : goal.returns-clause-alone

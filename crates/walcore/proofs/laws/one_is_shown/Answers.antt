@@ -1,6 +1,4 @@
-use Rattle.std.proofs.Common.{Ok}
-use Rattle.walcore.proofs.Words.{Log, sound_syncs, synced_down}
-use Rattle.walcore.proofs.openings.FoundFiles.{is_found, found_syncs, found_alone}
+use Rattle.walcore.proofs.Facts.{Log, Ok, found_alone, found_syncs, is_found, sound_syncs, synced_down}
 use Rattle.walcore.proofs.laws.one_is_shown.Goals as goal
 
 pub returns : goal.returns

@@ -1,4 +1,4 @@
-use Rattle.walcore.proofs.machine.StepAnswers.{step_of}
+use Rattle.walcore.proofs.Facts.{step_of}
 use Rattle.walcore.proofs.laws.one_step.Goals as goal
 
 pub returns-clause-answer : goal.returns-clause-answer

@@ -1,5 +1,4 @@
-use Rattle.walcore.proofs.Words.{start}
-use Rattle.walcore.proofs.machine.StepInvariants.{sane_start, sane_runs}
+use Rattle.walcore.proofs.Facts.{sane_runs, sane_start, start}
 use Rattle.walcore.proofs.laws.runs_are_sane.Goals as goal
 
 pub returns : goal.returns

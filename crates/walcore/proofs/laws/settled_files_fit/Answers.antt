@@ -1,4 +1,4 @@
-use Rattle.walcore.proofs.machine.FitOfSettledFiles.{beside_fits, left_made, opened_shows}
+use Rattle.walcore.proofs.Facts.{beside_fits, left_made, opened_shows}
 use Rattle.walcore.proofs.laws.settled_files_fit.Goals as goal
 
 pub returns-clause-fits : goal.returns-clause-fits

@@ -1,4 +1,4 @@
-use Rattle.walcore.proofs.Words.{crash_shows, alone_same, alone_looks, alone_syncs, wal_log}
+use Rattle.walcore.proofs.Facts.{alone_looks, alone_same, alone_syncs, crash_shows, wal_log}
 use Rattle.walcore.proofs.laws.what_is_shown_stays.Goals as goal
 
 pub returns-clause-len : goal.returns-clause-len

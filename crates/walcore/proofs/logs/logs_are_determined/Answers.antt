@@ -1,6 +1,4 @@
-use Rattle.walcore.proofs.machine.UniquenessOfMadeLogs.{makes_once}
-use Rattle.walcore.proofs.machine.ExistenceOfMadeLogs.{makes_some}
-use Rattle.walcore.proofs.machine.SatisfiablePremises.{first_permits, made_passes}
+use Rattle.walcore.proofs.Facts.{first_permits, made_passes, makes_once, makes_some}
 use Rattle.walcore.proofs.logs.logs_are_determined.Goals as goal
 
 pub returns-clause-once : goal.returns-clause-once

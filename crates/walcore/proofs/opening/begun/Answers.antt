@@ -1,4 +1,4 @@
-use Rattle.walcore.proofs.openings.HeaderOfNewLog.{new_log_is}
+use Rattle.walcore.proofs.Facts.{new_log_is}
 use Rattle.walcore.proofs.opening.begun.Goals as goal
 
 pub returns : goal.returns

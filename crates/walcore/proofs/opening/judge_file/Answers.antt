@@ -1,7 +1,4 @@
-use Rattle.std.proofs.Common.{rules}
-use Rattle.walcore.proofs.Words.{during, present_in, still_then, quiet_err, tells_then, Device}
-use Rattle.walcore.proofs.folds.AnswerOfParts.{fits_still}
-use Rattle.walcore.proofs.openings.RefusalBeforeWrites.{file_judged}
+use Rattle.walcore.proofs.Facts.{Device, during, file_judged, fits_still, present_in, quiet_err, rules, still_then, tells_then}
 use Rattle.walcore.proofs.opening.judge_file.Goals as goal
 
 pub returns-in_default : goal.returns-in_default

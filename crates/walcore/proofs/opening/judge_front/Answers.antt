@@ -1,8 +1,5 @@
-use Rattle.std.proofs.Common.{inr, refl, sym, ◌∙◌, rules}
-use Rattle.walcore.proofs.Words.{during, named_size, front_unique, Device, usual, passed, present_in, still_looks, still_then, tells_quiet, passes_device, tells_then, called_quiet}
-use Rattle.walcore.proofs.folds.AnswerOfParts.{fits_still, read_plans}
+use Rattle.walcore.proofs.Facts.{Device, called_quiet, during, fits_still, front_unique, front_unlooked, front_unread, inr, named_size, passed, passes_device, present_in, read_plans, refl, rules, still_looks, still_then, sym, tells_quiet, tells_then, usual, ◌∙◌}
 use Rattle.walcore.proofs.folds.LengthOfDatabaseFile.{front_none}
-use Rattle.walcore.proofs.openings.RefusalBeforeWrites.{front_unlooked, front_unread}
 use Rattle.walcore.proofs.opening.judge_front.Goals as goal
 
 pub returns-in_err-long : goal.returns-in_err-long

@@ -1,10 +1,4 @@
-use Rattle.std.proofs.Common.{rules}
-use Rattle.walcore.proofs.Words.{during, most_bytes, usual, Database, Log, passed, later_still, later_then, down_still, ShowsAlone, alone_still, tells_quiet, passes_device, tells_then, called_quiet, Device, wal_log}
-use Rattle.walcore.proofs.openings.RecoveredFiles.{recover_unsynced, ready_synced, ready_still, recover_unjudged, recover_unfolded, recover_counted, synced_files, whole_at}
-use Rattle.walcore.proofs.disk.PermittedChanges.{fold_sync}
-use Rattle.walcore.proofs.openings.ShownDatabaseAfterOpening.{agrees_then, agrees_synced, agrees_after, agrees_looked, synced_empty, still_empty, folded_empty, on_ok}
-use Rattle.walcore.proofs.openings.RefusalOfOpening.{whole_synced, files_synced, files_looked, unjudged, unfolded, uncounted, may_open}
-use Rattle.walcore.proofs.openings.InitialSync.{unsynced, synced_first}
+use Rattle.walcore.proofs.Facts.{Database, Device, Log, ShowsAlone, agrees_after, agrees_looked, agrees_synced, agrees_then, alone_still, called_quiet, down_still, during, files_looked, files_synced, fold_sync, folded_empty, later_still, later_then, may_open, most_bytes, on_ok, passed, passes_device, ready_still, ready_synced, recover_counted, recover_unfolded, recover_unjudged, recover_unsynced, rules, still_empty, synced_empty, synced_files, synced_first, tells_quiet, tells_then, uncounted, unfolded, unjudged, unsynced, usual, wal_log, whole_at, whole_synced}
 use Rattle.walcore.proofs.opening.recover.Goals as goal
 
 pub returns-in_err-sync : goal.returns-in_err-sync

@@ -1,4 +1,4 @@
-use Rattle.std.proofs.Common.{arith, ◌∙◌, sym}
+use Rattle.walcore.proofs.Facts.{arith, sym, ◌∙◌}
 use Rattle.walcore.proofs.paging.judge_read.Goals as goal
 
 pub returns-then-page-size-clause-judged : goal.returns-then-page-size-clause-judged

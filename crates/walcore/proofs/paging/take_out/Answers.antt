@@ -1,6 +1,4 @@
-use Rattle.std.proofs.Common.{◌≡◌, ◌+◌, ◌<◌, ◌==◌, cond, length, subst, arith, rules}
-use Rattle.walcore.proofs.Words.{common_steps, times}
-use Rattle.walcore.proofs.read.MarksOfReaders.{removed, none_times}
+use Rattle.walcore.proofs.Facts.{arith, common_steps, cond, length, none_times, removed, rules, subst, times, ◌+◌, ◌<◌, ◌==◌, ◌≡◌}
 use Rattle.walcore.proofs.paging.take_out.Goals as goal
 
 pub returns-then-index-mark : goal.returns-then-index-mark

@@ -1,4 +1,4 @@
-use Rattle.std.proofs.Common.{◌≡◌, ℕ, ◌<◌, ◌≢◌, get_or}
+use Rattle.walcore.proofs.Facts.{get_or, ℕ, ◌<◌, ◌≡◌, ◌≢◌}
 use Rattle.walcore.proofs.paging.take_out.Given as goal
 
 abbrev pub invariant-loop-i : goal.invariant-loop-i

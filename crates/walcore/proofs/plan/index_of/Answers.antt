@@ -1,6 +1,4 @@
-use Rattle.std.proofs.Common.{◌≡◌, ◌+◌, ℕ, [], ap, subst, ◌∙◌, length, arith, length-append}
-use Rattle.walcore.proofs.Words.{named_size, FrameTable, IsTable}
-use Rattle.walcore.proofs.folds.PlanOfScannedLog.{table_none, table_more, valid_below}
+use Rattle.walcore.proofs.Facts.{FrameTable, IsTable, [], ap, arith, length, length-append, named_size, subst, table_more, table_none, valid_below, ℕ, ◌+◌, ◌∙◌, ◌≡◌}
 use Rattle.walcore.proofs.plan.index_of.Goals as goal
 
 pub loop-k-init : goal.loop-k-init

@@ -1,5 +1,4 @@
-use Rattle.std.proofs.Common.{◌≤◌, ◌≡◌, ℕ, List, length}
-use Rattle.walcore.proofs.Words.{named_size, IsValidFrame, TookWithin, IsTable}
+use Rattle.walcore.proofs.Facts.{IsTable, IsValidFrame, List, TookWithin, length, named_size, ℕ, ◌≡◌, ◌≤◌}
 use Rattle.walcore.proofs.plan.index_of.Given as goal
 
 abbrev pub invariant-loop-k : goal.invariant-loop-k

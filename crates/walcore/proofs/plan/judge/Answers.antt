@@ -1,5 +1,4 @@
-use Rattle.std.proofs.Common.{arith}
-use Rattle.walcore.proofs.folds.PlanOfScannedLog.{judged_none}
+use Rattle.walcore.proofs.Facts.{arith, judged_none}
 use Rattle.walcore.proofs.plan.judge.Goals as goal
 
 pub returns-in-None : goal.returns-in-None

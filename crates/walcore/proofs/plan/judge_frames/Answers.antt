@@ -1,6 +1,4 @@
-use Rattle.std.proofs.Common.{◌≡◌, ◌≤◌, ◌<◌, ◌*◌, ◌∙◌, sym, arith}
-use Rattle.walcore.proofs.Words.{few_frames}
-use Rattle.walcore.proofs.folds.PlanOfScannedLog.{judged_large, judged_other, judged}
+use Rattle.walcore.proofs.Facts.{arith, few_frames, judged, judged_large, judged_other, sym, ◌*◌, ◌<◌, ◌∙◌, ◌≡◌, ◌≤◌}
 use Rattle.walcore.proofs.plan.judge_frames.Goals as goal
 
 pub returns-then-from-bytes : goal.returns-then-from-bytes

@@ -1,6 +1,4 @@
-use Rattle.std.proofs.Common.{◌≤◌, ◌∙◌, refl, arith}
-use Rattle.walcore.proofs.Words.{passed, no_memory, NoMemory}
-use Rattle.walcore.proofs.folds.PlanOfScannedLog.{plan_none, plan_some, plan_refused, plan_memory, page_most}
+use Rattle.walcore.proofs.Facts.{NoMemory, arith, no_memory, page_most, passed, plan_memory, plan_none, plan_refused, plan_some, refl, ◌∙◌, ◌≤◌}
 use Rattle.walcore.proofs.plan.plan_of.Goals as goal
 
 pub returns-in_err-front-clause-plan : goal.returns-in_err-front-clause-plan

@@ -1,6 +1,4 @@
-use Rattle.std.proofs.Common.{ap, ◌∙◌, Ok}
-use Rattle.walcore.proofs.Words.{during, passed, quiet_ok, passes_device, Device}
-use Rattle.walcore.proofs.folds.PlanOfScannedLog.{plan_bare, read_planned, read_scan, read_some, read_none}
+use Rattle.walcore.proofs.Facts.{Device, Ok, ap, during, passed, passes_device, plan_bare, quiet_ok, read_none, read_planned, read_scan, read_some, ◌∙◌}
 use Rattle.walcore.proofs.plan.read_plan.Goals as goal
 
 pub returns-in_err-scanned-clause-disk : goal.returns-in_err-scanned-clause-disk

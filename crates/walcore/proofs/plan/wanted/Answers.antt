@@ -1,5 +1,4 @@
-use Rattle.walcore.proofs.Words.{named_size}
-use Rattle.walcore.proofs.folds.PlanOfScannedLog.{wanted_low, wanted_high}
+use Rattle.walcore.proofs.Facts.{named_size, wanted_high, wanted_low}
 use Rattle.walcore.proofs.plan.wanted.Goals as goal
 
 pub returns-then-entry-size-clause-page : goal.returns-then-entry-size-clause-page

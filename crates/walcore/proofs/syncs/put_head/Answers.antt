@@ -1,5 +1,4 @@
-use Rattle.std.proofs.Common.{◌≡◌, ◌∙◌, ◌++◌, ℕ, List, length, drop, ap, subst}
-use Rattle.walcore.proofs.Words.{take_rest, IsFrameHead}
+use Rattle.walcore.proofs.Facts.{IsFrameHead, List, ap, drop, length, subst, take_rest, ℕ, ◌++◌, ◌∙◌, ◌≡◌}
 use Rattle.walcore.proofs.syncs.put_head.Goals as goal
 
 pub returns : goal.returns

@@ -1,4 +1,4 @@
-use Rattle.walcore.proofs.machine.WorkedRuns.{played_synced, played_lost, played_lost_for_good, played_stopped, played_sync_failed, played_forgotten}
+use Rattle.walcore.proofs.Facts.{played_forgotten, played_lost, played_lost_for_good, played_stopped, played_sync_failed, played_synced}
 use Rattle.walcore.proofs.worked.crashes_lose_what_is_not_durable.Goals as goal
 
 pub returns-clause-synced : goal.returns-clause-synced

@@ -1,4 +1,4 @@
-use Rattle.walcore.proofs.machine.ImpossibleRuns.{no_lost_sync, no_skipped, no_return, no_other_page, no_early_complete}
+use Rattle.walcore.proofs.Facts.{no_early_complete, no_lost_sync, no_other_page, no_return, no_skipped}
 use Rattle.walcore.proofs.worked.no_runs.Goals as goal
 
 pub returns-clause-lost_sync : goal.returns-clause-lost_sync

@@ -1,4 +1,4 @@
-use Rattle.walcore.proofs.machine.WorkedRuns.{played_waits, played_two_readers, played_commits_refused}
+use Rattle.walcore.proofs.Facts.{played_commits_refused, played_two_readers, played_waits}
 use Rattle.walcore.proofs.worked.readers_are_waited_for.Goals as goal
 
 pub returns-clause-waits : goal.returns-clause-waits

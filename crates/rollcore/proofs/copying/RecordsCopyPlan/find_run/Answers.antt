@@ -1,8 +1,4 @@
-use Rattle.std.proofs.Common.{◌≡◌, ◌<◌, ◌+◌, ◌-◌, ◌*◌, ℕ, ⊎_elim, subst, arith, Some, None}
-use Rattle.rollcore.proofs.Words.{HasEntry}
-use Rattle.rollcore.proofs.replays.CopiedPages.{has_within, left_skips, left_put, left_apart, run_named}
-use Rattle.rollcore.proofs.replays.DecisivePrefixOfJournal.{read_entry}
-use Rattle.rollcore.proofs.replays.LastRecordOfPage.{entry_is, no_entry, count_is}
+use Rattle.rollcore.proofs.Facts.{HasEntry, None, Some, arith, count_is, entry_is, has_within, left_apart, left_put, left_skips, no_entry, read_entry, run_named, subst, ℕ, ⊎_elim, ◌*◌, ◌+◌, ◌-◌, ◌<◌, ◌≡◌}
 use Rattle.rollcore.proofs.copying.RecordsCopyPlan.find_run.Goals as goal
 
 pub returns-in_default-clause-copies : goal.returns-in_default-clause-copies

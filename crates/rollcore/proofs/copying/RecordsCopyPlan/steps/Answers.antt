@@ -1,4 +1,4 @@
-use Rattle.rollcore.proofs.replays.DecisivePrefixOfJournal.{read_count}
+use Rattle.rollcore.proofs.Facts.{read_count}
 use Rattle.rollcore.proofs.copying.RecordsCopyPlan.steps.Goals as goal
 
 pub returns : goal.returns

@@ -1,4 +1,4 @@
-use Rattle.rollcore.proofs.replays.ScanOfLogPrefix.{settled_read}
+use Rattle.rollcore.proofs.Facts.{settled_read}
 use Rattle.rollcore.proofs.reading.ReplayLogScanRollError.is_settled.Goals as goal
 
 pub returns : goal.returns

@@ -1,4 +1,4 @@
-use Rattle.rollcore.proofs.replays.ScanOfLogPrefix.{fed, not_fed}
+use Rattle.rollcore.proofs.Facts.{fed, not_fed}
 use Rattle.rollcore.proofs.reading.ReplayLogScanRollError.take_piece.Goals as goal
 
 pub returns-in-Ok : goal.returns-in-Ok

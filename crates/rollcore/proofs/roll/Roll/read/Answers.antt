@@ -1,6 +1,4 @@
-use Rattle.std.proofs.Common.{rules, ◌*◌, ℕ, length, ap}
-use Rattle.rollcore.proofs.Words.{during, passed}
-use Rattle.rollcore.proofs.read.ContentOfReadPage.{read_judged, read_file, refused_answer, read_answer}
+use Rattle.rollcore.proofs.Facts.{ap, during, length, passed, read_answer, read_file, read_judged, refused_answer, rules, ℕ, ◌*◌}
 use Rattle.rollcore.proofs.roll.Roll.read.Goals as goal
 
 pub returns-in_err-judge_read-clause-disk : goal.returns-in_err-judge_read-clause-disk

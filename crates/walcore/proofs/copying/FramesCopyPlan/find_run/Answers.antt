@@ -1,6 +1,4 @@
-use Rattle.std.proofs.Common.{◌≡◌, ◌≤◌, ◌<◌, ◌+◌, ◌-◌, ◌*◌, ℕ, List, ap, sym, subst, arith}
-use Rattle.walcore.proofs.Words.{part}
-use Rattle.walcore.proofs.folds.CopiedPages.{hit_none, hit_last, run_inside, left_skips, left_apart, left_put}
+use Rattle.walcore.proofs.Facts.{List, ap, arith, hit_last, hit_none, left_apart, left_put, left_skips, part, run_inside, subst, sym, ℕ, ◌*◌, ◌+◌, ◌-◌, ◌<◌, ◌≡◌, ◌≤◌}
 use Rattle.walcore.proofs.copying.FramesCopyPlan.find_run.Goals as goal
 
 pub returns-then-hit-eq0-clause-copies : goal.returns-then-hit-eq0-clause-copies

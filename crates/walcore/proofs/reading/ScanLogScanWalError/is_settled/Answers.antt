@@ -1,4 +1,4 @@
-use Rattle.walcore.proofs.folds.ScanOfLogPrefix.{settled_read}
+use Rattle.walcore.proofs.Facts.{settled_read}
 use Rattle.walcore.proofs.reading.ScanLogScanWalError.is_settled.Goals as goal
 
 pub returns : goal.returns

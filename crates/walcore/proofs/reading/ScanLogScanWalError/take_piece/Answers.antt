@@ -1,4 +1,4 @@
-use Rattle.walcore.proofs.folds.ScanOfLogPrefix.{fed, not_fed}
+use Rattle.walcore.proofs.Facts.{fed, not_fed}
 use Rattle.walcore.proofs.reading.ScanLogScanWalError.take_piece.Goals as goal
 
 pub returns-in-Ok : goal.returns-in-Ok

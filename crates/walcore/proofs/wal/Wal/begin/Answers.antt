@@ -1,5 +1,4 @@
-use Rattle.std.proofs.Common.{refl, rules}
-use Rattle.walcore.proofs.Words.{during, still}
+use Rattle.walcore.proofs.Facts.{during, refl, rules, still}
 use Rattle.walcore.proofs.read.StepsOfReaders.{begin_done, begin_memory}
 use Rattle.walcore.proofs.wal.Wal.begin.Goals as goal
 

@@ -1,6 +1,4 @@
-use Rattle.std.proofs.Common.{ℕ, List, refl, subst, arith}
-use Rattle.walcore.proofs.Words.{during, IsLeast, passed}
-use Rattle.walcore.proofs.folds.PlanOfScannedLog.{page_least, page_most}
+use Rattle.walcore.proofs.Facts.{IsLeast, List, arith, during, page_least, page_most, passed, refl, subst, ℕ}
 use Rattle.walcore.proofs.checkpoint.StepOfCheckpoint.{down_refused, down_done, page_room}
 use Rattle.walcore.proofs.wal.Wal.copy_oldest.Goals as goal
 

@@ -1,6 +1,4 @@
-use Rattle.std.proofs.Common.{refl}
-use Rattle.walcore.proofs.Words.{still}
-use Rattle.walcore.proofs.read.MarksOfReaders.{mark_there}
+use Rattle.walcore.proofs.Facts.{mark_there, refl, still}
 use Rattle.walcore.proofs.read.StepsOfReaders.{end_done}
 use Rattle.walcore.proofs.wal.Wal.end.Goals as goal
 

@@ -1,4 +1,4 @@
-use Rattle.std.proofs.Common.{arith}
+use Rattle.walcore.proofs.Facts.{arith}
 use Rattle.walcore.proofs.read.ContentOfReadPage.{found_frame}
 use Rattle.walcore.proofs.wal.Wal.frame_of.Goals as goal
 
