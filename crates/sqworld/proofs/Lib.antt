@@ -1,2 +1,4 @@
 pub mod serve
 pub mod run
+pub mod Words
+pub mod Facts

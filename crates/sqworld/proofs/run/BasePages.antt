@@ -1,8 +1,5 @@
 -- The pages where a run begins.
-use Rattle.std.proofs.Common.{◌≡◌, ◌≢◌, ◌⊎◌, inl, inr, ℕ, zero, suc, ◌+◌, ◌<◌, List, [], ◌∷◌, ◌++◌, length, take, get_or, Vec, Global, IsTrue, false, refl, sym, ◌∙◌, ap, subst, arith, add-one, append_assoc}
-use Rattle.std.specs.List.{concat}
-use Rattle.std.proofs.lemmas.List.{append-nil}
-use Rattle.sqworld.specs.Pages.{pages_of, ArePages}
+use Rattle.sqworld.proofs.Words.{ArePages, Global, IsTrue, List, Vec, [], add-one, ap, append-nil, append_assoc, arith, concat, false, get_or, inl, inr, length, pages_of, refl, subst, suc, sym, take, zero, ℕ, ◌++◌, ◌+◌, ◌<◌, ◌∙◌, ◌∷◌, ◌≡◌, ◌≢◌, ◌⊎◌}
 
 -- the page at a place of the list
 pub page_at : (pages : List (Vec ℕ Global)) (i : ℕ) (page : Vec ℕ Global) → i < length pages → page ≡ get_or pages i page → get_or (pages_of pages) i [] ≡ page.items

@@ -1,15 +1,7 @@
 -- The moments of a run that goes on.
-use Rattle.std.proofs.Common.{◌≡◌, ℕ, ◌+◌, Bool, true, false, ◌&&◌, cond, List, [], ◌∷◌, ◌++◌, length, Option, Some, None, is_some, refl, sym, ◌∙◌, ap, arith, length-append}
-use Rattle.std.specs.List.{count_by}
+use Rattle.sqworld.proofs.Words.{Bool, CrashedLog, Found, IsComplete, IsNoted, List, Moment, None, Option, Reply, Run, Some, WorldKind, [], ap, arith, cond, count_by, false, is_some, lacks, length, length-append, list_of, moment, moments, moments_of, refl, rest, sym, taken, true, ℕ, ◌&&◌, ◌++◌, ◌+◌, ◌∙◌, ◌∷◌, ◌≡◌}
 use Rattle.std.proofs.lemmas.List.Sums.{sum_by-cons, sum_by-append}
-use Rattle.sqval.specs.Runs.{Moment}
-use Rattle.sqworld.specs.WorldKinds.{WorldKind, moment, taken, rest, lacks, moments, moments_of, IsComplete}
-use Rattle.sqworld.specs.internal.Worlds.{list_of, IsNoted}
 use Rattle.sqworld.specs.declared.engine.Given.{Given}
-use Rattle.sqworld.specs.declared.reply.Run.{Run}
-use Rattle.sqworld.specs.declared.reply.Reply.{Reply}
-use Rattle.sqworld.specs.declared.reply.Found.{Found}
-use Rattle.sqworld.specs.declared.reply.Crashed.{Crashed as CrashedLog}
 
 pub none_due : (tears : Bool) → let none : ℕ = 0 in none ≡ cond tears 0 0
 none_due true = refl

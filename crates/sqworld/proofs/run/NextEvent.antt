@@ -1,12 +1,5 @@
 -- A run that goes on by one event.
-use Rattle.std.proofs.Common.{◌≡◌, ℕ, zero, suc, ◌<◌, List, [], ◌∷◌, ◌++◌, length, take, get_or, sym, ◌∙◌, ap, subst, arith}
-use Rattle.crashdisk.specs.declared.model.ModelDisk.{ModelDisk}
-use Rattle.sqval.specs.Runs.{IsRun}
-use Rattle.sqworld.specs.WorldKinds.{WorldKind, count_of, start_of, moments_of}
-use Rattle.sqworld.specs.Worlds.{BeginsOn, Goings, Served, AnswersOn, LifeOn}
-use Rattle.sqworld.specs.internal.Worlds.{Goes, IsLawful}
-use Rattle.sqworld.specs.declared.base.Base.{Base}
-use Rattle.sqworld.specs.declared.reply.Run.{Run}
+use Rattle.sqworld.proofs.Words.{AnswersOn, Base, BeginsOn, Goes, Goings, IsLawful, IsRun, LifeOn, List, ModelDisk, Run, Served, WorldKind, [], ap, arith, count_of, get_or, length, moments_of, start_of, subst, suc, sym, take, zero, ℕ, ◌++◌, ◌<◌, ◌∙◌, ◌∷◌, ◌≡◌}
 use Rattle.sqworld.proofs.run.NextMoment.{goings_none, goings_more}
 use Rattle.sqworld.proofs.run.MomentsOfRun.{none_due, moments_more, complete_more}
 use Rattle.sqworld.proofs.run.NextEventOfLife.{life_none}

@@ -1,12 +1,8 @@
 -- A life goes on by one event.
-use Rattle.std.proofs.Common.{◌≡◌, ℕ, List, [], ◌∷◌, ◌++◌, Option, Some, None, refl, sym, ◌∙◌, ap, subst}
-use Rattle.std.specs.List.{filter_map, cons_option}
-use Rattle.std.proofs.lemmas.List.{map-append}
+use Rattle.sqworld.proofs.Words.{IsNoted, List, None, Option, Run, Some, [], ap, cons_option, filter_map, list_of, map-append, refl, subst, sym, ℕ, ◌++◌, ◌∙◌, ◌∷◌, ◌≡◌}
 use Rattle.std.proofs.lemmas.List.Elements.{filter_map-append}
-use Rattle.sqworld.specs.internal.Worlds.{list_of, IsNoted}
 use Rattle.sqworld.specs.Lives.{Leads, IsLife}
 use Rattle.sqworld.specs.declared.engine.Given.{Given}
-use Rattle.sqworld.specs.declared.reply.Run.{Run}
 
 -- the item of one
 one_of : {X : Type 0} (h : Given → Option X) (g : Given) → filter_map h (g ∷ []) ≡ list_of (h g)

@@ -1,14 +1,5 @@
 -- A run that goes on by one moment.
-use Rattle.std.proofs.Common.{◌≡◌, ◌⊎◌, inl, inr, ℕ, zero, suc, ◌≤◌, List, [], ◌∷◌, ◌++◌, length, take, refl, sym, ◌∙◌, ap, subst, arith, length-append}
-use Rattle.std.proofs.lemmas.List.{take-append-le}
-use Rattle.crashdisk.specs.Model.{state_of}
-use Rattle.crashdisk.specs.declared.model.ModelDisk.{ModelDisk}
-use Rattle.sqval.specs.Answers.{Answer}
-use Rattle.sqval.specs.Runs.{Moment, Runs, IsRun}
-use Rattle.sqworld.specs.WorldKinds.{WorldKind, count_of, start_of}
-use Rattle.sqworld.specs.Worlds.{BeginsOn, AnswersOn, Fitting, Goings}
-use Rattle.sqworld.specs.internal.Worlds.{given_moment, IsLawful}
-use Rattle.sqworld.specs.declared.base.Base.{Base}
+use Rattle.sqworld.proofs.Words.{Answer, AnswersOn, Base, BeginsOn, Fitting, Goings, IsLawful, IsRun, List, ModelDisk, Moment, Runs, WorldKind, [], ap, arith, count_of, given_moment, inl, inr, length, length-append, refl, start_of, state_of, subst, suc, sym, take, take-append-le, zero, ℕ, ◌++◌, ◌∙◌, ◌∷◌, ◌≡◌, ◌≤◌, ◌⊎◌}
 use Rattle.sqworld.specs.declared.engine.Given.{Given}
 
 runs_more : {S A : Type 0} (step : S → A → Answer → ℕ → ℕ → S → Type 0) (s : S) (b : ℕ) (ms : List (Moment A)) (t : S) (a : ℕ) (m : Moment A) (u : S) → Runs step s b ms t a → a ≤ m.refused → step t m.act m.answer a m.refused u → Runs step s b (ms ++ m ∷ []) u m.refused

@@ -1,46 +1,15 @@
 -- An event, with an engine and without one.
-use Rattle.std.proofs.Common.{◌≡◌, inl, ℕ, zero, suc, ◌+◌, Bool, true, false, ◌&&◌, List, [], ◌∷◌, ◌++◌, length, replicate, get_or, Option, Some, None, is_some, Result, Ok, Err, IfOk, OnOk, cond, not, Vec, Global, refl, sym, ◌∙◌, ap, subst, arith}
-use Rattle.std.proofs.lemmas.List.{length-replicate, append-nil}
-use Rattle.crashdisk.specs.Call.{DiskState, Change, HasCalls}
-use Rattle.crashdisk.specs.Model.{state_of}
-use Rattle.crashdisk.specs.Stop.{no_stops}
-use Rattle.crashdisk.specs.declared.file.File.TheVariants.{Db, Log}
-use Rattle.crashdisk.specs.declared.model.ModelDisk.{ModelDisk}
+use Rattle.sqworld.proofs.Words.{Act, Answer, AreFiles, Bool, Change, Choice, Closed, Crashed, CrashedLog, Db, DiskState, Done, EndStep, EngineServes, Err, Event, Files, FitsAlone, FitsCore, FitsEngine, FitsSession, Found, GivenUpTo, Global, Happens, HasCalls, IfOk, IsAlone, IsCalm, IsLeftAt, IsLeftBy, IsSetTo, List, Log, Made, Makes, ModelDisk, NoReader, None, Ok, OnOk, OnlyCalls, Open, Opens, Option, Past, Permits, ReadStep, Reader, Refused, Refuses, Reply, ReplyDone, Rests, Result, SameFiles, SaysLeft, Serves, ServesTo, Session, SessionServes, Sets, Some, State, Step, StepsTo, Vec, Wal, WalEngine, [], act_of, answer_of, ap, append-nil, arith, begun_of, call_refusal, chosen, closed_answer, commit_refusal, cond, disk_of, false, files_of, first_true, forgotten, get_or, gone, inl, is_crash, is_opening, is_some, length, length-replicate, list_any, model_of, newest, no_stops, none_open, not, number_of, numbered, refl, replicate, restart_refusal, state_of, subst, suc, sym, true, zero, ℕ, ◌&&◌, ◌++◌, ◌+◌, ◌∙◌, ◌∷◌, ◌≡◌}
 use Rattle.walcore.specs.Alone.{AreWhole}
-use Rattle.sqval.specs.Answers.{Answer, Files, Done, NoReader, Refused, Refuses, Crashed}
-use Rattle.walcore.specs.Machine.{State, Act, Opens, Sets, Step, ReadStep, EndStep, forgotten, gone, call_refusal, commit_refusal, restart_refusal}
-use Rattle.sqval.specs.CommitFaults.{first_true}
 use Rattle.walcore.specs.CommitRefusals.{refusal_of}
 use Rattle.walcore.specs.declared.state.Core.{Core}
-use Rattle.crashdisk.specs.declared.choice.Choice.{Choice}
-use Rattle.std.specs.List.{list_any}
-use Rattle.walcore.specs.Making.{Made, Makes, Permits}
-use Rattle.walcore.specs.Refusal.{number_of}
-use Rattle.walcore.specs.Fits.{Past, FitsAlone, FitsCore, StepsTo, GivenUpTo, none_open}
-use Rattle.crashdisk.specs.Keeps.{SameFiles}
 use Rattle.walcore.specs.declared.error.WalError.{WalError}
-use Rattle.walcore.specs.declared.reader.Reader.{Reader}
-use Rattle.walcore.specs.declared.wal.Wal.{Wal}
-use Rattle.sqworld.specs.Run.{numbered, act_of, answer_of, files_of, is_opening, is_crash}
-use Rattle.sqworld.specs.Sessions.{FitsSession, OnlyCalls, Serves, ServesTo}
-use Rattle.sqworld.specs.internal.Sessions.{SessionServes}
-use Rattle.sqworld.specs.Engines.{SaysLeft, IsLeftBy, IsLeftAt, chosen, IsSetTo, IsCalm, Happens, Rests, FitsEngine, model_of, disk_of, EngineServes, Answers}
-use Rattle.sqworld.specs.internal.Engines.{begun_of, closed_answer, IsAlone}
-use Rattle.sqworld.specs.declared.wal_engine.WalEngine.{WalEngine}
-use Rattle.sqworld.specs.declared.wal_engine.WalEngine.TheVariants.{Closed, Open}
+use Rattle.sqworld.specs.Engines.{Answers}
 use Rattle.sqworld.specs.declared.engine.Given.{Given}
-use Rattle.sqworld.specs.declared.event.Event.{Event}
 use Rattle.sqworld.specs.declared.event.Event.TheVariants.{Open as OpenEvent, Commit, Sync, Checkpoint, Restart, Begin, Read, End, StopAfter, StopAtSync, Fail, Crash, CrashAt}
-use Rattle.sqworld.specs.declared.reply.Reply.{Reply}
-use Rattle.sqworld.specs.declared.reply.Reply.TheVariants.{Done as ReplyDone}
-use Rattle.sqworld.specs.declared.reply.Found.{Found}
-use Rattle.sqworld.specs.declared.reply.Crashed.{Crashed as CrashedLog}
-use Rattle.sqworld.specs.declared.session.Session.{Session}
 use Rattle.walcore.proofs.machine.FitUnderUnchangedFiles.{same_core, fits_disk_still, fits_same}
 use Rattle.walcore.proofs.crash.FitAfterCrash.{fits_crash}
 use Rattle.sqworld.proofs.serve.FilesUnderSettings.{same_model, stopped_after, stopped_at_sync, failing, same_count, stopped_after_count, stopped_at_sync_count, failing_count, untold}
-use Rattle.recovery.specs.Files.{AreFiles}
-use Rattle.recovery.specs.Histories.{newest}
 
 -- ---- Tokens.
 

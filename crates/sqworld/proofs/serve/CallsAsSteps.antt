@@ -1,24 +1,7 @@
 -- What a call of an engine is in a run.
-use Rattle.std.proofs.Common.{◌≡◌, ℕ, zero, suc, ◌+◌, ◌<◌, List, [], ◌∷◌, ◌++◌, length, take, drop, replicate, set, slice_get, get_or, Option, Some, None, Result, Ok, Err, IfOk, Vec, Global, length-append, refl, sym, inl, ◌∙◌, ap, subst, arith, append_assoc}
-use Rattle.std.proofs.lemmas.List.{length-replicate}
+use Rattle.sqworld.proofs.Words.{Act, Answer, AreTogether, Begins, DiskState, Done, Ends, Err, FitsCore, FitsSession, Global, HasCalls, IfOk, List, LooksOnce, Makes, ModelDisk, NoReader, None, Ok, OnlyCalls, Option, Past, Permits, ReadStep, Reader, ReaderAnswer, Reads, Reply, ReplyReader, Result, ServesTo, Session, SessionServes, Some, Step, StepsTo, Vec, Wal, [], answer_of, ap, append_assoc, arith, drop, get_or, inl, length, length-append, length-replicate, reader_at, refl, replicate, set, slice_get, state_of, subst, suc, sym, take, tokens_by, tokens_of, without_token, zero, ℕ, ◌++◌, ◌+◌, ◌<◌, ◌∙◌, ◌∷◌, ◌≡◌}
 use Rattle.std.proofs.lemmas.Grind.{common_steps}
-use Rattle.crashdisk.specs.Call.{DiskState, HasCalls}
-use Rattle.crashdisk.specs.Model.{state_of}
-use Rattle.crashdisk.specs.Keeps.{LooksOnce}
-use Rattle.sqval.specs.Answers.{Answer, Done, NoReader, Reader as ReaderAnswer}
-use Rattle.walcore.specs.Machine.{Act, Begins, Reads, Ends, reader_at, Step, ReadStep, EndStep}
 use Rattle.walcore.specs.Changes.{MayChange}
-use Rattle.walcore.specs.Making.{Makes, Permits}
-use Rattle.walcore.specs.declared.wal.Wal.{Wal}
-use Rattle.crashdisk.specs.declared.model.ModelDisk.{ModelDisk}
-use Rattle.walcore.specs.Fits.{Past, FitsCore, StepsTo, AreTogether, without_token}
-use Rattle.walcore.specs.declared.reader.Reader.{Reader}
-use Rattle.sqworld.specs.Run.{answer_of}
-use Rattle.sqworld.specs.declared.reply.Reply.{Reply}
-use Rattle.sqworld.specs.declared.reply.Reply.TheVariants.{Reader as ReplyReader}
-use Rattle.sqworld.specs.Sessions.{tokens_by, tokens_of, FitsSession, OnlyCalls, ServesTo}
-use Rattle.sqworld.specs.internal.Sessions.{SessionServes}
-use Rattle.sqworld.specs.declared.session.Session.{Session}
 
 -- the calls of an engine are no more than those of an event
 abbrev pub AreOnly : (size : ℕ) → Act → (s t : DiskState) → Type 0
@@ -70,19 +53,6 @@ no_read page_size old number page none past size fits may = record {
   sector = refl;
   tears = refl;
   calls = inl refl;
-}
-
-pub no_end : (page_size : ℕ) (old : Session) (number : ℕ) → get_or (tokens_of old) number None ≡ None → SessionServes page_size old old (Ends number) NoReader
-no_end page_size old number none past size fits may = record {
-  next = past;
-  refused = omega arith;
-  told = λ more. absurd (omega arith);
-  row = subst (λ place. EndStep place past.state number NoReader past.state) (sym (not_open past old number fits none)) refl;
-  makes = refl;
-  fits = fits;
-  sector = refl;
-  tears = refl;
-  calls = refl;
 }
 
 -- ---- Tokens behind those that are forgotten.
@@ -146,10 +116,6 @@ pub found_slot : (slots : List (Option Reader)) (i : ℕ) (x y : Option Reader) 
 found_slot [] i x y l h e = absurd (omega arith)
 found_slot (z ∷ slots) zero x y l h e = sym h ∙ e
 found_slot (z ∷ slots) (suc i) x y l h e = found_slot slots i x y (omega arith) h e
-
-not_some : (x : Option Reader) → ((r : Reader) → x ≡ Some r → ⊥) → x ≡ None
-not_some None h = refl
-not_some (Some r) h = absurd (h r refl)
 
 -- a buffer that was filled whole
 pub filled : (bytes new : List ℕ) (n : ℕ) → length bytes ≡ n → length new ≡ n → take n (new ++ drop (length new) bytes) ≡ new

@@ -1,11 +1,7 @@
 -- What is set of a modelled disk changes nothing of its files.
-use Rattle.std.proofs.Common.{◌≡◌, ℕ, ◌<◌, refl, sym, ap, subst, arith}
-use Rattle.crashdisk.specs.Keeps.{SameFiles}
-use Rattle.crashdisk.specs.Model.{state_of}
+use Rattle.sqworld.proofs.Words.{FailsAt, ModelDisk, SameFiles, ap, arith, refl, state_of, stopping_after, stopping_at_sync, subst, sym, ℕ, ◌<◌, ◌≡◌}
 use Rattle.crashdisk.specs.declared.held.Part.{Part}
-use Rattle.crashdisk.specs.declared.model.ModelDisk.{ModelDisk}
 use Rattle.crashdisk.specs.declared.stops.Stops.{Stops}
-use Rattle.sqworld.specs.Engines.{stopping_after, stopping_at_sync, FailsAt}
 
 set_files : (disk : ModelDisk) (stops : Stops) (part : Part) → SameFiles (state_of disk) (state_of (record disk { stops = stops; part = part }))
 set_files disk stops part = record { sector = refl; tears = refl; db = refl; log = refl; kept = refl; handed = refl; refused = omega arith; count = disk.counted }

@@ -1,44 +1,24 @@
 -- An event of a run over a rollback journal, with an engine and without one.
-use Rattle.std.proofs.Common.{◌≡◌, inl, ◌==◌, nat_lt, [], ◌∷◌, ℕ, Bool, true, false, ◌&&◌, List, length, Option, Some, None, Result, Ok, Err, IfOk, OnOk, cond, not, Vec, Global, refl, sym, ◌∙◌, ap, subst, arith}
-use Rattle.crashdisk.specs.Call.{DiskState, HasCalls}
-use Rattle.crashdisk.specs.Model.{state_of}
-use Rattle.crashdisk.specs.Stop.{no_stops}
-use Rattle.crashdisk.specs.declared.file.File.TheVariants.{Log, Db}
-use Rattle.crashdisk.specs.declared.model.ModelDisk.{ModelDisk}
-use Rattle.crashdisk.specs.declared.choice.Choice.{Choice}
-use Rattle.sqval.specs.Answers.{Answer, Files, Done, Refused, Refuses, Crashed}
-use Rattle.sqval.specs.CommitFaults.{first_true}
+use Rattle.sqworld.proofs.Words.{Answer, Answers, AreFiles, Bool, Choice, Crashed, CrashedLog, Db, DiskState, Done, Err, Files, Fits, FitsDisk, Found, Global, HasCalls, IfOk, IsAlone, IsLeftAt, IsLeftBy, JEvent, JournalEngine, List, Log, ModelDisk, None, Ok, OnOk, Option, Refused, Refuses, Reply, ReplyDone, Result, SameFiles, SaysLeft, Some, Vec, [], answer_of, ap, arith, chosen, closed, cond, false, files_of, first_true, inl, length, nat_lt, newest, no_stops, not, numbered, read_refusal, refl, state_of, subst, sym, true, ℕ, ◌&&◌, ◌==◌, ◌∙◌, ◌∷◌, ◌≡◌}
 use Rattle.rollcore.specs.Alone.{AreWhole}
-use Rattle.rollcore.specs.Machine.{State, Act, Opens, Sets, Step, closed, commit_refusal, read_refusal, refusal_of}
+use Rattle.rollcore.specs.Machine.{State, Act, Opens, Sets, Step, commit_refusal, refusal_of}
 use Rattle.rollcore.specs.Changes.{MayChange}
 use Rattle.rollcore.specs.Premises.{Permits}
 use Rattle.rollcore.specs.Refusal.{number_of}
-use Rattle.rollcore.specs.Fits.{FitsDisk, FitsCore, Fits, StepsTo, GivenUpTo}
-use Rattle.crashdisk.specs.Keeps.{SameFiles}
+use Rattle.rollcore.specs.Fits.{FitsCore, StepsTo, GivenUpTo}
 use Rattle.rollcore.specs.declared.error.RollError.{RollError}
 use Rattle.rollcore.specs.declared.roll.Roll.{Roll}
 use Rattle.rollcore.specs.declared.state.Core.{Core}
-use Rattle.sqworld.specs.Run.{numbered, answer_of, files_of}
-use Rattle.sqworld.specs.Engines.{SaysLeft, IsLeftBy, IsLeftAt, chosen}
-use Rattle.sqworld.specs.internal.Engines.{IsAlone}
 use Rattle.sqworld.specs.JournalRun.{act_of, is_opening, is_crash}
-use Rattle.sqworld.specs.JournalEngines.{IsSetTo, IsCalm, Happens, Rests, OnlyCalls, ServesTo, Serves, FitsEngine, model_of, disk_of, EngineServes, Answers}
+use Rattle.sqworld.specs.JournalEngines.{IsSetTo, IsCalm, Happens, Rests, OnlyCalls, ServesTo, Serves, FitsEngine, model_of, disk_of, EngineServes}
 use Rattle.sqworld.specs.internal.JournalEngines.{RollServes, closed_answer}
 use Rattle.sqworld.specs.declared.engine.Given.{Given}
-use Rattle.sqworld.specs.declared.journal_engine.JournalEngine.{JournalEngine}
 use Rattle.sqworld.specs.declared.journal_engine.JournalEngine.TheVariants.{Closed, Open}
-use Rattle.sqworld.specs.declared.journal_event.JEvent.{JEvent}
 use Rattle.sqworld.specs.declared.journal_event.JEvent.TheVariants.{Open as Opening, Commit, Read, StopAfter, StopAtSync, Fail, Crash, CrashAt}
-use Rattle.sqworld.specs.declared.reply.Reply.{Reply}
-use Rattle.sqworld.specs.declared.reply.Reply.TheVariants.{Done as ReplyDone}
-use Rattle.sqworld.specs.declared.reply.Found.{Found}
-use Rattle.sqworld.specs.declared.reply.Crashed.{Crashed as CrashedLog}
 use Rattle.rollcore.proofs.crash.FitAfterCrash.{fits_crash}
 use Rattle.rollcore.proofs.read.ContentOfReadPage.{fits_disk_still, fits_still}
 use Rattle.sqworld.proofs.serve.AnswersToEvents.{and_is}
 use Rattle.sqworld.proofs.serve.FilesUnderSettings.{same_model, stopped_after, stopped_at_sync, failing, same_count, stopped_after_count, stopped_at_sync_count, failing_count, untold}
-use Rattle.recovery.specs.Files.{AreFiles}
-use Rattle.recovery.specs.Histories.{newest}
 
 -- what fits an engine fits its disk
 engine_disk : (past : State) (engine : JournalEngine) → FitsEngine past engine → FitsDisk past (disk_of engine)

@@ -1,10 +1,5 @@
 -- A world of served events answers one more.
-use Rattle.std.proofs.Common.{◌≡◌, ℕ, List, [], ◌∷◌, ◌++◌, Option, Some, None, sym, ◌∙◌, ap, subst, length, take, get_or, ◌<◌, ◌≤◌, ◌+◌, add-one}
-use Rattle.sqworld.specs.WorldKinds.{WorldKind, count_of}
-use Rattle.sqworld.specs.Worlds.{Served, AnswersOn, LifeOn, IsRunOf}
-use Rattle.sqworld.specs.internal.Worlds.{Goes, IsLawful}
-use Rattle.sqworld.specs.Stepping.{HasServed, ServesNext}
-use Rattle.sqworld.specs.declared.base.Base.{Base}
+use Rattle.sqworld.proofs.Words.{AnswersOn, Base, Goes, HasServed, IsLawful, IsRunOf, LifeOn, List, None, Option, Served, ServesNext, Some, WorldKind, [], add-one, ap, count_of, get_or, length, subst, sym, take, ℕ, ◌++◌, ◌+◌, ◌<◌, ◌∙◌, ◌∷◌, ◌≡◌, ◌≤◌}
 use Rattle.sqworld.specs.declared.engine.Engine.{Ghosts}
 use Rattle.sqworld.specs.declared.world.WorldOf.{WorldOf}
 use Rattle.sqworld.proofs.run.NextEvent.{served_more, untorn_run, taken_next}

@@ -1,5 +1,4 @@
-use Rattle.std.proofs.Common.{rules}
-use Rattle.sqworld.proofs.run.BasePages.{not_pages, pages_more}
+use Rattle.sqworld.proofs.Facts.{not_pages, pages_more, rules}
 use Rattle.sqworld.proofs.base.are_pages.Goals as goal
 
 pub returns-then-len-size : goal.returns-then-len-size

@@ -1,5 +1,4 @@
-use Rattle.std.proofs.Common.{◌≡◌, ℕ, ◌<◌, [], length, get_or}
-use Rattle.sqworld.specs.Pages.{pages_of}
+use Rattle.sqworld.proofs.Facts.{[], get_or, length, pages_of, ℕ, ◌<◌, ◌≡◌}
 use Rattle.sqworld.proofs.base.are_pages.Given as goal
 
 abbrev pub invariant-loop-page : goal.invariant-loop-page

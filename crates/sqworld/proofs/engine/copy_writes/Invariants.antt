@@ -1,5 +1,4 @@
-use Rattle.std.proofs.Common.{◌≡◌, take}
-use Rattle.sqworld.specs.Run.{numbered}
+use Rattle.sqworld.proofs.Facts.{numbered, take, ◌≡◌}
 use Rattle.sqworld.proofs.engine.copy_writes.Given as goal
 
 abbrev pub invariant-loop-write : goal.invariant-loop-write

@@ -1,11 +1,6 @@
-use Rattle.std.proofs.Common.{ℕ, Bool, Option, Result, Ok, Err, IfOk}
-use Rattle.crashdisk.specs.Call.{DiskState}
+use Rattle.sqworld.proofs.Facts.{Bool, Choice, CrashedLog, DiskState, Err, IfOk, IsLeftAt, IsLeftBy, Ok, Option, Result, state_of, ℕ}
 use Rattle.crashdisk.specs.Choice.{naming_of}
 use Rattle.crashdisk.specs.Count.{IsChoice}
-use Rattle.crashdisk.specs.Model.{state_of}
-use Rattle.crashdisk.specs.declared.choice.Choice.{Choice}
-use Rattle.sqworld.specs.Engines.{IsLeftBy, IsLeftAt}
-use Rattle.sqworld.specs.declared.reply.Crashed.{Crashed as CrashedLog}
 use Rattle.sqworld.proofs.engine.crash_disk_at.Goals as goal
 
 left_at : {E : Type 0} (r : Result (Option CrashedLog) E) (tears : Bool) (n : ℕ) (choice : Choice) (old new : DiskState)

@@ -1,9 +1,5 @@
-use Rattle.std.proofs.Common.{sym, ap, ◌∙◌, None}
-use Rattle.rollcore.specs.Machine.{Commits}
-use Rattle.sqworld.specs.Run.{numbered}
+use Rattle.sqworld.proofs.Facts.{Commits, JEvent, None, ap, guarded, numbered, others_set, set_serves, sym, ◌∙◌}
 use Rattle.sqworld.specs.JournalRun.{act_of}
-use Rattle.sqworld.specs.declared.journal_event.JEvent.{JEvent}
-use Rattle.sqworld.proofs.serve.JournalAnswersToEvents.{guarded, set_serves, others_set}
 use Rattle.sqworld.proofs.journal_engine.answer.Goals as goal
 
 pub returns-in-Commit-clause-serves : goal.returns-in-Commit-clause-serves

@@ -1,12 +1,5 @@
-use Rattle.std.proofs.Common.{◌≡◌, sym, ap, subst, ◌∙◌}
-use Rattle.crashdisk.specs.Model.{state_of}
-use Rattle.sqval.specs.Answers.{Done}
-use Rattle.sqval.specs.JudgedPages.{lent}
-use Rattle.rollcore.specs.Machine.{Commits}
+use Rattle.sqworld.proofs.Facts.{Commits, Done, answer_of, answered, ap, lent, numbered, state_of, stepped, subst, sym, ◌∙◌, ◌≡◌}
 use Rattle.rollcore.specs.Fits.{StepsTo}
-use Rattle.sqworld.specs.Run.{numbered, answer_of}
-use Rattle.sqworld.proofs.serve.JournalAnswersToEvents.{stepped}
-use Rattle.recovery.specs.Moments.{answered}
 use Rattle.rollcore.specs.Refusal.{number_of}
 use Rattle.sqworld.proofs.journal_engine.commit.Goals as goal
 

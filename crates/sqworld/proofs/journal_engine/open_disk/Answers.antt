@@ -1,5 +1,4 @@
-use Rattle.crashdisk.specs.Model.{state_of}
-use Rattle.sqworld.proofs.serve.JournalAnswersToEvents.{opened, given_up}
+use Rattle.sqworld.proofs.Facts.{given_up, opened, state_of}
 use Rattle.sqworld.proofs.journal_engine.open_disk.Goals as goal
 
 pub returns-in-Ok : goal.returns-in-Ok

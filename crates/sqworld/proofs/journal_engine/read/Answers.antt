@@ -1,10 +1,5 @@
-use Rattle.std.proofs.Common.{sym, ap, ◌∙◌, ◌≡◌, length, rules}
-use Rattle.sqval.specs.Answers.{Page}
+use Rattle.sqworld.proofs.Facts.{Page, answer_of, answered, ap, filled, length, rules, stepped, sym, ◌∙◌, ◌≡◌}
 use Rattle.rollcore.specs.Machine.{Reads}
-use Rattle.sqworld.specs.Run.{answer_of}
-use Rattle.sqworld.proofs.serve.CallsAsSteps.{filled}
-use Rattle.sqworld.proofs.serve.JournalAnswersToEvents.{stepped}
-use Rattle.recovery.specs.Moments.{answered}
 use Rattle.rollcore.specs.Refusal.{number_of}
 use Rattle.sqworld.proofs.journal_engine.read.Goals as goal
 

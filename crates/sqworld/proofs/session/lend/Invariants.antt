@@ -1,6 +1,4 @@
-use Rattle.std.proofs.Common.{◌≡◌, take}
-use Rattle.sqval.specs.JudgedPages.{lent}
-use Rattle.sqworld.specs.Run.{numbered}
+use Rattle.sqworld.proofs.Facts.{lent, numbered, take, ◌≡◌}
 use Rattle.sqworld.proofs.session.lend.Given as goal
 
 abbrev pub invariant-loop-page : goal.invariant-loop-page

@@ -1,5 +1,5 @@
-use Rattle.crashdisk.specs.Model.{state_of}
-use Rattle.sqworld.proofs.serve.AnswersToEvents.{opened_session, given_up}
+use Rattle.sqworld.proofs.Facts.{opened_session, state_of}
+use Rattle.sqworld.proofs.serve.AnswersToEvents.{given_up}
 use Rattle.sqworld.proofs.wal_engine.open_disk.Goals as goal
 
 pub returns-in-Ok-clause-opens : goal.returns-in-Ok-clause-opens

@@ -1,5 +1,4 @@
-use Rattle.std.proofs.Common.{rules}
-use Rattle.sqworld.proofs.serve.NextServedEvent.{taken_on, taken_whole}
+use Rattle.sqworld.proofs.Facts.{rules, taken_on, taken_whole}
 use Rattle.sqworld.proofs.world.run_events.Goals as goal
 
 pub loop-event-preserved : goal.loop-event-preserved

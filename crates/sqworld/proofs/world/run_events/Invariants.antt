@@ -1,5 +1,4 @@
-use Rattle.std.proofs.Common.{take}
-use Rattle.sqworld.specs.Stepping.{HasServed}
+use Rattle.sqworld.proofs.Facts.{HasServed, take}
 use Rattle.sqworld.proofs.world.run_events.Given as goal
 
 abbrev pub invariant-loop-event : goal.invariant-loop-event

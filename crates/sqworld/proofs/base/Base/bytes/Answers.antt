@@ -1,5 +1,4 @@
-use Rattle.std.proofs.Common.{rules}
-use Rattle.sqworld.proofs.run.BasePages.{joined_more}
+use Rattle.sqworld.proofs.Facts.{joined_more, rules}
 use Rattle.sqworld.proofs.base.Base.bytes.Goals as goal
 
 pub loop-page-preserved : goal.loop-page-preserved

@@ -1,6 +1,4 @@
-use Rattle.std.proofs.Common.{◌≡◌, take}
-use Rattle.std.specs.List.{concat}
-use Rattle.sqworld.specs.Pages.{pages_of}
+use Rattle.sqworld.proofs.Facts.{concat, pages_of, take, ◌≡◌}
 use Rattle.sqworld.proofs.base.Base.bytes.Given as goal
 
 abbrev pub invariant-loop-page : goal.invariant-loop-page

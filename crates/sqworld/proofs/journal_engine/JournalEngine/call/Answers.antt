@@ -1,10 +1,7 @@
-use Rattle.std.proofs.Common.{subst, sym, false, IfOk, OnOk, None, ◌≡◌}
-use Rattle.sqworld.specs.Run.{answer_of}
+use Rattle.sqworld.proofs.Facts.{IfOk, JournalEngine, None, OnOk, answer_of, closed_rests, closed_serves, false, open_rests, open_serves, subst, sym, ◌≡◌}
 use Rattle.sqworld.specs.JournalRun.{act_of, is_opening, is_crash}
 use Rattle.sqworld.specs.JournalEngines.{Rests, EngineServes}
-use Rattle.sqworld.specs.declared.journal_engine.JournalEngine.{JournalEngine}
 use Rattle.sqworld.specs.declared.journal_engine.JournalEngine.TheVariants.{Closed, Open}
-use Rattle.sqworld.proofs.serve.JournalAnswersToEvents.{closed_serves, open_serves, closed_rests, open_rests}
 use Rattle.sqworld.proofs.journal_engine.JournalEngine.call.Goals as goal
 
 pub returns-in-Closed-clause-serves : goal.returns-in-Closed-clause-serves

@@ -1,5 +1,4 @@
-use Rattle.crashdisk.specs.Model.{state_of}
-use Rattle.sqworld.proofs.serve.JournalAnswersToEvents.{crash_answers}
+use Rattle.sqworld.proofs.Facts.{crash_answers, state_of}
 use Rattle.sqworld.proofs.journal_engine.JournalEngine.crash.Goals as goal
 
 pub returns-in-Ok : goal.returns-in-Ok

@@ -1,7 +1,4 @@
-use Rattle.std.proofs.Common.{subst, sym, IfOk}
-use Rattle.sqworld.specs.JournalEngines.{Answers}
-use Rattle.sqworld.specs.declared.journal_event.JEvent.{JEvent}
-use Rattle.sqworld.proofs.serve.JournalAnswersToEvents.{call_answers, not_open, not_crash}
+use Rattle.sqworld.proofs.Facts.{Answers, IfOk, JEvent, call_answers, not_crash, not_open, subst, sym}
 use Rattle.sqworld.proofs.journal_engine.JournalEngineEngine.serve.Goals as goal
 
 pub returns-in-Open-clause-answers : goal.returns-in-Open-clause-answers

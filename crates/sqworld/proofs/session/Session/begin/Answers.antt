@@ -1,9 +1,4 @@
-use Rattle.std.proofs.Common.{◌+◌, sym, ap, rules}
-use Rattle.crashdisk.specs.Model.{state_of}
-use Rattle.sqval.specs.Answers.{Refused}
-use Rattle.walcore.specs.Machine.{Begins}
-use Rattle.walcore.specs.Refusal.{number_of}
-use Rattle.sqworld.proofs.serve.CallsAsSteps.{stepped_still, began}
+use Rattle.sqworld.proofs.Facts.{Begins, Refused, ap, began, number_of, rules, state_of, stepped_still, sym, ◌+◌}
 use Rattle.sqworld.proofs.session.Session.begin.Goals as goal
 
 pub returns-in-Ok-clause-serves : goal.returns-in-Ok-clause-serves

@@ -1,8 +1,6 @@
-use Rattle.std.proofs.Common.{sym, ap, ◌∙◌, None}
+use Rattle.sqworld.proofs.Facts.{Event, None, act_of, answer_of, ap, numbered, sym, told_act, ◌∙◌}
 use Rattle.walcore.specs.Machine.{Commits}
-use Rattle.sqworld.specs.Run.{act_of, numbered, answer_of}
-use Rattle.sqworld.specs.declared.event.Event.{Event}
-use Rattle.sqworld.proofs.serve.AnswersToEvents.{guarded, told_act, set_serves, others_set}
+use Rattle.sqworld.proofs.serve.AnswersToEvents.{guarded, set_serves, others_set}
 use Rattle.sqworld.proofs.session.Session.call.Goals as goal
 
 pub returns-in-Commit-clause-serves : goal.returns-in-Commit-clause-serves

@@ -1,10 +1,5 @@
-use Rattle.std.proofs.Common.{sym}
-use Rattle.walcore.specs.Machine.{Checkpoints}
+use Rattle.sqworld.proofs.Facts.{Checkpoints, answer_of, answered, number_of, stepped_still, sym}
 use Rattle.walcore.specs.Bringing.{answer_of as checkpoint_answer}
-use Rattle.sqworld.specs.Run.{answer_of}
-use Rattle.sqworld.proofs.serve.CallsAsSteps.{stepped_still}
-use Rattle.recovery.specs.Moments.{answered}
-use Rattle.walcore.specs.Refusal.{number_of}
 use Rattle.sqworld.proofs.session.Session.checkpoint.Goals as goal
 
 pub returns-clause-serves : goal.returns-clause-serves

@@ -1,4 +1,4 @@
-use Rattle.std.proofs.Common.{◌≡◌, length}
+use Rattle.sqworld.proofs.Facts.{length, ◌≡◌}
 use Rattle.sqworld.proofs.session.Session.close.Given as goal
 
 abbrev pub invariant-loop-slot : goal.invariant-loop-slot

@@ -1,5 +1,4 @@
-use Rattle.std.proofs.Common.{sym, ap, ◌∙◌, set}
-use Rattle.sqworld.proofs.serve.CallsAsSteps.{ended, found_slot}
+use Rattle.sqworld.proofs.Facts.{ap, ended, found_slot, set, sym, ◌∙◌}
 use Rattle.sqworld.proofs.session.Session.end.Goals as goal
 
 pub returns-clause-serves : goal.returns-clause-serves

@@ -1,9 +1,4 @@
-use Rattle.std.proofs.Common.{sym, ap, ◌∙◌, ◌≡◌, length, rules}
-use Rattle.sqval.specs.Answers.{Page}
-use Rattle.sqworld.specs.Run.{answer_of}
-use Rattle.sqworld.proofs.serve.CallsAsSteps.{no_read, was_read, is_token, found_slot, filled}
-use Rattle.recovery.specs.Moments.{answered}
-use Rattle.walcore.specs.Refusal.{number_of}
+use Rattle.sqworld.proofs.Facts.{Page, answer_of, answered, ap, filled, found_slot, is_token, length, no_read, number_of, rules, sym, was_read, ◌∙◌, ◌≡◌}
 use Rattle.sqworld.proofs.session.Session.read.Goals as goal
 
 pub returns-in_default-index-clause-serves : goal.returns-in_default-index-clause-serves

@@ -1,5 +1,4 @@
-use Rattle.std.proofs.Common.{ap}
-use Rattle.crashdisk.specs.declared.model.ModelDisk.{ModelDisk}
+use Rattle.sqworld.proofs.Facts.{ModelDisk, ap}
 use Rattle.sqworld.proofs.session.Session.refused.Goals as goal
 
 pub returns-clause-same : goal.returns-clause-same

@@ -1,8 +1,4 @@
-use Rattle.std.proofs.Common.{subst, sym, false, IfOk, OnOk, None, ◌≡◌}
-use Rattle.sqworld.specs.Run.{act_of, answer_of, is_opening, is_crash}
-use Rattle.sqworld.specs.Engines.{Rests, EngineServes}
-use Rattle.sqworld.specs.declared.wal_engine.WalEngine.{WalEngine}
-use Rattle.sqworld.specs.declared.wal_engine.WalEngine.TheVariants.{Closed, Open}
+use Rattle.sqworld.proofs.Facts.{Closed, EngineServes, IfOk, None, OnOk, Open, Rests, WalEngine, act_of, answer_of, false, is_crash, is_opening, subst, sym, ◌≡◌}
 use Rattle.sqworld.proofs.serve.AnswersToEvents.{closed_serves, open_serves, closed_rests, open_rests}
 use Rattle.sqworld.proofs.wal_engine.WalEngine.call.Goals as goal
 

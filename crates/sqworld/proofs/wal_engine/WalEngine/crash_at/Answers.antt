@@ -1,4 +1,4 @@
-use Rattle.crashdisk.specs.Model.{state_of}
+use Rattle.sqworld.proofs.Facts.{state_of}
 use Rattle.sqworld.proofs.serve.AnswersToEvents.{crash_at_answers}
 use Rattle.sqworld.proofs.wal_engine.WalEngine.crash_at.Goals as goal
 

@@ -1,5 +1,4 @@
-use Rattle.std.proofs.Common.{sym, ◌∙◌}
-use Rattle.crashdisk.specs.Model.{state_of}
+use Rattle.sqworld.proofs.Facts.{state_of, sym, ◌∙◌}
 use Rattle.sqworld.proofs.serve.AnswersToEvents.{open_answers}
 use Rattle.sqworld.proofs.wal_engine.WalEngine.open.Goals as goal
 

@@ -1,4 +1,4 @@
-use Rattle.std.proofs.Common.{refl, rules}
+use Rattle.sqworld.proofs.Facts.{refl, rules}
 use Rattle.sqworld.proofs.world.WorldOf.disk.Goals as goal
 
 pub returns-in-Ok-clause-served : goal.returns-in-Ok-clause-served

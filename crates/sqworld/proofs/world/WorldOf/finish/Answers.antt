@@ -1,4 +1,4 @@
-use Rattle.sqworld.proofs.serve.NextServedEvent.{run_of}
+use Rattle.sqworld.proofs.Facts.{run_of}
 use Rattle.sqworld.proofs.world.WorldOf.finish.Goals as goal
 
 pub returns-in-Some-clause-served : goal.returns-in-Some-clause-served

@@ -1,6 +1,5 @@
-use Rattle.std.proofs.Common.{rules, ap}
+use Rattle.sqworld.proofs.Facts.{ap, life_begins, rules, served_none}
 use Rattle.std.specs.Prelude.{Some}
-use Rattle.sqworld.proofs.run.NextEvent.{served_none, life_begins}
 use Rattle.sqworld.proofs.world.WorldOf.new.Goals as goal
 
 pub returns : goal.returns

@@ -1,4 +1,4 @@
-use Rattle.sqworld.proofs.serve.NextServedEvent.{run_of}
+use Rattle.sqworld.proofs.Facts.{run_of}
 use Rattle.sqworld.proofs.world.WorldOf.run.Goals as goal
 
 pub returns-clause-served : goal.returns-clause-served

@@ -1,5 +1,4 @@
-use Rattle.std.proofs.Common.{rules, refl}
-use Rattle.sqworld.proofs.serve.NextServedEvent.{serves_next}
+use Rattle.sqworld.proofs.Facts.{refl, rules, serves_next}
 use Rattle.sqworld.proofs.world.WorldOf.serve.Goals as goal
 
 pub returns-in-Ok-clause-serves : goal.returns-in-Ok-clause-serves
