@@ -6,6 +6,7 @@ ghost use Rattle.sqpage.specs.Header.{half};
 use byteorder::{BigEndian, ByteOrder};
 
 /// The number of four bytes at `at`.
+#[inline(always)]
 pub(crate) fn word_at(bytes: &[u8], at: usize) -> u32
     requires { at + 4 ≤ length bytes.now }
     ensures { result ≡ word bytes.now at }
@@ -14,6 +15,7 @@ pub(crate) fn word_at(bytes: &[u8], at: usize) -> u32
 }
 
 /// The number of two bytes at `at`.
+#[inline(always)]
 pub(crate) fn half_at(bytes: &[u8], at: usize) -> usize
     requires { at + 2 ≤ length bytes.now }
     ensures value { result ≡ half bytes.now at }

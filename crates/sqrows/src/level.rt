@@ -39,6 +39,7 @@ pub(crate) struct Level {
 }
 
 /// Where the header of a b-tree page begins in page `number`.
+#[inline(always)]
 pub(crate) fn head(number: u32) -> usize
     ensures value { result ≡ head_at number }
     ensures early { result ≤ 100 }
@@ -47,6 +48,7 @@ pub(crate) fn head(number: u32) -> usize
 }
 
 /// Where the pointers to the cells begin.
+#[inline(always)]
 fn pointers(kind: Kind, number: u32) -> usize
     ensures value { result ≡ pointers_at kind number }
     ensures early { result ≤ 112 }
@@ -55,6 +57,7 @@ fn pointers(kind: Kind, number: u32) -> usize
 }
 
 /// How many cells there are.
+#[inline(always)]
 pub(crate) fn count(used: &[u8], number: u32) -> usize
     requires { 480 ≤ length used.now }
     ensures value { result ≡ cell_count_in used.now number }
@@ -64,6 +67,7 @@ pub(crate) fn count(used: &[u8], number: u32) -> usize
 }
 
 /// Where cell `i` begins.
+#[inline(always)]
 pub(crate) fn pointer(kind: Kind, used: &[u8], number: u32, i: usize) -> usize
     requires least { 480 ≤ length used.now }
     requires pointers { pointers_end_in kind used.now number ≤ length used.now }
@@ -93,6 +97,7 @@ pub(crate) fn kind_in(used: &[u8], number: u32) -> Result<Kind, Fault>
 }
 
 /// Step `j` of a page of a kind.
+#[inline(always)]
 pub(crate) fn step_at(kind: Kind, j: usize) -> Step
     ensures { result ≡ step_of kind j }
 {
@@ -108,6 +113,7 @@ pub(crate) fn step_at(kind: Kind, j: usize) -> Step
 }
 
 /// How many steps a page of a kind has.
+#[inline(always)]
 pub(crate) fn steps(kind: Kind, cells: usize) -> usize
     requires { cells < 65536 }
     ensures value { result ≡ step_count kind cells }

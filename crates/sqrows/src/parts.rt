@@ -8,6 +8,7 @@ use sqpage::{Kind, Parts, split};
 use sqval::varint;
 
 /// How many bytes of a payload lie in its cell.
+#[inline(always)]
 #[tactic(auto, unfolding(sqpage::specs::Page::local_size))]
 fn local_part(kind: Kind, usable: u32, payload: u64) -> u64
     requires least { 480 ≤ usable }
@@ -26,6 +27,7 @@ fn local_part(kind: Kind, usable: u32, payload: u64) -> u64
 
 /// A number of four bytes from `from` on and its end, or 0 in no byte where it isn't present. None where it
 /// isn't in `used`.
+#[inline(always)]
 fn four_bytes(present: bool, used: &[u8], from: usize) -> Option<(u32, usize)>
     requires { from < 2 ^ 32 }
     ensures found { (number to : ℕ) → (result ≡ Some (number, to)) ↔ FourBytes present used.now from to number }
@@ -41,6 +43,7 @@ fn four_bytes(present: bool, used: &[u8], from: usize) -> Option<(u32, usize)>
 }
 
 /// A varint from `from` on and its end, or 0 in no byte where it isn't present. None where none is in `used`.
+#[inline(always)]
 fn varint_at(present: bool, used: &[u8], from: usize) -> Option<(u64, usize)>
     requires { from < 2 ^ 32 }
     ensures found { (number to : ℕ) → (result ≡ Some (number, to)) ↔ VarintAt present used.now from to number }
@@ -59,6 +62,7 @@ fn varint_at(present: bool, used: &[u8], from: usize) -> Option<(u64, usize)>
 }
 
 /// The parts of the cell that begins at `at`. None where it doesn't end in `used`, the usable part of a page.
+#[inline(always)]
 pub(crate) fn parts_at(kind: Kind, used: &[u8], at: usize) -> Option<Parts>
     requires least { 480 ≤ length used.now }
     requires most { length used.now ≤ 65536 }

@@ -4,7 +4,7 @@ ghost use Rattle.sqpage.specs.Page.{cell_count_in, pointer_in, pointers_end_in, 
 ghost use Rattle.sqpage.specs.Chain.{payload_size};
 ghost use Rattle.sqpage.specs.declared.cell.Cell.{Cell};
 ghost use Rattle.sqcheck.specs.Places.{IsCellAt};
-ghost use Rattle.sqrows.specs.Trees.{IsChild, step_of};
+ghost use Rattle.sqrows.specs.Trees.{IsChild, step_count, step_of};
 ghost use Rattle.sqrows.specs.Cursor.{page_of, steps_of};
 
 use crate::bytes::word_at;
@@ -13,6 +13,7 @@ use crate::parts::parts_at;
 use sqpage::{Cell, Kind, Parts};
 
 /// Cell `i` of a page, of which these are the parts.
+#[inline(always)]
 fn cell_with<'a>(kind: Kind, used: &'a [u8], number: u32, i: usize, parts: &Parts) -> Cell<'a>
     requires sized { (480 ≤ length used.now) × (length used.now ≤ 65536) }
     requires pointers { pointers_end_in kind used.now number ≤ length used.now }
@@ -33,8 +34,9 @@ fn cell_with<'a>(kind: Kind, used: &'a [u8], number: u32, i: usize, parts: &Part
     }
 }
 
-/// Cell `i` of a page. None where the page has none, or where it leaves the usable part.
-fn cell_at(kind: Kind, used: &[u8], number: u32, i: usize) -> Option<Cell<'_>>
+/// Cell `i` of a page of one kind, which a caller names, so that each kind has code of its own.
+#[inline(always)]
+fn cell_of(kind: Kind, used: &[u8], number: u32, i: usize) -> Option<Cell<'_>>
     requires sized { (480 ≤ length used.now) × (length used.now ≤ 65536) }
     requires pointers { pointers_end_in kind used.now number ≤ length used.now }
     ensures cell { MatchOption result
@@ -52,8 +54,41 @@ fn cell_at(kind: Kind, used: &[u8], number: u32, i: usize) -> Option<Cell<'_>>
     }
 }
 
+/// Cell `i` of a page. None where the page has none, or where it leaves the usable part.
+#[inline(always)]
+fn cell_at(kind: Kind, used: &[u8], number: u32, i: usize) -> Option<Cell<'_>>
+    requires sized { (480 ≤ length used.now) × (length used.now ≤ 65536) }
+    requires pointers { pointers_end_in kind used.now number ≤ length used.now }
+    ensures cell { MatchOption result
+        ((cell : Cell) → ¬ IsCellAt (record { used = used.now; number = number; kind = kind }) i cell)
+        (IsCellAt (record { used = used.now; number = number; kind = kind }) i) }
+    ensures part { IfSome result (λ cell. length cell.local.now ≤ payload_size cell) }
+{
+    match kind {
+        Kind::TableLeaf => cell_of(Kind::TableLeaf, used, number, i),
+        Kind::IndexLeaf => cell_of(Kind::IndexLeaf, used, number, i),
+        Kind::TableInterior => cell_of(Kind::TableInterior, used, number, i),
+        Kind::IndexInterior => cell_of(Kind::IndexInterior, used, number, i),
+    }
+}
+
+/// The step at this index of a page of one kind, which a caller names, with so many cells. None where none is left.
+#[inline(always)]
+fn next_step(kind: Kind, cells: usize, index: usize) -> Option<Step>
+    requires { cells < 65536 }
+    ensures some { IfSome result (λ step. (index < step_count kind cells) × (step ≡ step_of kind index)) }
+    ensures none { IfNone result (step_count kind cells ≤ index) }
+{
+    if index < steps(kind, cells) {
+        Some(step_at(kind, index))
+    } else {
+        None
+    }
+}
+
 impl Level {
     /// What of the page is used.
+    #[inline(always)]
     fn used(&self) -> &[u8]
         ensures value { result.now ≡ (page_of self.now).used }
         ensures length { length result.now ≡ self.now.usable }
@@ -62,20 +97,23 @@ impl Level {
     }
 
     /// The step that comes next. None where none is left.
+    #[inline(always)]
     pub fn step(&self) -> Option<Step>
         ensures some { IfSome result (λ step. (self.now.index < steps_of self.now)
             × (step ≡ step_of self.now.kind self.now.index)) }
         ensures none { IfNone result (steps_of self.now ≤ self.now.index) }
     {
-        let steps = steps(self.kind, count(self.used(), self.number));
-        if self.index < steps {
-            Some(step_at(self.kind, self.index))
-        } else {
-            None
+        let cells = count(self.used(), self.number);
+        match self.kind {
+            Kind::TableLeaf => next_step(Kind::TableLeaf, cells, self.index),
+            Kind::IndexLeaf => next_step(Kind::IndexLeaf, cells, self.index),
+            Kind::TableInterior => next_step(Kind::TableInterior, cells, self.index),
+            Kind::IndexInterior => next_step(Kind::IndexInterior, cells, self.index),
         }
     }
 
     /// Cell `i`. None where the page has none, or where it leaves the usable part.
+    #[inline(always)]
     pub fn cell(&self, i: usize) -> Option<Cell<'_>>
         ensures cell { MatchOption result ((cell : Cell) → ¬ IsCellAt (page_of self.now) i cell)
             (IsCellAt (page_of self.now) i) }

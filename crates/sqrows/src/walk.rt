@@ -207,6 +207,7 @@ impl Cells {
     }
 
     /// Goes on to the next cell, and answers its index in the lowest page. None where none is left.
+    #[inline(always)]
     fn seek<S: PageSource>(&mut self, source: &mut S) -> Result<Option<usize>, CheckError>
         requires sized { S.size source.old ≡ self.old.size }
         ensures ok { S.gives_pages source.old → IsOver (S.pages source.old) self.old
@@ -235,6 +236,7 @@ impl Cells {
     /// PageOutside and Depth (a level above 20), and by PageTwice where the tree has more pages than the database, so
     /// that it names one twice; by Source where a page could not be read, and by NoMemory. After a refusal it isn't to
     /// be called again.
+    #[inline(always)]
     pub fn advance<S: PageSource>(&mut self, source: &mut S) -> Result<bool, CheckError>
         requires sized { S.size source.old ≡ self.old.size }
         // It is at the first of those that were left, and the others are left now; or none was left. So where a walk
@@ -262,6 +264,7 @@ impl Cells {
     }
 
     /// The index in its page of the cell that `advance` came to last.
+    #[inline(always)]
     pub fn index(&self) -> usize
         ensures { result ≡ self.now.at }
     {
@@ -269,6 +272,7 @@ impl Cells {
     }
 
     /// The cell that `advance` came to last. Refused by CellOutside at its page, and where there is none.
+    #[inline(always)]
     pub fn cell(&self) -> Result<Cell<'_>, CheckError>
         ensures ok { IfOk result (λ cell. IsCellAt (page_of self.now.top) self.now.at cell
             × ((e : Entry) → IsAt self.now e ↔ (e ≡ entry_of self.now.at cell))) }

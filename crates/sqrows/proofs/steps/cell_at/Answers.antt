@@ -1,13 +1,27 @@
-use Rattle.std.proofs.Common.{subst, refl}
-use Rattle.sqpage.specs.Page.{pointer_in, HasParts}
-use Rattle.sqpage.proofs.btree.PartsOfCells.{has_no_cell}
+use Rattle.std.proofs.Common.{ℕ, List, Option, MatchOption, subst, sym}
+use Rattle.sqpage.specs.declared.kind.Kind.{Kind}
+use Rattle.sqpage.specs.declared.cell.Cell.{Cell}
+use Rattle.sqcheck.specs.Places.{IsCellAt}
 use Rattle.sqrows.proofs.steps.cell_at.Goals as goal
 
-pub cell_with-requires-clause-parts : goal.cell_with-requires-clause-parts
-cell_with-requires-clause-parts c =
-    subst (λ at. HasParts c.args.kind c.args.used.now at c.in-Some.parts) c.pointer-at.ensures.value ((c.in-Some.ensures.found c.in-Some.parts).0 refl)
+-- the result is cell i of a page of this kind, where it has one
+abbrev Answers : (used : List ℕ) (number i : ℕ) → Option Cell → Kind → Type 0
+Answers used number i result kind =
+    MatchOption result ((cell : Cell) → ¬ IsCellAt (record { used = used; number = number; kind = kind }) i cell)
+    (IsCellAt (record { used = used; number = number; kind = kind }) i)
 
-pub returns-in-None-clause-cell : goal.returns-in-None-clause-cell
-returns-in-None-clause-cell c = λ cell is.
-    has_no_cell c.args.kind c.args.used.now c.pointer-at.result (pointer_in c.args.kind c.args.used.now c.args.number c.args.i) c.parts_at.result c.pointer-at.ensures.value c.parts_at.ensures.found c.in-None.is
-    (is.1.parts, is.1.has)
+pub returns-in-TableLeaf-clause-cell : goal.returns-in-TableLeaf-clause-cell
+returns-in-TableLeaf-clause-cell c =
+    subst (Answers c.args.used.now c.args.number c.args.i c.cell_of.result) (sym c.in-TableLeaf.is) c.cell_of.ensures.cell
+
+pub returns-in-IndexLeaf-clause-cell : goal.returns-in-IndexLeaf-clause-cell
+returns-in-IndexLeaf-clause-cell c =
+    subst (Answers c.args.used.now c.args.number c.args.i c.cell_of-in-IndexLeaf.result) (sym c.in-IndexLeaf.is) c.cell_of-in-IndexLeaf.ensures.cell
+
+pub returns-in-TableInterior-clause-cell : goal.returns-in-TableInterior-clause-cell
+returns-in-TableInterior-clause-cell c =
+    subst (Answers c.args.used.now c.args.number c.args.i c.cell_of-in-TableInterior.result) (sym c.in-TableInterior.is) c.cell_of-in-TableInterior.ensures.cell
+
+pub returns-in-IndexInterior-clause-cell : goal.returns-in-IndexInterior-clause-cell
+returns-in-IndexInterior-clause-cell c =
+    subst (Answers c.args.used.now c.args.number c.args.i c.cell_of-in-IndexInterior.result) (sym c.in-IndexInterior.is) c.cell_of-in-IndexInterior.ensures.cell
