@@ -5,3 +5,4 @@ pub mod UsesOfPages
 pub mod SoundTrees
 pub mod Refusals
 pub mod RootsOfTrees
+pub mod FormedColumns

@@ -1,3 +1,4 @@
 -- What no public clause reaches.
 pub mod Uses
+pub mod Columns
 pub mod Judging

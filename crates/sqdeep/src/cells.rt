@@ -33,6 +33,7 @@ fn at_cell(cell: &Cell, i: usize, fault: InnerFault) -> DeepError
 }
 
 /// The payload of a cell where all of it lies there.
+#[inline(always)]
 fn whole_of<'a>(cell: &Cell<'a>) -> Option<&'a [u8]>
     requires least { 480 ≤ cell.now.usable }
     requires part { length cell.now.local.now ≤ payload_size cell.now }
@@ -46,6 +47,7 @@ fn whole_of<'a>(cell: &Cell<'a>) -> Option<&'a [u8]>
 }
 
 /// Judges the payload of cell `i`. Refused by TooLong, NotRecord and TextForm, the first that applies.
+#[inline(always)]
 fn judge_payload(encoding: Encoding, cell: &Cell, i: usize, bytes: &[u8]) -> Result<(), DeepError>
     ensures ok { OnOk result (IsFormedRecord encoding bytes.now) }
     ensures err { IfErr result (PayloadTells encoding cell.now i bytes.now) }
@@ -58,6 +60,7 @@ fn judge_payload(encoding: Encoding, cell: &Cell, i: usize, bytes: &[u8]) -> Res
 
 /// Judges cell `i` of a page, and its payload where it has one. Refused by ShortCell, TooLong, NotRecord and TextForm,
 /// the first that applies, by Source and NoMemory. `content` is room for the payload.
+#[inline(always)]
 fn judge_cell<V: Snapshot, S: PageSource>(
     alloc: Global,
     source: &mut S,
@@ -88,7 +91,9 @@ fn judge_cell<V: Snapshot, S: PageSource>(
         return judge_payload(encoding, cell, i, bytes);
     }
     content.clear();
-    match payload(alloc, source, cell, content) {
+    // A copy, so that the parts of a cell that lies whole in its page stay in registers.
+    let chained = *cell;
+    match payload(alloc, source, &chained, content) {
         Ok(()) => judge_payload(encoding, cell, i, content),
         Err(refusal) => Err(DeepError::Check(refusal)),
     }
