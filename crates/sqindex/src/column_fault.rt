@@ -14,6 +14,7 @@ use sqlite_record::fields::Fields;
 use sqlite_value::value::ValueRef;
 
 /// Whether a column that accepts these takes a value that isn't NULL.
+#[inline(always)]
 fn takes(accepts: Accepts, value: ValueRef<'_>) -> bool
     ensures { result ≡ takes accepts (owned value.entry) }
 {
@@ -43,6 +44,7 @@ fn fault_under(accepts: Accepts) -> RowFault
 }
 
 /// What is wrong with a value in its column.
+#[inline(always)]
 fn fault_at(rule: &ColumnRule, value: ValueRef<'_>) -> Option<RowFault>
     ensures { result ≡ fault_at rule.now (owned value.entry) }
 {
@@ -75,6 +77,7 @@ fn fault_of_default(rule: &ColumnRule) -> Option<RowFault>
 }
 
 /// What is wrong with what a row stores in a column, or with its default.
+#[inline(always)]
 fn fault_of(rule: &ColumnRule, stored: Option<ValueRef<'_>>) -> Option<RowFault>
     ensures { result ≡ fault_of rule.now (option_map owned stored.entry) }
 {

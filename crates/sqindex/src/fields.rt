@@ -28,6 +28,7 @@ pub(crate) fn lent(value: &Value) -> ValueRef<'_>
 }
 
 /// The value `at` of a record, from 0. None behind the last one.
+#[inline(always)]
 fn field(record: &[u8], at: usize) -> Option<ValueRef<'_>>
     ensures { option_map owned result ≡ slice_get (decode record.now) at }
 {
@@ -41,6 +42,7 @@ fn field(record: &[u8], at: usize) -> Option<ValueRef<'_>>
 }
 
 /// The value of a column in a row that is this record.
+#[inline(always)]
 pub(crate) fn value_in<'a>(column: &'a KeyColumn, rowid: i64, row: &'a [u8]) -> ValueRef<'a>
     ensures { owned result ≡ value_at column.now rowid (decode row.now) }
 {
@@ -54,6 +56,7 @@ pub(crate) fn value_in<'a>(column: &'a KeyColumn, rowid: i64, row: &'a [u8]) -> 
 }
 
 /// The integer that a value is.
+#[inline(always)]
 fn integer(value: ValueRef<'_>) -> Option<i64>
     ensures { MatchOption result ((n : ℤ) → owned value.entry ≢ Int n) (λ n. owned value.entry ≡ Int n) }
 {

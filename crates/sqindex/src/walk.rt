@@ -34,6 +34,7 @@ pub(crate) struct Walk {
 }
 
 /// Whether the payload of a cell lies whole in it.
+#[inline(always)]
 fn is_whole(cell: &Cell) -> bool
     ensures { IsTrue result → (payload_size cell.now ≡ length cell.now.local.now) × (cell.now.overflow ≡ 0) }
 {
@@ -41,6 +42,7 @@ fn is_whole(cell: &Cell) -> bool
 }
 
 /// Reads the payload of a cell of at most `limit` bytes into `out`, in the place of what is there, as `payload_into`.
+#[inline(always)]
 fn load_into<S: PageSource>(
     alloc: Global,
     source: &mut S,
@@ -61,7 +63,9 @@ fn load_into<S: PageSource>(
             Err(_) => {}
         }
     }
-    payload_into(alloc, source, cell, limit, out)
+    // A copy, so that the parts of a cell that lies whole in its page stay in registers.
+    let chained = *cell;
+    payload_into(alloc, source, &chained, limit, out)
 }
 
 impl Walk {
@@ -88,6 +92,7 @@ impl Walk {
     }
 
     /// Reads the payload of the cell that the walk is at.
+    #[inline(always)]
     fn load<S: PageSource>(&mut self, source: &mut S) -> Result<Found, RowsError>
         requires sized { S.size source.old ≡ self.old.cells.size }
         requires own { has_payload self.old.cells.top.kind ≡ true }
