@@ -39,11 +39,11 @@ pub formed_more : (encoding : Encoding) (serial taken : ℕ) (types behind body 
     → (IsInternal serial → ⊥) → behind ≡ body ++ others → length body ≡ body_size serial → IsFormed encoding (held serial body)
     → AreFormedColumns encoding (drop taken types) others → AreFormedColumns encoding types behind
 formed_more encoding serial taken types behind body others begins outer parts size formed more = (
-    serial ∷ more.0,
-    held serial body ∷ more.1,
-    (taken, begins, outer, more.2),
-    (body, others, more.1, parts, size, refl, more.3),
-    (formed, more.4),
+  serial ∷ more.0,
+  held serial body ∷ more.1,
+  (taken, begins, outer, more.2),
+  (body, others, more.1, parts, size, refl, more.3),
+  (formed, more.4),
 )
 
 -- no column, and no body
@@ -54,14 +54,14 @@ formed_none encoding = ([], [], refl, (refl, refl), tt)
 pub formed_record : (encoding : Encoding) (bytes : List ℕ) (header size : ℕ) → HasHeader header size bytes
     → AreFormedColumns encoding (drop size (take header bytes)) (drop header bytes) → IsFormedRecord encoding bytes
 formed_record encoding bytes header size has formed = (
-    formed.1,
-    record {
-      types = formed.0;
-      bodies = drop header bytes;
-      reads = record { header = header; size = size; has = has; leads = formed.2; behind = refl };
-      holds = formed.3;
-    },
-    formed.4,
+  formed.1,
+  record {
+    types = formed.0;
+    bodies = drop header bytes;
+    reads = record { header = header; size = size; has = has; leads = formed.2; behind = refl };
+    holds = formed.3;
+  },
+  formed.4,
 )
 
 -- what is behind a varint is shorter
