@@ -1,3 +1,4 @@
 pub mod LeavesOfFreelist
 pub mod NumberedCommits
 pub mod JudgmentOfFiles
+pub mod KnownPages

@@ -1,14 +1,17 @@
 //! The committed databases of a run, and which of them is shown (own).
 ghost use Rattle.std.specs.Prelude.{◌≡◌, ◌↔◌, ℕ, List, [], ◌∷◌, ◌++◌, length, map, OnOk, OnErr, IfOk, IfErr, IsTrue};
 ghost use Rattle.sqpage.specs.Source.{KeepsPages};
-ghost use Rattle.sqview.specs.LogView.{ViewRefused};
+ghost use Rattle.sqview.specs.LogView.{ViewRefused, pages_of};
 ghost use Rattle.rig_judge.specs.declared.error.SnapshotError.TheVariants.{NoMemory};
-ghost use Rattle.rig_judge.specs.Shown.{IsAdded, IsLastShown, IsNoted, ShowsLast, commit_of, commits_of};
+ghost use Rattle.sqview.specs.Shapes.{shape_of};
+ghost use Rattle.rig_judge.specs.Near.{IsNear, last_of};
+ghost use Rattle.rig_judge.specs.Shown.{IsAdded, IsLastShown, IsNoted, IsTaken, ShowsLast, commit_of, commits_of};
 
 use crate::error::SnapshotError;
+use crate::near::Near;
 use crate::snapshot::Snapshot;
 use sqpage::PageSource;
-use sqview::{View, ViewError};
+use sqview::{FileBytes, View, ViewError};
 use std::alloc::Global;
 
 /// The committed databases of a run, the oldest first. Commit 0 is what was there when it began.
@@ -90,18 +93,29 @@ impl History {
         None
     }
 
-    /// Whether the last commit is shown by a source.
-    fn ends_with<S: PageSource>(&self, alloc: Global, source: &mut S) -> Result<bool, SnapshotError>
-        ensures shown { S.gives_pages source.old
-            → IfOk result (λ shown. IsTrue shown ↔ ShowsLast (commits_of self.now) (S.pages source.old)) }
-        ensures memory { S.gives_pages source.old → IfErr result (λ e. e ≡ NoMemory) }
-        ensures keeps { KeepsPages S.pages S.size S.reads_right S.gives_pages source.old source.new }
+    /// Whether the last commit is shown by a view, of whose database file these pages are known to be as there.
+    fn ends_with<F: FileBytes>(
+        &self,
+        alloc: Global,
+        view: &mut View<F>,
+        near: &mut Near,
+    ) -> Result<bool, SnapshotError>
+        ensures shown { F.gives_bytes view.old.db × F.gives_bytes view.old.log
+            → IsNear (last_of (commits_of self.now)) (F.bytes view.old.db) near.old
+            → IfOk result (λ shown. IsTrue shown ↔ ShowsLast (commits_of self.now) (pages_of F.bytes view.old)) }
+        ensures near { F.gives_bytes view.old.db × F.gives_bytes view.old.log
+            → IsNear (last_of (commits_of self.now)) (F.bytes view.old.db) near.old
+            → IsNear (last_of (commits_of self.now)) (F.bytes view.old.db) near.new }
+        ensures memory { F.gives_bytes view.old.db × F.gives_bytes view.old.log → IfErr result (λ e. e ≡ NoMemory) }
+        ensures same { shape_of F.bytes view.new ≡ shape_of F.bytes view.old }
+        ensures still_gives { F.gives_bytes view.old.db × F.gives_bytes view.old.log
+            → F.gives_bytes view.new.db × F.gives_bytes view.new.log }
     {
         let count = self.commits.len();
         if count == 0 {
             return Ok(false);
         }
-        self.commits[count - 1].is_shown(alloc, source)
+        self.commits[count - 1].is_shown_near(alloc, view, near)
     }
 
     /// Whether the last commit has no pages.
@@ -115,21 +129,39 @@ impl History {
         self.commits[count - 1].is_empty()
     }
 
-    /// Takes the database of a source where it isn't the last commit's. Answers whether it was taken.
-    fn note_source<S: PageSource>(
-        &mut self,
-        alloc: Global,
-        source: &mut S,
-    ) -> Result<bool, SnapshotError>
-        ensures noted { S.gives_pages source.old
-            → IfOk result (λ taken. IsAdded (S.pages source.old) taken (commits_of self.old) (commits_of self.new)) }
-        ensures err { OnErr result (commits_of self.new ≡ commits_of self.old) }
+    /// The database of a source, beside the last commit.
+    fn take<S: PageSource>(&self, alloc: Global, source: &mut S) -> Result<Snapshot, SnapshotError>
+        ensures taken { S.gives_pages source.old → IfOk result (λ s. IsTaken (S.pages source.old) (commit_of s)) }
         ensures memory { S.gives_pages source.old → IfErr result (λ e. e ≡ NoMemory) }
     {
-        if self.ends_with(alloc, source)? {
+        match self.commits.last() {
+            Some(last) => last.take_next(alloc, source),
+            None => Snapshot::take(alloc, source),
+        }
+    }
+
+    /// Takes the database of a view where it isn't the last commit's. Answers whether it was taken. These pages of its
+    /// database file are known to be as in the last commit, before and after that.
+    fn note_view<F: FileBytes>(
+        &mut self,
+        alloc: Global,
+        view: &mut View<F>,
+        near: &mut Near,
+    ) -> Result<bool, SnapshotError>
+        ensures noted { F.gives_bytes view.old.db × F.gives_bytes view.old.log
+            → IsNear (last_of (commits_of self.old)) (F.bytes view.old.db) near.old → IfOk result
+            (λ taken. IsAdded (pages_of F.bytes view.old) taken (commits_of self.old) (commits_of self.new)) }
+        ensures near { F.gives_bytes view.old.db × F.gives_bytes view.old.log
+            → IsNear (last_of (commits_of self.old)) (F.bytes view.old.db) near.old
+            → IsNear (last_of (commits_of self.new)) (F.bytes view.old.db) near.new }
+        ensures err { OnErr result (commits_of self.new ≡ commits_of self.old) }
+        ensures memory { F.gives_bytes view.old.db × F.gives_bytes view.old.log → IfErr result (λ e. e ≡ NoMemory) }
+    {
+        if self.ends_with(alloc, view, near)? {
             return Ok(false);
         }
-        let commit = Snapshot::take(alloc, source)?;
+        let commit = self.take(alloc, view)?;
+        near.forget();
         self.push(commit)?;
         Ok(true)
     }
@@ -186,9 +218,33 @@ impl History {
         ensures err { OnErr result (commits_of self.new ≡ commits_of self.old) }
         ensures memory { IfErr result (λ e. e ≡ NoMemory) }
     {
+        let mut near = Near::none(alloc);
+        self.note_near(alloc, &mut near, db, wal, journal)
+    }
+
+    /// The same where these pages of the database file are known to be as in the last commit. They aren't compared
+    /// again, and it is known then which are as in what is the last commit behind that (own).
+    pub fn note_near(
+        &mut self,
+        alloc: Global,
+        near: &mut Near,
+        db: &[u8],
+        wal: &[u8],
+        journal: &[u8],
+    ) -> Result<bool, SnapshotError>
+        ensures noted { IsNear (last_of (commits_of self.old)) db.now near.old → IfOk result
+            (λ taken. IsNoted db.now wal.now journal.now taken (commits_of self.old) (commits_of self.new)) }
+        ensures near { IsNear (last_of (commits_of self.old)) db.now near.old
+            → IsNear (last_of (commits_of self.new)) db.now near.new }
+        ensures err { OnErr result (commits_of self.new ≡ commits_of self.old) }
+        ensures memory { IfErr result (λ e. e ≡ NoMemory) }
+    {
         match View::new(alloc, db, wal, journal) {
-            Ok(mut view) => self.note_source(alloc, &mut view),
-            Err(refusal) => self.note_refused(alloc, db.is_empty(), refusal),
+            Ok(mut view) => self.note_view(alloc, &mut view, near),
+            Err(refusal) => {
+                near.forget();
+                self.note_refused(alloc, db.is_empty(), refusal)
+            }
         }
     }
 }

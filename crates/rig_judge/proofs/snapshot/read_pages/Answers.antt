@@ -4,14 +4,14 @@ use Rattle.sqpage.proofs.file.PagesInMemory.{keeps_on}
 use Rattle.rig_judge.proofs.NumberedCommits.{page_more}
 use Rattle.rig_judge.proofs.snapshot.read_pages.Goals as goal
 
-pub loop-before-preserved : goal.loop-before-preserved
-loop-before-preserved g c =
+pub loop-i-preserved : goal.loop-i-preserved
+loop-i-preserved g c =
     let d = g.S.PageSource.pages c.args.source.now in
-    let n = c.loop-before.before in
-    let was = c.loop-before.invariant in (
+    let n = c.loop-i.i in
+    let was = c.loop-i.invariant in (
       keeps_on was.0 c.read.ensures.keeps,
       λ gives.
-          let value : c.in_ok-read.field-0 ≡ page d (n + 1) = c.in_ok-read.ensures.read (was.0.still_gives gives) ∙ ap (λ (x : Database). page x (n + 1)) was.0.same_pages in
-          let less : n < length d = omega (arith, c.loop-before-test.true, c.count-before-end.ensures) in
-          page_more d n c.loop-before.pages.items c.push.new.self.items c.in_ok-read.field-0 less (was.1 gives) c.in_ok-push.ensures.items value,
+          let value : c.in_ok-page.page ≡ page d (n + 1) = c.in_ok-page.ensures.same ∙ c.in_ok-read.ensures.read (was.0.still_gives gives) ∙ ap (λ (x : Database). page x (n + 1)) was.0.same_pages in
+          let less : n < length d = omega (arith, c.loop-i-test.true, c.count-i-end.ensures) in
+          page_more d n c.loop-i.pages.items c.push.new.self.items c.in_ok-page.page less (was.1 gives) c.in_ok-push.ensures.items value,
     )
