@@ -1,11 +1,10 @@
-use Rattle.std.proofs.Common.{◌≡◌, ℕ, ◌+◌, ◌++◌, ◌<◌, refl, List, length, take, drop, sym, ◌∙◌, ap, subst, arith}
+use Rattle.std.proofs.Common.{◌≡◌, ℕ, ◌+◌, ◌++◌, ◌<◌, refl, List, length, take, drop, ◌∙◌, ap, subst, arith}
 use Rattle.std.proofs.lemmas.List.{take_at}
 use Rattle.sqval.specs.Database.{Database, page}
 use Rattle.sqview.specs.Laid.{place_of}
 use Rattle.sqview.specs.LogView.{pages_of}
 use Rattle.sqview.specs.Shapes.{Shape}
 use Rattle.sqview.proofs.openings.PagesOfView.{length_laid, ok_now, same_pages}
-use Rattle.rig_judge.specs.Near.{IsNear}
 use Rattle.rig_judge.specs.Shown.{AgreesAt, commit_of}
 use Rattle.rig_judge.proofs.KnownPages.{known_agrees, known_too}
 use Rattle.rig_judge.proofs.NumberedCommits.{more_agree}
