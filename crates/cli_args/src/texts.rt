@@ -47,6 +47,7 @@ pub(crate) const DIFF: &str = "Examples:
   sqrescue diff ledger.db --from 4 --to 8    those that changed between two commits of it
   sqrescue diff ledger.db --commits          those that each commit changed
   sqrescue diff ledger.db --to 8 --sql       SQL that makes the rows at commit frame 8 of those in the file
+  sqrescue diff ledger.db --deleted          which cells of deleted rows the log brought, or wrote over
 
 Exit status: 0 done; 1 damaged; 2 not understood; 3 refused.";
 

@@ -3,6 +3,7 @@
 
 mod changes;
 mod deleted;
+mod deleted_changes;
 mod history;
 mod kept;
 mod kept_element;
@@ -13,6 +14,7 @@ mod salvage;
 
 pub use changes::show_changes;
 pub use deleted::show_deleted;
+pub use deleted_changes::show_deleted_changes;
 pub use history::show_history;
 pub use kept::{Ended, Kept, keep_history};
 pub use kept_page::{CHANGES_HEAD, CHANGES_TAIL};

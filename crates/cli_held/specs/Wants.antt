@@ -4,7 +4,7 @@ use Rattle.std.specs.Borrow.{Bor}
 use Rattle.sqlocks.specs.declared.plan.Want.{Want}
 use Rattle.sqlocks.specs.declared.plan.Want.TheVariants.{Read, Recover as ToRecover}
 use Rattle.cli_words.specs.declared.requests.Request.{Request}
-use Rattle.cli_words.specs.declared.requests.Request.TheVariants.{Show, Check, Rows, Cells, Diff, Recover, Report, Salvage, Version}
+use Rattle.cli_words.specs.declared.requests.Request.TheVariants.{Show, Check, Rows, Cells, Diff, DeletedDiff, Recover, Report, Salvage, Version}
 
 -- a recovery in place that isn't forced wants those of a recovery, and all else that reads a file a reader's
 abbrev pub Wants : Request → Want → (file : Bor (List ℕ)) → Type 0
@@ -13,6 +13,7 @@ Wants (Check of deep options) want file = (want ≡ Read) × (file.now ≡ of.no
 Wants (Rows of table form options) want file = (want ≡ Read) × (file.now ≡ of.now)
 Wants (Cells of cells options) want file = (want ≡ Read) × (file.now ≡ of.now)
 Wants (Diff of compared options) want file = (want ≡ Read) × (file.now ≡ of.now)
+Wants (DeletedDiff of between options) want file = (want ≡ Read) × (file.now ≡ of.now)
 Wants (Report of to changes options) want file = (want ≡ Read) × (file.now ≡ of.now)
 Wants (Salvage of to places options) want file = (want ≡ Read) × (file.now ≡ of.now)
 Wants (Recover of (Some to) force options) want file = (want ≡ Read) × (file.now ≡ of.now)

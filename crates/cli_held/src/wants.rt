@@ -16,6 +16,7 @@ pub fn wanted<'a>(request: &Request<'a>) -> Option<(Want, &'a str)>
         | Request::Rows { file, .. }
         | Request::Cells { file, .. }
         | Request::Diff { file, .. }
+        | Request::DeletedDiff { file, .. }
         | Request::Report { file, .. }
         | Request::Salvage { file, .. } => Some((Want::Read, *file)),
         Request::Recover {

@@ -16,20 +16,21 @@ use Rattle.sqdeleted.specs.declared.cursor.DeletedCells.{DeletedCells}
 use Rattle.cli_row_text.specs.declared.form.Form.{Form}
 use Rattle.cli_show_deleted.specs.Cells.{StandsIn, IsCellIn, AreCellsOf, places_of}
 use Rattle.cli_show_deleted.specs.Lines.{IsCellText, AreLines}
+use Rattle.cli_show_deleted.specs.declared.mark.Mark.TheVariants.{Stands}
 use Rattle.cli_show_deleted.specs.Printed.{IsTextOf}
 use Rattle.cli_show_deleted.specs.internal.Walks.{AreTold}
 
-lines_more : (form : Form) (cells : List DeletedCell) (cell : DeletedCell) (t own : List ℕ) → AreLines form cells t → IsCellText form cell own → AreLines form (cells ++ cell ∷ []) (t ++ own)
+lines_more : (form : Form) (cells : List DeletedCell) (cell : DeletedCell) (t own : List ℕ) → AreLines form cells t → IsCellText Stands form cell own → AreLines form (cells ++ cell ∷ []) (t ++ own)
 lines_more form [] cell t own are is = (own, [], is, refl, ap (λ z. z ++ own) are ∙ sym (append-nil own))
 lines_more form (first ∷ cells) cell t own are is =
     (are.0, are.1 ++ own, are.2, lines_more form cells cell are.1 own are.3 is, ap (λ z. z ++ own) are.4 ∙ append_assoc are.0 are.1 own)
 
-every_more : (P : DeletedCell → Type 0) (cells : List DeletedCell) (cell : DeletedCell) → Every P cells → P cell → Every P (cells ++ cell ∷ [])
+pub every_more : {A : Type 0} (P : A → Type 0) (cells : List A) (cell : A) → Every P cells → P cell → Every P (cells ++ cell ∷ [])
 every_more P [] cell all one = (one, tt)
 every_more P (first ∷ cells) cell all one = (all.0, every_more P cells cell all.1 one)
 
 -- the parts of a cell that is left, and what it begins
-left_parts : (s : DeletedCells) (at : ℕ) (c : Parts) → IsLeft s at c → HasParts TableLeaf s.used.now at c
+pub left_parts : (s : DeletedCells) (at : ℕ) (c : Parts) → IsLeft s at c → HasParts TableLeaf s.used.now at c
 left_parts s at c (inl stands) = stands.has
 left_parts s at c (inr w) = w.2.has
 
@@ -41,7 +42,7 @@ pub begins_cell : (old new : DeletedCells) (cell : DeletedCell) → CellsMove ol
 begins_cell old new cell (at, c, left, is, behind) =
     subst (λ (n : ℕ). BeginsRecord n cell.local.now) (sym is.payload) (subst (λ (l : List ℕ). BeginsRecord c.payload l) (sym is.local) (left_begins old at c left))
 
-cell_in : (s : DeletedCells) (at : ℕ) (c : Parts) (cell : DeletedCell) → IsLeft s at c → IsCellOf s.used.now s.number at c cell → IsCellIn s.used.now s.number cell
+pub cell_in : (s : DeletedCells) (at : ℕ) (c : Parts) (cell : DeletedCell) → IsLeft s at c → IsCellOf s.used.now s.number at c cell → IsCellIn s.used.now s.number cell
 cell_in s at c cell left is =
     let place : cell.at ≡ at = is.at in
     (c, subst (λ (n : ℕ). HasParts TableLeaf s.used.now n c) (sym place) (left_parts s at c left), subst (λ (n : ℕ). IsCellOf s.used.now s.number n c cell) (sym place) is)
@@ -62,7 +63,7 @@ walked_none start form out =
     record { told = []; text = []; used = refl; number = refl; moves = λ places left. left; each = tt; lines = refl; written = Appends-nil out }
 
 pub walked_more : (start now new : DeletedCells) (form : Form) (cell : DeletedCell) (own : List ℕ) (before mid after : Option (List ℕ)) → Walked start now form before mid
-    → CellsMove now new (Some cell) → new.used.now ≡ now.used.now → new.number ≡ now.number → IsCellText form cell own → Appends mid after own → Walked start new form before after
+    → CellsMove now new (Some cell) → new.used.now ≡ now.used.now → new.number ≡ now.number → IsCellText Stands form cell own → Appends mid after own → Walked start new form before after
 walked_more start now new form cell own before mid after w (at, c, left, is, behind) used number text appends =
     let one : IsCellIn now.used.now now.number cell = cell_in now at c cell left is in
     let here : IsCellIn start.used.now start.number cell =

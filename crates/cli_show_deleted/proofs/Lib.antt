@@ -6,3 +6,7 @@ pub mod CellsTold
 pub mod RolesOfPages
 -- Pages, one more at the end.
 pub mod PagesPrinted
+-- The deleted cells of a page with their bytes, one more at the end.
+pub mod CellsCollected
+-- What stands in one of two lists of cells alone, one turn after another.
+pub mod TurnsOfCells

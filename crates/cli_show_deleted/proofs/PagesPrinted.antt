@@ -2,7 +2,7 @@
 use Rattle.std.proofs.Common.{true, ◌≡◌, ◌⊎◌, ◌∙◌, ℕ, suc, ◌+◌, List, [], ◌++◌, Option, inl, inr, refl, sym, ap, subst, add-one}
 use Rattle.std.proofs.KnownBytes.{Appends-nil, Appends-trans}
 use Rattle.std.specs.Io.KnownBytes.{Appends}
-use Rattle.sqval.specs.Database.{Database}
+use Rattle.sqval.specs.Database.{Database, page}
 use Rattle.sqcheck.specs.Places.{used_in}
 use Rattle.sqpage.specs.declared.fault.CheckError.{CheckError}
 use Rattle.sqcheck.specs.Surveys.{SurveyRefusedWith, role_at}
@@ -10,8 +10,9 @@ use Rattle.sqcheck.specs.declared.survey.Survey.{Survey}
 use Rattle.sqcheck.specs.declared.role.Role.{Role}
 use Rattle.cli_row_text.specs.declared.form.Form.{Form}
 use Rattle.cli_show_rows.specs.declared.stop.Stop.{Stop}
-use Rattle.cli_show_rows.specs.declared.stop.Stop.TheVariants.{Fault, NoMemory}
-use Rattle.cli_show_deleted.specs.Printed.{AreDeletedStopped, AreTextsOf, IsRunOut, IsSurveyOf, IsTextOf, IsUnfit}
+use Rattle.cli_show_rows.specs.declared.stop.Stop.TheVariants.{Fault, Encoding, NoMemory}
+use Rattle.cli_show_deleted.specs.Printed.{AreTextsOf, IsRunOut, IsSurveyOf, IsTextOf, IsUnfit}
+use Rattle.cli_show_deleted.specs.internal.Opening.{IsUnlaid}
 
 -- the first pages were printed
 abbrev pub AreDone : Form → Database → List Role → (n : ℕ) → (before after : Option (List ℕ)) → Type 0
@@ -39,7 +40,16 @@ refused_same d e size last error pages sizes refused =
     subst (λ (n : ℕ). SurveyRefusedWith true d n error.fault error.page) sizes (subst (λ (x : Database). SurveyRefusedWith true x last error.fault error.page) pages refused)
 
 -- a fault of the survey ends it
-pub unfit : (d : Database) (size : ℕ) (error : CheckError) (stop : Stop) (out : Option (List ℕ)) → (stop ≡ NoMemory) ⊎ (stop ≡ Fault error)
-    → SurveyRefusedWith true d size error.fault error.page → AreDeletedStopped d size stop out out
-unfit d size error stop out (inl memory) refused = inl (subst IsRunOut (sym memory) tt)
-unfit d size error stop out (inr fault) refused = inr (subst (IsUnfit d size) (sym fault) (inl refused), refl)
+pub unfit : (d : Database) (size : ℕ) (error : CheckError) (stop : Stop) → (stop ≡ NoMemory) ⊎ (stop ≡ Fault error)
+    → SurveyRefusedWith true d size error.fault error.page → IsRunOut stop ⊎ IsUnfit d size stop
+unfit d size error stop (inl memory) refused = inl (subst IsRunOut (sym memory) tt)
+unfit d size error stop (inr fault) refused = inr (subst (IsUnfit d size) (sym fault) (inl refused))
+
+-- so does what page 1 says
+pub unlaid : (d : Database) (size : ℕ) (stop : Stop) → IsRunOut stop ⊎ IsUnlaid (page d 1) stop → IsRunOut stop ⊎ IsUnfit d size stop
+unlaid d size (Fault e) (inl out) = inl out
+unlaid d size (Fault e) (inr none) = inr (inr none)
+unlaid d size Encoding (inl out) = inl out
+unlaid d size Encoding (inr none) = inr none
+unlaid d size _ (inl out) = inl out
+unlaid d size _ (inr none) = absurd none

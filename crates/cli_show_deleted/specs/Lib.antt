@@ -1,4 +1,5 @@
 pub mod Cells
+pub mod Changes
 pub mod Lines
 pub mod Printed
 pub mod internal

@@ -8,11 +8,22 @@ use Rattle.cli_row_text.specs.declared.form.Notation.TheVariants.{Json}
 use Rattle.cli_row_text.specs.Lines.{AreTexts, integer_text}
 use Rattle.sqdeleted.specs.Deleted.{StandWhole}
 use Rattle.sqdeleted.specs.declared.cell.DeletedCell.{DeletedCell}
+use Rattle.cli_show_deleted.specs.declared.mark.Mark.{Mark}
+use Rattle.cli_show_deleted.specs.declared.mark.Mark.TheVariants.{Stands, Went, Came}
+
+-- what stands before the page of a cell: that it went, or came, where changes are told
+abbrev pub opening_text : Mark → Notation → List ℕ
+opening_text Stands Json = codes "{"
+opening_text Stands _ = []
+opening_text Went Json = codes "{\"change\":\"delete\","
+opening_text Went _ = codes "- "
+opening_text Came Json = codes "{\"change\":\"insert\","
+opening_text Came _ = codes "+ "
 
 -- the page of a cell and its place there, before its rowid
 abbrev pub place_text : Notation → DeletedCell → List ℕ
 place_text Json cell =
-    codes "{\"page\":" ++ (decimal cell.page ++ (codes ",\"at\":" ++ (decimal cell.at ++ (codes ",\"size\":" ++ (decimal cell.size ++ codes ",\"rowid\":")))))
+    codes "\"page\":" ++ (decimal cell.page ++ (codes ",\"at\":" ++ (decimal cell.at ++ (codes ",\"size\":" ++ (decimal cell.size ++ codes ",\"rowid\":")))))
 place_text _ cell = codes "page " ++ (decimal cell.page ++ (codes " at " ++ (decimal cell.at ++ codes " rowid ")))
 
 -- what stands between its rowid and its values
@@ -33,15 +44,16 @@ abbrev pub tail_text : Notation → DeletedCell → List ℕ
 tail_text notation cell = if nat_lt (length cell.local.now) cell.payload then cut_text notation cell.overflow else end_text notation
 
 -- a cell, of whose values this is the text
-abbrev pub text_with : Notation → DeletedCell → (all : List ℕ) → List ℕ
-text_with notation cell all = place_text notation cell ++ (integer_text notation cell.rowid ++ (colon_text notation ++ (all ++ tail_text notation cell)))
+abbrev pub text_with : Mark → Notation → DeletedCell → (all : List ℕ) → List ℕ
+text_with mark notation cell all =
+    opening_text mark notation ++ (place_text notation cell ++ (integer_text notation cell.rowid ++ (colon_text notation ++ (all ++ tail_text notation cell))))
 
--- The text of a cell: its place, its rowid, and the values that stand whole in its page, as rows have theirs.
-abbrev pub IsCellText : Form → DeletedCell → List ℕ → Type 0
-IsCellText form cell t =
-    (values : List Datum) × (all : List ℕ) × StandWhole cell.local.now values × AreTexts form [] 0 values all × (t ≡ text_with form.notation cell all)
+-- The text of a cell: what is said of it, its place, its rowid, and the values that stand whole in its page, as rows have theirs.
+abbrev pub IsCellText : Mark → Form → DeletedCell → List ℕ → Type 0
+IsCellText mark form cell t =
+    (values : List Datum) × (all : List ℕ) × StandWhole cell.local.now values × AreTexts form [] 0 values all × (t ≡ text_with mark form.notation cell all)
 
 -- The text of each, one behind the other.
 abbrev pub AreLines : Form → List DeletedCell → List ℕ → Type 0
 AreLines form [] t = t ≡ []
-AreLines form (cell ∷ cells) t = (own more : List ℕ) × IsCellText form cell own × AreLines form cells more × (t ≡ own ++ more)
+AreLines form (cell ∷ cells) t = (own more : List ℕ) × IsCellText Stands form cell own × AreLines form cells more × (t ≡ own ++ more)

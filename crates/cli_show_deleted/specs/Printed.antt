@@ -1,9 +1,10 @@
 -- The deleted cells of a database that are printed (own).
-use Rattle.std.specs.Prelude.{◌≡◌, ◌⊎◌, ℕ, zero, suc, ◌<◌, true, List, [], ◌++◌, length, Option}
+use Rattle.std.specs.Prelude.{◌≡◌, ◌⊎◌, ℕ, zero, suc, ◌<◌, ◌≤◌, true, List, [], ◌++◌, length, Option}
 use Rattle.std.specs.Io.KnownBytes.{Appends}
 use Rattle.sqval.specs.Bytes.{word}
 use Rattle.sqval.specs.Database.{Database, page}
 use Rattle.sqpage.specs.Freelist.{usable_size}
+use Rattle.sqpage.specs.declared.fault.Fault.TheVariants as faults
 use Rattle.sqcheck.specs.Places.{used_in}
 use Rattle.sqcheck.specs.Surveys.{FindsCleanWith, FindsDamagedWith, SurveyRefusedWith, role_at}
 use Rattle.sqcheck.specs.declared.role.Role.{Role}
@@ -40,11 +41,16 @@ AreTextsOf form d roles (suc n) t =
 abbrev pub IsSurveyOf : Database → (size : ℕ) → Survey → Type 0
 IsSurveyOf d size survey = FindsCleanWith true d size survey × FindsDamagedWith true d size survey × (length survey.roles.items ≡ length d)
 
+-- Its pages can be read, and its texts: enough of each page is used, and the header names an encoding that is known, or 0.
+pub record IsReadable (d : Database) : Type 0 where
+  pub usable : 480 ≤ usable_size d
+  pub encoding : word (page d 1) 56 ≤ 3
+
 -- The deleted cells of all pages were printed, by the roles that a survey finds; a database without pages has none.
 abbrev pub AreDeletedPrinted : Database → (size : ℕ) → Style → (before after : Option (List ℕ)) → Type 0
 AreDeletedPrinted d size style before after =
     ((length d ≡ 0) × (before ≡ after))
-    ⊎ ((survey : Survey) × (t : List ℕ) × IsSurveyOf d size survey
+    ⊎ ((survey : Survey) × (t : List ℕ) × IsReadable d × IsSurveyOf d size survey
     × AreTextsOf (form_of (notation_in style) (encoding_of d)) d survey.roles.items (length d) t × Appends before after t)
 
 -- Memory ran out, or the writer failed.
@@ -53,9 +59,10 @@ IsRunOut NoMemory = Unit {0}
 IsRunOut (Write e) = Unit {0}
 IsRunOut _ = ⊥
 
--- Nothing was printed, as the pages can't be surveyed, or the encoding of texts isn't known.
+-- Nothing was printed, as the pages can't be surveyed, too little of each is used, or the encoding of texts isn't known.
 abbrev pub IsUnfit : Database → (size : ℕ) → Stop → Type 0
-IsUnfit d size (Fault e) = SurveyRefusedWith true d size e.fault e.page ⊎ (usable_size d < 480)
+IsUnfit d size (Fault e) =
+    SurveyRefusedWith true d size e.fault e.page ⊎ ((e.fault ≡ faults.Reserved) × (e.page ≡ 1) × (usable_size d < 480))
 IsUnfit d size Encoding = 3 < word (page d 1) 56
 IsUnfit d size _ = ⊥
 

@@ -1,3 +1,5 @@
 -- What no public clause reaches.
 pub mod Walks
 pub mod Opening
+pub mod Candidates
+pub mod Surveys

@@ -1,19 +1,38 @@
 //! The line of a deleted cell.
-ghost use Rattle.std.specs.Prelude.{ℕ, List, [], OnOk, IfErr};
+ghost use Rattle.std.specs.Prelude.{◌≡◌, ℕ, List, [], OnOk, IfErr};
 ghost use Rattle.std.specs.Io.KnownBytes.{Appends};
 ghost use Rattle.sqval.specs.Datum.{row_of};
 ghost use Rattle.sqdeleted.specs.Deleted.{BeginsRecord};
 ghost use Rattle.cli_row_text.specs.Lines.{AreTexts};
-ghost use Rattle.cli_show_deleted.specs.Lines.{IsCellText, colon_text, cut_text, end_text, place_text, tail_text};
-ghost use Rattle.cli_show_deleted.specs.Lines.{text_with};
+ghost use Rattle.cli_show_deleted.specs.Lines.{IsCellText, colon_text, cut_text, end_text, opening_text, place_text};
+ghost use Rattle.cli_show_deleted.specs.Lines.{tail_text, text_with};
 ghost use Rattle.cli_show_deleted.specs.Printed.{IsRunOut};
 
 use crate::layout::Layout;
+use crate::mark::Mark;
 use cli_row_text::{Form, Notation, write_integer, write_values};
 use cli_show_rows::Stop;
 use sqdeleted::DeletedCell;
 use sqval::Value;
 use std::io::{self, Write};
+
+/// What stands before the page of a cell of this mark.
+fn opening_of(mark: Mark, notation: Notation) -> &'static [u8]
+    ensures { result.now ≡ opening_text mark notation }
+{
+    match notation {
+        Notation::Json => match mark {
+            Mark::Stands => b"{",
+            Mark::Went => b"{\"change\":\"delete\",",
+            Mark::Came => b"{\"change\":\"insert\",",
+        },
+        Notation::Csv | Notation::Sql => match mark {
+            Mark::Stands => b"",
+            Mark::Went => b"- ",
+            Mark::Came => b"+ ",
+        },
+    }
+}
 
 /// The page of a cell and its place there.
 fn write_place<W: Write>(out: &mut W, notation: Notation, cell: &DeletedCell<'_>) -> io::Result<()>
@@ -24,7 +43,7 @@ fn write_place<W: Write>(out: &mut W, notation: Notation, cell: &DeletedCell<'_>
         Notation::Json => {
             write!(
                 out,
-                "{{\"page\":{page},\"at\":{at},\"size\":{size},\"rowid\":"
+                "\"page\":{page},\"at\":{at},\"size\":{size},\"rowid\":"
             )
         }
         Notation::Csv | Notation::Sql => write!(out, "page {page} at {at} rowid "),
@@ -72,16 +91,18 @@ fn write_tail<W: Write>(out: &mut W, notation: Notation, cell: &DeletedCell<'_>)
     }
 }
 
-/// A cell with the values that stand whole in its page.
+/// A cell of this mark with the values that stand whole in its page.
 fn write_cell<W: Write>(
     out: &mut W,
+    mark: Mark,
     form: Form,
     cell: &DeletedCell<'_>,
     values: &[Value<'_>],
 ) -> io::Result<()>
     ensures { OnOk result ((all : List ℕ) × AreTexts form [] 0 (row_of values.now) all
-        × Appends (W.contents out.old) (W.contents out.new) (text_with form.notation cell.now all)) }
+        × Appends (W.contents out.old) (W.contents out.new) (text_with mark form.notation cell.now all)) }
 {
+    out.write_all(opening_of(mark, form.notation))?;
     write_place(out, form.notation, cell)?;
     write_integer(out, form.notation, cell.rowid)?;
     write_colon(out, form.notation)?;
@@ -89,18 +110,19 @@ fn write_cell<W: Write>(
     write_tail(out, form.notation, cell)
 }
 
-/// Prints a cell.
+/// Prints a cell of this mark.
 pub(crate) fn print_cell<W: Write>(
     out: &mut W,
+    mark: Mark,
     layout: Layout,
     cell: &DeletedCell<'_>,
 ) -> Result<(), Stop>
     ensures ok { BeginsRecord cell.now.payload cell.now.local.now → OnOk result ((t : List ℕ)
-        × IsCellText layout.form cell.now t × Appends (W.contents out.old) (W.contents out.new) t) }
+        × IsCellText mark layout.form cell.now t × Appends (W.contents out.old) (W.contents out.new) t) }
     ensures err { IfErr result IsRunOut }
 {
     match cell.values(layout.alloc) {
-        Ok(values) => match write_cell(out, layout.form, cell, &values) {
+        Ok(values) => match write_cell(out, mark, layout.form, cell, &values) {
             Ok(()) => Ok(()),
             Err(error) => Err(Stop::Write(error)),
         },

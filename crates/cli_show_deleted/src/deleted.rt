@@ -1,33 +1,22 @@
 //! The deleted cells of a database.
-ghost use Rattle.std.specs.Prelude.{◌≡◌, ◌⊎◌, ◌≤◌, ◌+◌, ℕ, List, length, OnOk, IfErr};
+ghost use Rattle.std.specs.Prelude.{◌≡◌, ◌≤◌, ℕ, List, length, OnOk, IfErr};
 ghost use Rattle.std.specs.Io.KnownBytes.{Appends};
 ghost use Rattle.sqpage.specs.Freelist.{IsPage, usable_size};
 ghost use Rattle.sqpage.specs.Source.{KeepsPages};
 ghost use Rattle.sqcheck.specs.Places.{used_in};
-ghost use Rattle.sqcheck.specs.Surveys.{role_at};
 ghost use Rattle.cli_show_deleted.specs.Printed.{AreDeletedPrinted, AreDeletedStopped, AreTextsOf, IsRunOut, IsTextOf};
-ghost use Rattle.cli_show_deleted.specs.Printed.{notation_in};
 
 use crate::layout::Layout;
-use crate::opening::{layout_of, page_of};
+use crate::opening::page_of;
 use crate::page::print_used;
-use cli_row_text::Notation;
+use crate::seen::role_of;
+use crate::surveyed::surveyed;
 use cli_show_rows::Stop;
 use cli_words::Style;
-use sqcheck::{Options, Role, survey_pages_with};
-use sqpage::{CheckError, Fault, PageSource};
+use sqcheck::Role;
+use sqpage::PageSource;
 use std::alloc::Global;
 use std::io::Write;
-
-/// The notation of values.
-fn notation_in(style: Style) -> Notation
-    ensures { result ≡ notation_in style }
-{
-    match style {
-        Style::Lines => Notation::Sql,
-        Style::Json => Notation::Json,
-    }
-}
 
 /// Prints the deleted cells of page `number`, which has this role.
 fn print_page<S: PageSource, W: Write>(
@@ -48,16 +37,6 @@ fn print_page<S: PageSource, W: Write>(
     match page_of(layout.alloc, source, number) {
         Ok(bytes) => print_used(out, layout, &bytes[..layout.usable], role, number),
         Err(stop) => Err(stop),
-    }
-}
-
-/// The role of the page behind so many.
-fn role_of(roles: &[Role], before: u32) -> Role
-    ensures { result ≡ role_at roles.now (before + 1) }
-{
-    match roles.get(before as usize) {
-        Some(role) => *role,
-        None => Role::Unused,
     }
 }
 
@@ -85,17 +64,6 @@ fn print_pages<S: PageSource, W: Write>(
     Ok(())
 }
 
-/// Why there is no survey.
-fn stop_of(error: CheckError) -> Stop
-    ensures memory { error.fault ≡ Fault.NoMemory → result ≡ Stop.NoMemory }
-    ensures other { (result ≡ Stop.NoMemory) ⊎ (result ≡ Stop.Fault error) }
-{
-    match error.fault {
-        Fault::NoMemory => Stop::NoMemory,
-        _ => Stop::Fault(error),
-    }
-}
-
 /// Prints the cells of deleted rows that still stand whole in pages of a database, page by page, in the order of their
 /// places: a line each, or an object. Of a page of a tree those in its gaps, of one that is free or that nothing uses
 /// all that stand there. Where the payload goes on in other pages the values are printed that stand whole in its own,
@@ -119,12 +87,8 @@ pub fn print_deleted<S: PageSource, W: Write>(
     if source.count() == 0 {
         return Ok(());
     }
-    let layout = match layout_of(alloc, source, notation_in(style)) {
-        Ok(layout) => layout,
-        Err(stop) => return Err(stop),
-    };
-    match survey_pages_with(alloc, source, Options { pointer_maps: true }) {
-        Ok(survey) => print_pages(source, layout, &survey.roles, out),
-        Err(error) => Err(stop_of(error)),
+    match surveyed(alloc, source, style) {
+        Ok(pages) => print_pages(source, pages.layout, &pages.roles, out),
+        Err(stop) => Err(stop),
     }
 }

@@ -1,10 +1,17 @@
 //! What still stands of deleted rows in the pages of a database, a line or an object for each cell (own).
 #![tactic(auto)]
 
+mod candidate;
 mod cell;
+mod changed;
 mod deleted;
 mod layout;
+mod mark;
 mod opening;
 mod page;
+mod seen;
+mod surveyed;
+mod turn;
 
+pub use changed::print_deleted_changes;
 pub use deleted::print_deleted;

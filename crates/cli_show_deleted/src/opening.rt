@@ -15,7 +15,7 @@ use sqtext::encoding_named;
 use std::alloc::Global;
 
 /// The least usable size of a page.
-const LEAST_USABLE: usize = 480;
+pub(crate) const LEAST_USABLE: usize = 480;
 
 /// What the bytes of page 1 say.
 fn layout_in(alloc: Global, bytes: &[u8], notation: Notation) -> Result<Layout, Stop>

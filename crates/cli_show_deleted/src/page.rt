@@ -11,13 +11,14 @@ ghost use Rattle.cli_show_deleted.specs.internal.Walks.{AreTold};
 
 use crate::cell::print_cell;
 use crate::layout::Layout;
+use crate::mark::Mark;
 use cli_show_rows::Stop;
 use sqcheck::Role;
 use sqdeleted::DeletedCells;
 use std::io::Write;
 
 /// The deleted cells of page `number`, which has this role. None where it can have none.
-fn cells_in<'a>(used: &'a [u8], role: Role, number: u32) -> Option<DeletedCells<'a>>
+pub(crate) fn cells_in<'a>(used: &'a [u8], role: Role, number: u32) -> Option<DeletedCells<'a>>
     requires { (480 ≤ length used.now) × (length used.now ≤ 65536) }
     ensures left { IfSome result (λ s. (at : ℕ) (c : Parts) → IsLeft s at c ↔ StandsIn role used.now number at c) }
     ensures same { IfSome result (λ s. (s.used.now ≡ used.now) × (s.number ≡ number)) }
@@ -43,7 +44,7 @@ fn print_cells<W: Write>(out: &mut W, layout: Layout, cells: DeletedCells<'_>) -
         let Some(cell) = left.next_cell() else {
             return Ok(());
         };
-        match print_cell(out, layout, &cell) {
+        match print_cell(out, Mark::Stands, layout, &cell) {
             Ok(()) => {}
             Err(stop) => return Err(stop),
         }

@@ -4,10 +4,10 @@ use Rattle.std.specs.Prelude.{true, false, Option, None, Some, is_some, codes, n
 use Rattle.std.specs.Cmp.Lexicographic.{bytes_decides, pointwise}
 use Rattle.std.proofs.lemmas.Option.{none-some}
 use Rattle.cli_words.specs.Line.{AreAmiss, AreNoDiff, AreNoReport, AreNoRows, AreNoSalvage, AreOptions, Asks, AsksAt, AsksBesides, AsksNoPart, AsksNothing}
-use Rattle.cli_words.specs.Line.{AreKnown, AsksNoCells, AsksNoForm, AsksText}
-use Rattle.cli_words.specs.declared.words.Own.TheVariants.{Prints}
+use Rattle.cli_words.specs.Line.{AreKnown, AsksNoCells, AsksNoForm, AsksNothingCompared, AsksText}
+use Rattle.cli_words.specs.declared.words.Own.TheVariants.{Prints, Compares}
 use Rattle.cli_words.specs.Line.{HasNoText, HasText, IsFile, NamesOfLog}
-use Rattle.cli_words.specs.internal.Line.{AskNoDiff, AskNoRows, AskNoSalvage, IsDiff, IsFormed, IsPlaced, IsReport, IsRows, IsSalvage}
+use Rattle.cli_words.specs.internal.Line.{AskNoDiff, AskNoRows, AskNoSalvage, IsBetween, IsCompared, IsDiff, IsFormed, IsPlaced, IsReport, IsRows, IsSalvage}
 use Rattle.cli_words.specs.declared.requests.Options.{Options}
 use Rattle.cli_words.specs.declared.requests.Request.{Request}
 
@@ -181,6 +181,14 @@ pub at_told : (options : List (List ℕ)) (at : Option ℕ) → at ≢ None → 
 at_told options None some asks = absurd (some refl)
 at_told options (Some n) some asks = (asks.0, asks.1)
 
+-- what options that are all those of `diff` are told of, as what its options ask for
+pub diff_told : (options : List (List ℕ)) (file : Bor (List ℕ)) (o : Options) (r : Option Request)
+    → AreKnown Compares options → o.pointer_maps ≡ false → o.at ≡ None
+    → MatchOption r (AsksNothingCompared options) (λ request. IsCompared options file o request ⊎ IsBetween options file o request)
+    → MatchOption r (AskNoDiff options o) (IsDiff options file o)
+diff_told options file o None known plain last none = inr (inr (inr none))
+diff_told options file o (Some request) known plain last is = (known, plain, last, is)
+
 -- the same of the options of `diff`
 pub diff_asks : (words : List (List ℕ)) (command : List ℕ) (file : Bor (List ℕ)) (options : List (List ℕ)) (o : Options)
     (r : Option Request) → command ≡ codes "diff" → slice_get words 1 ≡ Some command → IsFile words file.now
@@ -198,7 +206,10 @@ diff_asks words command file options o None is second named are besides none =
         | inr (inr (inr rest)) ↦ inr (inr (inr rest))
       ])),
     )
-diff_asks words command file options o (Some request) is second named are besides (known, plain, none, (compared, asks, same)) =
+diff_asks words command file options o (Some request) is second named are besides (known, plain, none, inl (compared, asks, same)) =
+    let P : Request → Type 0 = λ r. Asks words r in
+    subst P (sym same) (second ∙ ap Some is, named, (options, are, known, besides, asks, none, plain))
+diff_asks words command file options o (Some request) is second named are besides (known, plain, none, inr (between, asks, same)) =
     let P : Request → Type 0 = λ r. Asks words r in
     subst P (sym same) (second ∙ ap Some is, named, (options, are, known, besides, asks, none, plain))
 

@@ -16,10 +16,11 @@ use Rattle.cli_words.specs.declared.requests.Cells.{Cells}
 use Rattle.cli_words.specs.declared.requests.Cells.TheVariants.{Places, Deleted}
 use Rattle.cli_words.specs.declared.requests.ChangeForm.{ChangeForm}
 use Rattle.cli_words.specs.declared.requests.ChangeForm.TheVariants as changes
+use Rattle.cli_words.specs.declared.requests.Between.{Between}
 use Rattle.cli_words.specs.declared.requests.Compared.{Compared}
 use Rattle.cli_words.specs.declared.requests.Options.{Options}
 use Rattle.cli_words.specs.declared.requests.Request.{Request}
-use Rattle.cli_words.specs.declared.requests.Request.TheVariants.{Show, Check, Rows, Cells as TellsCells, Diff, Recover, Report, Salvage, Version}
+use Rattle.cli_words.specs.declared.requests.Request.TheVariants.{Show, Check, Rows, Cells as TellsCells, Diff, DeletedDiff, Recover, Report, Salvage, Version}
 use Rattle.cli_words.specs.declared.words.Own.{Own}
 use Rattle.cli_words.specs.declared.words.Own.TheVariants.{Checks, Recovers, Reports, Prints, Compares, Salvages}
 
@@ -115,7 +116,7 @@ IsOwn Reports word = (word ≡ codes "--changes") ⊎ IsNamed (codes "--to") wor
 IsOwn Prints word = (word ≡ codes "--csv") ⊎ (word ≡ codes "--sql") ⊎ (word ≡ codes "--places") ⊎ (word ≡ codes "--deleted")
     ⊎ IsNamed (codes "--table") word
 IsOwn Salvages word = (word ≡ codes "--places") ⊎ IsNamed (codes "--to") word
-IsOwn Compares word = (word ≡ codes "--sql") ⊎ (word ≡ codes "--commits") ⊎ IsNamed (codes "--table") word
+IsOwn Compares word = (word ≡ codes "--sql") ⊎ (word ≡ codes "--commits") ⊎ (word ≡ codes "--deleted") ⊎ IsNamed (codes "--table") word
     ⊎ IsNamed (codes "--from") word ⊎ IsNamed (codes "--to") word
 
 -- a word behind such a command that is no option, or one of the command's
@@ -226,18 +227,31 @@ AsksChangeForm options changes.Sql = (¬ Contains options (codes "--json")) × C
 abbrev pub AsksNoChangeForm : (options : List (List ℕ)) → Type 0
 AsksNoChangeForm options = Contains options (codes "--sql") × (Contains options (codes "--json") ⊎ Contains options (codes "--commits"))
 
--- between which commits they ask for changes, from 0 where they don't say it, of which tables, and how
+-- between which commits they ask for changes of rows, from 0 where they don't say it, of which tables, and how
 pub record AsksCompared (options : List (List ℕ)) (compared : Compared) : Type 0 where
   pub from : (frame : Option ℕ) × AsksFrame (codes "--from") options frame × (compared.from ≡ unwrap_or frame 0)
   pub to : AsksFrame (codes "--to") options compared.to
   pub tables : map (λ w. w.now) compared.tables.options.now ≡ options
   pub form : AsksChangeForm options compared.form
   pub commits : IsTrue compared.commits ↔ Contains options (codes "--commits")
+  pub rows : ¬ Contains options (codes "--deleted")
 
--- they name no frame for one of both commits, or ask for no form
+-- they ask for deleted cells, and for a script, for each commit, or for a table
+abbrev pub AsksNoBetween : (options : List (List ℕ)) → Type 0
+AsksNoBetween options = Contains options (codes "--deleted")
+    × (Contains options (codes "--sql") ⊎ Contains options (codes "--commits") ⊎ ((text : List ℕ) × HasText (codes "--table") options text))
+
+-- between which commits they ask for deleted cells, from 0 where they don't say it
+pub record AsksBetween (options : List (List ℕ)) (between : Between) : Type 0 where
+  pub from : (frame : Option ℕ) × AsksFrame (codes "--from") options frame × (between.from ≡ unwrap_or frame 0)
+  pub to : AsksFrame (codes "--to") options between.to
+  pub deleted : Contains options (codes "--deleted")
+  pub alone : (¬ Contains options (codes "--sql")) × (¬ Contains options (codes "--commits")) × HasNoText (codes "--table") options
+
+-- they name no frame for one of both commits, or ask for no form, or for deleted cells and what doesn't go with them
 abbrev pub AsksNothingCompared : (options : List (List ℕ)) → Type 0
 AsksNothingCompared options =
-    NamesNoFrame (codes "--from") options ⊎ NamesNoFrame (codes "--to") options ⊎ AsksNoChangeForm options
+    NamesNoFrame (codes "--from") options ⊎ NamesNoFrame (codes "--to") options ⊎ AsksNoChangeForm options ⊎ AsksNoBetween options
 
 -- they can't be those of `diff`: another one is among them, or pointer maps, or one commit by itself, or what can't be compared
 abbrev pub AreNoDiff : (options : List (List ℕ)) → Type 0
@@ -301,6 +315,10 @@ Asks words (Diff file compared o) =
     (slice_get words 1 ≡ Some (codes "diff")) × IsFile words file.now
     × ((options : List (List ℕ)) × AreOptions words options × AreKnown Compares options × AsksBesides options o
     × AsksCompared options compared × (o.at ≡ None) × (o.pointer_maps ≡ false))
+Asks words (DeletedDiff file between o) =
+    (slice_get words 1 ≡ Some (codes "diff")) × IsFile words file.now
+    × ((options : List (List ℕ)) × AreOptions words options × AreKnown Compares options × AsksBesides options o
+    × AsksBetween options between × (o.at ≡ None) × (o.pointer_maps ≡ false))
 Asks words (Recover file to force o) =
     (slice_get words 1 ≡ Some (codes "recover")) × IsFile words file.now
     × ((options : List (List ℕ)) × AreOptions words options × AreKnown Recovers options × AsksBesides options o

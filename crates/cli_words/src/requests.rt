@@ -78,6 +78,15 @@ pub struct Compared<'a> {
     pub commits: bool,
 }
 
+/// Between which commits the cells of deleted rows are compared.
+#[derive(Clone, Copy, Debug, PartialEq, Eq)]
+pub struct Between {
+    /// The commit frame of the write-ahead log from which on; 0: the file without its log.
+    pub from: u32,
+    /// The commit frame up to which. None: the last one.
+    pub to: Option<u32>,
+}
+
 /// What each command may be asked besides.
 #[derive(Clone, Copy, Debug, PartialEq, Eq)]
 pub struct Options {
@@ -128,6 +137,12 @@ pub enum Request<'a> {
     Diff {
         file: &'a str,
         compared: Compared<'a>,
+        options: Options,
+    },
+    /// To print which cells of deleted rows of this database file went and came between two commits of its log.
+    DeletedDiff {
+        file: &'a str,
+        between: Between,
         options: Options,
     },
     /// To recover this database file: to fold its write-ahead log into it, or to roll it back by its hot journal; by

@@ -5,9 +5,10 @@ ghost use Rattle.std.specs.List.{Contains};
 ghost use Rattle.cli_words.specs.Line.{AreKnown, AreNoReport, AreOptions, Asks, AsksBesides, AsksBoth};
 ghost use Rattle.cli_words.specs.Line.{AsksNoPart};
 ghost use Rattle.cli_words.specs.Line.{AsksCells, AsksForm, AsksNoCells, AsksNoForm, AsksNoPlaces, IsOwn};
-ghost use Rattle.cli_words.specs.Line.{AsksChangeForm, AsksCompared, AsksFrame, AsksNoChangeForm};
+ghost use Rattle.cli_words.specs.Line.{AsksBetween, AsksChangeForm, AsksCompared, AsksFrame, AsksNoChangeForm};
 ghost use Rattle.cli_words.specs.Line.{AsksNothingCompared};
-ghost use Rattle.cli_words.specs.internal.Line.{AskNoDiff, AskNoRows, AskNoSalvage, IsDiff, IsFormed, IsPlaced};
+ghost use Rattle.cli_words.specs.internal.Line.{AskNoDiff, AskNoRows, AskNoSalvage, IsBetween, IsCompared, IsDiff};
+ghost use Rattle.cli_words.specs.internal.Line.{IsFormed, IsPlaced};
 ghost use Rattle.cli_words.specs.internal.Line.{IsReport, IsRows};
 ghost use Rattle.cli_words.specs.internal.Line.{IsSalvage};
 ghost use Rattle.cli_words.specs.declared.words.Own.{Own};
@@ -18,7 +19,7 @@ ghost use Rattle.cli_words.specs.Line.{IsPlain, MayBeAt, NamesNoFrame, NamesOfLo
 ghost use Rattle.cli_words.specs.Line.{IsPageNumber, IsVersion};
 
 use crate::requests::{
-    Cells, ChangeForm, Compared, Options, Part, Request, RowForm, Style, SuperJournal,
+    Between, Cells, ChangeForm, Compared, Options, Part, Request, RowForm, Style, SuperJournal,
 };
 use crate::tables::Tables;
 
@@ -123,6 +124,7 @@ fn is_own(word: &str, own: Own) -> bool
         Own::Compares => {
             word == "--sql"
                 || word == "--commits"
+                || word == "--deleted"
                 || is_named(word, "--table")
                 || is_named(word, "--from")
                 || is_named(word, "--to")
@@ -521,8 +523,10 @@ fn change_form_of(options: &[&str]) -> Option<ChangeForm>
     Some(ChangeForm::Sql)
 }
 
-/// What they ask to be compared. None where they name no frame for a commit, or ask for no form.
+/// What they ask to be compared, which is no deleted cells. None where they name no frame for a commit, or ask for no
+/// form.
 fn compared_of<'a>(given: &'a [&'a str]) -> Option<Compared<'a>>
+    requires rows { ¬ Contains (map (λ w. w.now) given.now) (codes "--deleted") }
     ensures { MatchOption result (AsksNothingCompared (map (λ w. w.now) given.entry.now))
         (AsksCompared (map (λ w. w.now) given.entry.now)) }
 {
@@ -539,6 +543,56 @@ fn compared_of<'a>(given: &'a [&'a str]) -> Option<Compared<'a>>
     })
 }
 
+/// Between which commits they ask for deleted cells. None where they name no frame for one, or ask for what doesn't go
+/// with these.
+fn between_of(given: &[&str]) -> Option<Between>
+    requires deleted { Contains (map (λ w. w.now) given.now) (codes "--deleted") }
+    ensures { MatchOption result (AsksNothingCompared (map (λ w. w.now) given.entry.now))
+        (AsksBetween (map (λ w. w.now) given.entry.now)) }
+{
+    if stands_in(given, "--sql") {
+        return None;
+    }
+    if stands_in(given, "--commits") {
+        return None;
+    }
+    if let Some(_) = text_of(given, "--table") {
+        return None;
+    }
+    let from = commit_of(given, "--from")?;
+    let to = commit_of(given, "--to")?;
+    Some(Between {
+        from: from.unwrap_or(0),
+        to,
+    })
+}
+
+/// What the options of `diff` that are all known ask for. None where they don't say so.
+fn rows_or_deleted<'a>(
+    given: &'a [&'a str],
+    file: &'a str,
+    options: Options,
+) -> Option<Request<'a>>
+    ensures { MatchOption result (AsksNothingCompared (map (λ w. w.now) given.entry.now))
+        (λ request. IsCompared (map (λ w. w.now) given.entry.now) file.entry options request
+        ⊎ IsBetween (map (λ w. w.now) given.entry.now) file.entry options request) }
+{
+    if stands_in(given, "--deleted") {
+        let between = between_of(given)?;
+        return Some(Request::DeletedDiff {
+            file,
+            between,
+            options,
+        });
+    }
+    let compared = compared_of(given)?;
+    Some(Request::Diff {
+        file,
+        compared,
+        options,
+    })
+}
+
 /// What the options of `diff` ask for. None where they don't say so.
 fn diff_asked<'a>(given: &'a [&'a str], file: &'a str, options: Options) -> Option<Request<'a>>
     ensures { MatchOption result (AskNoDiff (map (λ w. w.now) given.entry.now) options)
@@ -550,12 +604,7 @@ fn diff_asked<'a>(given: &'a [&'a str], file: &'a str, options: Options) -> Opti
     if options.at.is_some() {
         return None;
     }
-    let compared = compared_of(given)?;
-    Some(Request::Diff {
-        file,
-        compared,
-        options,
-    })
+    rows_or_deleted(given, file, options)
 }
 
 /// What the options of `salvage` ask for. None where they don't say so.

@@ -42,6 +42,7 @@ ReadsTo bytes gives (readings.Look look) source answer = Comes bytes gives sourc
 ReadsTo bytes gives (readings.Copy to) source answer = IsDoneOr answer
 ReadsTo bytes gives (readings.Report to changes) source answer = Unit {0}
 ReadsTo bytes gives (readings.Diff compared) source answer = Unit {0}
+ReadsTo bytes gives (readings.DeletedDiff between) source answer = Unit {0}
 ReadsTo bytes gives (readings.Salvage to places) source answer = SalvagesTo bytes gives source places answer
 
 -- all of a log is read

@@ -25,7 +25,7 @@ use Rattle.sqrescue.specs.declared.program.Under.TheVariants as under
 use Rattle.sqrescue.specs.declared.readings.Look.TheVariants.{Part, Damage, Rows, Places, Deleted}
 use Rattle.sqrescue.specs.declared.readings.Read.{Read}
 use Rattle.sqrescue.specs.declared.readings.Reading.{Reading}
-use Rattle.sqrescue.specs.declared.readings.Reading.TheVariants.{Look, Diff, Copy, Report, Salvage}
+use Rattle.sqrescue.specs.declared.readings.Reading.TheVariants.{Look, Diff, DeletedDiff, Copy, Report, Salvage}
 
 -- a reading of this file
 abbrev pub read_named : Reading → (file : Bor (List ℕ)) → Options → Read
@@ -39,6 +39,7 @@ read_for (requests.Rows file table form options) = Some (read_named (Look (Rows 
 read_for (requests.Cells file (cells.Places table) options) = Some (read_named (Look (Places table)) file options)
 read_for (requests.Cells file cells.Deleted options) = Some (read_named (Look Deleted) file options)
 read_for (requests.Diff file compared options) = Some (read_named (Diff compared) file (record options { at = compared.to }))
+read_for (requests.DeletedDiff file between options) = Some (read_named (DeletedDiff between) file (record options { at = between.to }))
 read_for (requests.Recover file (Some to) force options) = Some (read_named (Copy to) file options)
 read_for (requests.Recover file None force options) = None
 read_for (requests.Report file to changes options) = Some (read_named (Report to changes) file options)

@@ -108,7 +108,7 @@ where
 }
 
 /// The files, opened for a commit of the log.
-fn opened_at<'a, R: Files + AllocGlobal, M, E: Write>(
+pub(crate) fn opened_at<'a, R: Files + AllocGlobal, M, E: Write>(
     job: &Job<'a, R, M>,
     at: Option<u32>,
     notes: &mut Notes<'_, E>,

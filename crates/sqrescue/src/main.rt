@@ -5,6 +5,7 @@ ghost use Rattle.std.specs.Prelude.{◌≤◌, IfOk};
 
 mod answers;
 mod checking;
+mod deleted_diffs;
 mod diffs;
 mod each;
 mod hints;

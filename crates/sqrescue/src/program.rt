@@ -7,6 +7,7 @@ ghost use Rattle.sqrescue.specs.Reads.{IsRead, ReadsTo};
 ghost use Rattle.sqrescue.specs.Runs.{AsksHelp, ComesUnder, Ends, EndsUnasked, MayAskHelp};
 
 use crate::answers::answered;
+use crate::deleted_diffs::print_deleted_diff;
 use crate::diffs::print_diff;
 use crate::hints::{next_step, step_after_damage, step_after_rows};
 use crate::readings::{Read, Reading, read_for};
@@ -159,6 +160,7 @@ fn options_of(request: &Request<'_>) -> Option<Options> {
         | Request::Rows { options, .. }
         | Request::Cells { options, .. }
         | Request::Diff { options, .. }
+        | Request::DeletedDiff { options, .. }
         | Request::Recover { options, .. }
         | Request::Report { options, .. }
         | Request::Salvage { options, .. } => Some(*options),
@@ -203,6 +205,7 @@ where
     match reading {
         Reading::Look(look) => answered(&job, &look.command(source.options), out, notes),
         Reading::Diff(compared) => print_diff(&job, compared, out, notes),
+        Reading::DeletedDiff(between) => print_deleted_diff(&job, between, out, notes),
         Reading::Copy(to) => recover_to(&job, to, out, notes),
         Reading::Report { to, changes } => report_to(&job, (to, changes), out, notes),
         Reading::Salvage { to, places } => salvage_to(&job, (to, places), out, notes),

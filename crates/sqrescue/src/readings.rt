@@ -6,7 +6,7 @@ ghost use Rattle.sqrescue.specs.Runs.{read_for, read_named};
 use cli_dump::Wanted;
 use cli_job::Command;
 use cli_show::{Asked, limits_of};
-use cli_words::{Cells, Compared, Options, Part, Request};
+use cli_words::{Between, Cells, Compared, Options, Part, Request};
 use sqcheck::Options as Maps;
 
 /// What is looked for in the files.
@@ -27,6 +27,7 @@ pub(crate) enum Look<'a> {
 pub(crate) enum Reading<'a> {
     Look(Look<'a>),
     Diff(Compared<'a>),
+    DeletedDiff(Between),
     /// A file of this name is made.
     Copy(&'a str),
     /// changes: with those of each commit.
@@ -86,6 +87,7 @@ impl<'a> Reading<'a> {
                 false
             }
             Reading::Diff(_)
+            | Reading::DeletedDiff(_)
             | Reading::Copy(_)
             | Reading::Report { .. }
             | Reading::Salvage { .. } => { false }
@@ -142,6 +144,14 @@ pub(crate) fn read_for<'a>(request: Request<'a>) -> Option<Read<'a>>
         } => {
             let at = compared.to;
             Reading::Diff(compared).of(file, Options { at, ..options })
+        }
+        Request::DeletedDiff {
+            file,
+            between,
+            options,
+        } => {
+            let at = between.to;
+            Reading::DeletedDiff(between).of(file, Options { at, ..options })
         }
         Request::Recover {
             file,

@@ -4,14 +4,15 @@ use Rattle.std.specs.Prelude.{List, codes}
 use Rattle.std.specs.Borrow.{Bor}
 use Rattle.std.specs.List.{Contains}
 use Rattle.cli_words.specs.declared.requests.Cells.{Cells}
+use Rattle.cli_words.specs.declared.requests.Between.{Between}
 use Rattle.cli_words.specs.declared.requests.Compared.{Compared}
 use Rattle.cli_words.specs.declared.requests.Options.{Options}
 use Rattle.cli_words.specs.declared.requests.Request.{Request}
-use Rattle.cli_words.specs.declared.requests.Request.TheVariants.{Report, Rows, Cells as TellsCells, Diff, Salvage}
+use Rattle.cli_words.specs.declared.requests.Request.TheVariants.{Report, Rows, Cells as TellsCells, Diff, DeletedDiff, Salvage}
 use Rattle.cli_words.specs.declared.requests.RowForm.{RowForm}
 use Rattle.cli_words.specs.declared.words.Own.TheVariants.{Reports, Prints, Compares, Salvages}
 use Rattle.cli_words.specs.Line.{HasNoText, HasText, AreKnown, AsksCells, AsksCompared, AsksForm, AsksNoCells, AsksNoForm, AsksNoPlaces}
-use Rattle.cli_words.specs.Line.{AsksNothingCompared, AsksText}
+use Rattle.cli_words.specs.Line.{AsksBetween, AsksNothingCompared, AsksText}
 
 -- the options of a report say this: the file that it makes, whether it has changes of rows, and what else is asked
 abbrev pub IsReport : (options : List (List ℕ)) → (file : Bor (List ℕ)) → Options → Request → Type 0
@@ -37,10 +38,18 @@ IsRows options file o request =
 abbrev pub AskNoRows : (options : List (List ℕ)) → Options → Type 0
 AskNoRows options o = (¬ AreKnown Prints options) ⊎ IsTrue o.pointer_maps ⊎ AsksNoForm options ⊎ AsksNoCells options
 
+-- the options of `diff` ask for changes of rows
+abbrev pub IsCompared : (options : List (List ℕ)) → (file : Bor (List ℕ)) → Options → Request → Type 0
+IsCompared options file o request = (compared : Compared) × AsksCompared options compared × (request ≡ Diff file compared o)
+
+-- they ask for deleted cells
+abbrev pub IsBetween : (options : List (List ℕ)) → (file : Bor (List ℕ)) → Options → Request → Type 0
+IsBetween options file o request = (between : Between) × AsksBetween options between × (request ≡ DeletedDiff file between o)
+
 -- the options of `diff` say this: what is compared, and what else is asked
 abbrev pub IsDiff : (options : List (List ℕ)) → (file : Bor (List ℕ)) → Options → Request → Type 0
 IsDiff options file o request = AreKnown Compares options × (o.pointer_maps ≡ false) × (o.at ≡ None)
-    × ((compared : Compared) × AsksCompared options compared × (request ≡ Diff file compared o))
+    × (IsCompared options file o request ⊎ IsBetween options file o request)
 
 -- they don't
 abbrev pub AskNoDiff : (options : List (List ℕ)) → Options → Type 0

@@ -1,0 +1,67 @@
+use Rattle.std.proofs.Common.{OnOk, Result, Ok, Err, inl, inr, subst}
+use Rattle.std.specs.Prelude.{IfErr, MatchResult, Some}
+use Rattle.sqval.specs.Limits.{Bounds}
+use Rattle.sqview.specs.LogView.{pages_of}
+use Rattle.cli_show.specs.Views.{AskedRefused}
+use Rattle.cli_show.proofs.AskedFronts.{front_asked, shows_asked}
+use Rattle.cli_show.proofs.ShownFiles.{refused_asked}
+use Rattle.cli_show_deleted.specs.Changes.{AreDeletedChangesPrinted, AreDeletedChangesStopped}
+use Rattle.cli_dump.proofs.deleted_changes.show_deleted_changes.Goals as goal
+
+both : {T E : Type 0} (r : Result T E) (P : Type 0) (R : E → Type 0) → OnOk r P → IfErr r R → MatchResult r (λ _. P) R
+both (Ok _) P R ok err = ok
+both (Err _) P R ok err = err
+
+pub returns-in-Ok-view_of-clause-front : goal.returns-in-Ok-view_of-clause-front
+returns-in-Ok-view_of-clause-front g c = λ given too.
+    let bytes = g.F.FileBytes.bytes in
+    let to = c.args.to in
+    front_asked c.limits_of-limits.result bytes (bytes to.db) (bytes to.wal) (bytes to.journal) c.in-Ok-view_of.new c.args.between.to c.of_view-front.result
+    (c.in-Ok-view_of.ensures.answer too) c.of_view-front.ensures
+
+pub returns-in-Ok-view_of-clause-shown : goal.returns-in-Ok-view_of-clause-shown
+returns-in-Ok-view_of-clause-shown g c = λ given too.
+    let bytes = g.F.FileBytes.bytes in
+    let from = c.args.from in
+    let to = c.args.to in
+    let between = c.args.between in
+    let limits = c.limits_of-limits.result in
+    let v = c.in-Ok.view in
+    let w = c.in-Ok-view_of.new in
+    let d = pages_of bytes v in
+    let e = pages_of bytes w in
+    let style = c.args.options.style in
+    let before = g.W.Write.contents c.args.out.now in
+    let after = g.W.Write.contents c.print_deleted_changes-ended.new.out in
+    let gives = c.in-Ok.ensures.still_gives given in
+    let gives_too = c.in-Ok-view_of.ensures.still_gives too in (
+      v.page_size,
+      w.page_size,
+      d,
+      e,
+      shows_asked limits bytes (bytes from.db) (bytes from.wal) (bytes from.journal) v (Some between.from) (c.in-Ok.ensures.answer given),
+      shows_asked limits bytes (bytes to.db) (bytes to.wal) (bytes to.journal) w between.to (c.in-Ok-view_of.ensures.answer too),
+      both c.print_deleted_changes-ended.result (AreDeletedChangesPrinted d v.page_size e w.page_size style before after)
+          (λ stop. AreDeletedChangesStopped d v.page_size e w.page_size stop before after)
+          (c.print_deleted_changes-ended.ensures.ok gives gives_too) (c.print_deleted_changes-ended.ensures.err gives gives_too),
+    )
+
+pub returns-in-Err-clause-refused : goal.returns-in-Err-clause-refused
+returns-in-Err-clause-refused g c = λ given too.
+    let bytes = g.F.FileBytes.bytes in
+    let db = bytes c.args.from.db in
+    let wal = bytes c.args.from.wal in
+    let journal = bytes c.args.from.journal in
+    let at = Some c.args.between.from in
+    let refused = refused_asked c.limits_of-limits.result bytes at db wal journal c.in-Err.error (c.in-Err.ensures.answer given) in
+    inl (c.in-Err.error, subst (λ (l : Bounds). AskedRefused l at db wal journal c.in-Err.error) c.limits_of-limits.ensures refused, c.from.ensures)
+
+pub returns-clause-refused : goal.returns-clause-refused
+returns-clause-refused g c = λ given too.
+    let bytes = g.F.FileBytes.bytes in
+    let db = bytes c.args.to.db in
+    let wal = bytes c.args.to.wal in
+    let journal = bytes c.args.to.journal in
+    let at = c.args.between.to in
+    let refused = refused_asked c.limits_of-limits.result bytes at db wal journal c.in-Err-view_of.error (c.in-Err-view_of.ensures.answer too) in
+    inr (c.in-Err-view_of.error, subst (λ (l : Bounds). AskedRefused l at db wal journal c.in-Err-view_of.error) c.limits_of-limits.ensures refused, c.from-in-Err-view_of.ensures)
