@@ -1,5 +1,5 @@
 -- What stands in one of two lists of cells alone, one turn after another.
-use Rattle.std.proofs.Common.{◌≡◌, ◌↔◌, ◌⊎◌, ◌∙◌, ℕ, suc, ◌+◌, ◌*◌, ◌<◌, ◌≤◌, List, [], ◌∷◌, ◌++◌, Option, inl, inr, ⊎_elim, refl, sym, ap, subst, append_assoc, append-nil, arith}
+use Rattle.std.proofs.Common.{◌≡◌, ◌↔◌, ◌⊎◌, ◌∙◌, ℕ, suc, ◌+◌, ◌*◌, ◌<◌, ◌≤◌, List, [], ◌∷◌, ◌++◌, Option, Some, None, inl, inr, ⊎_elim, refl, sym, ap, subst, append_assoc, append-nil, arith}
 use Rattle.std.proofs.KnownBytes.{Appends-nil, Appends-trans}
 use Rattle.std.specs.Io.KnownBytes.{Appends}
 use Rattle.sqpage.specs.Lists.{In, Every}
@@ -9,7 +9,9 @@ use Rattle.sqdeleted.specs.declared.cell.DeletedCell.{DeletedCell}
 use Rattle.cli_row_text.specs.declared.form.Form.{Form}
 use Rattle.cli_show_deleted.specs.Changes.{AreChangeLines, Change, IsChangeText, went, came, turns_of}
 use Rattle.cli_show_deleted.specs.declared.candidate.Candidate.{Candidate}
-use Rattle.cli_show_deleted.specs.internal.Candidates.{AreChangesAmong, AreSound, Holds, IsAbove, IsBefore, IsCellAmong, IsChangeAmong, IsOnlyOf, place_of, places}
+use Rattle.cli_show_deleted.specs.declared.turn.Found.{Found}
+use Rattle.cli_show_deleted.specs.declared.turn.Found.TheVariants.{Same, Went, Came}
+use Rattle.cli_show_deleted.specs.internal.Candidates.{AreChangesAmong, AreSound, BeginsFound, Holds, IsAbove, IsBefore, IsCellAmong, IsChangeAmong, IsFoundText, IsOnlyOf, IsTurn, place_of, places}
 use Rattle.cli_show_deleted.proofs.CellsCollected.{in_place}
 
 rise_from : (a b : ℕ) (xs : List ℕ) → Rise a xs → ((y : ℕ) → In y xs → b ≤ y) → Rise b xs
@@ -66,10 +68,10 @@ only_cases : (x : Candidate) (xs ys : List Candidate) (at : ℕ) → IsOnlyOf (x
 only_cases x xs ys at (bytes, held, none) = ⊎_elim (λ w. inl w.0) (λ more. inr (bytes, more, none)) (held_cases x xs at bytes held)
 
 other_less : (x : Candidate) (xs ys : List Candidate) (at : ℕ) → ¬ Holds ys x.cell.at x.bytes.now → IsOnlyOf ys xs at → IsOnlyOf ys (x ∷ xs) at
-other_less x xs ys at no (bytes, held, none) = (
+other_less x xs ys at lacks (bytes, held, none) = (
   bytes,
   held,
-  λ h. ⊎_elim (λ w. no (subst (λ (n : ℕ). Holds ys n x.bytes.now) (sym w.0) (subst (λ (b : List ℕ). Holds ys at b) (sym w.1) held))) (λ more. none more) (held_cases x xs at bytes h),
+  λ h. ⊎_elim (λ w. lacks (subst (λ (n : ℕ). Holds ys n x.bytes.now) (sym w.0) (subst (λ (b : List ℕ). Holds ys at b) (sym w.1) held))) (λ more. none more) (held_cases x xs at bytes h),
 )
 
 other_more : (x : Candidate) (xs ys : List Candidate) (at : ℕ) → IsOnlyOf ys (x ∷ xs) at → IsOnlyOf ys xs at
@@ -221,7 +223,7 @@ pub turned_none : (old new : List Candidate) (f g : Form) (out : Option (List �
 turned_none old new f g out olds news =
     record { told = []; text = []; olds = olds; news = news; moves = λ more are. are; lines = refl; written = Appends-nil out }
 
-pub turned_same : (old new was is olds news : List Candidate) (f g : Form) (before after : Option (List ℕ)) → Turned old new was is f g before after → (x y : Candidate)
+turned_same : (old new was is olds news : List Candidate) (f g : Form) (before after : Option (List ℕ)) → Turned old new was is f g before after → (x y : Candidate)
     → was ≡ x ∷ olds → is ≡ y ∷ news → x.cell.at ≡ y.cell.at → x.bytes.now ≡ y.bytes.now → Turned old new olds news f g before after
 turned_same old new was is olds news f g before after w x y first second place same =
     let sound = subst AreSound first w.olds in
@@ -239,11 +241,11 @@ turned_same old new was is olds news f g before after w x y first second place s
     }
 
 -- the first cell of what is left begins a record
-pub first_begins : (was olds : List Candidate) (x : Candidate) (cell : DeletedCell) → AreSound was → cell ≡ x.cell → was ≡ x ∷ olds → BeginsRecord cell.payload cell.local.now
+first_begins : (was olds : List Candidate) (x : Candidate) (cell : DeletedCell) → AreSound was → cell ≡ x.cell → was ≡ x ∷ olds → BeginsRecord cell.payload cell.local.now
 first_begins was olds x cell sound is first =
     subst (λ (z : DeletedCell). BeginsRecord z.payload z.local.now) (sym is) (subst AreSound first sound).begin.0
 
-pub turned_went : (old new was is olds : List Candidate) (f g : Form) (before mid after : Option (List ℕ)) → Turned old new was is f g before mid → (cell : DeletedCell) (x : Candidate)
+turned_went : (old new was is olds : List Candidate) (f g : Form) (before mid after : Option (List ℕ)) → Turned old new was is f g before mid → (cell : DeletedCell) (x : Candidate)
     → cell ≡ x.cell → was ≡ x ∷ olds → IsBefore x is → (own : List ℕ) → IsChangeText f g (went cell) own → Appends mid after own → Turned old new olds is f g before after
 turned_went old new was is olds f g before mid after w cell x same first stands own text appends =
     let sound = subst AreSound first w.olds in
@@ -260,7 +262,7 @@ turned_went old new was is olds f g before mid after w cell x same first stands 
       written = Appends-trans before mid after w.text own w.written appends;
     }
 
-pub turned_came : (old new was is news : List Candidate) (f g : Form) (before mid after : Option (List ℕ)) → Turned old new was is f g before mid → (cell : DeletedCell) (y : Candidate)
+turned_came : (old new was is news : List Candidate) (f g : Form) (before mid after : Option (List ℕ)) → Turned old new was is f g before mid → (cell : DeletedCell) (y : Candidate)
     → cell ≡ y.cell → is ≡ y ∷ news → IsAbove y was → (own : List ℕ) → IsChangeText f g (came cell) own → Appends mid after own → Turned old new was news f g before after
 turned_came old new was is news f g before mid after w cell y same first stands own text appends =
     let sound = subst AreSound first w.news in
@@ -287,3 +289,26 @@ turned_all old new was is f g before after w none too = (
   w.lines,
   w.written,
 )
+
+pub turned_found : (old new was is olds news : List Candidate) (f g : Form) (before mid after : Option (List ℕ)) (found : Found) → Turned old new was is f g before mid
+    → IsTurn was is (Some found) olds news → (own : List ℕ) → IsFoundText f g found own → Appends mid after own → Turned old new olds news f g before after
+turned_found old new was is olds news f g before mid after Same w (x, y, first, second, place, same) own text appends =
+    let one = turned_same old new was is olds news f g before mid w x y first second place same in
+    record {
+      told = one.told;
+      text = one.text ++ own;
+      olds = one.olds;
+      news = one.news;
+      moves = one.moves;
+      lines = subst (λ (t : List ℕ). AreChangeLines f g one.told t) (sym (append-nil one.text) ∙ ap (λ (t : List ℕ). one.text ++ t) (sym text)) one.lines;
+      written = Appends-trans before mid after one.text own one.written appends;
+    }
+turned_found old new was is olds news f g before mid after (Went cell) w (x, same, first, kept, stands) own text appends =
+    subst (λ (l : List Candidate). Turned old new olds l f g before after) kept (turned_went old new was is olds f g before mid after w cell x same first stands own text appends)
+turned_found old new was is olds news f g before mid after (Came cell) w (y, same, first, kept, stands) own text appends =
+    subst (λ (l : List Candidate). Turned old new l news f g before after) kept (turned_came old new was is news f g before mid after w cell y same first stands own text appends)
+
+pub found_begins : (was is olds news : List Candidate) (found : Found) → AreSound was → AreSound is → IsTurn was is (Some found) olds news → BeginsFound found
+found_begins was is olds news Same sound other turn = tt
+found_begins was is olds news (Went cell) sound other (x, same, first, kept, stands) = first_begins was olds x cell sound same first
+found_begins was is olds news (Came cell) sound other (y, same, first, kept, stands) = first_begins is news y cell other same first

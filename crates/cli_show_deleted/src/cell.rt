@@ -1,5 +1,5 @@
 //! The line of a deleted cell.
-ghost use Rattle.std.specs.Prelude.{◌≡◌, ℕ, List, [], OnOk, IfErr};
+ghost use Rattle.std.specs.Prelude.{ℕ, List, [], OnOk, IfErr};
 ghost use Rattle.std.specs.Io.KnownBytes.{Appends};
 ghost use Rattle.sqval.specs.Datum.{row_of};
 ghost use Rattle.sqdeleted.specs.Deleted.{BeginsRecord};
@@ -17,19 +17,19 @@ use sqval::Value;
 use std::io::{self, Write};
 
 /// What stands before the page of a cell of this mark.
-fn opening_of(mark: Mark, notation: Notation) -> &'static [u8]
-    ensures { result.now ≡ opening_text mark notation }
+fn write_opening<W: Write>(out: &mut W, mark: Mark, notation: Notation) -> io::Result<()>
+    ensures { OnOk result (Appends (W.contents out.old) (W.contents out.new) (opening_text mark notation)) }
 {
     match notation {
         Notation::Json => match mark {
-            Mark::Stands => b"{",
-            Mark::Went => b"{\"change\":\"delete\",",
-            Mark::Came => b"{\"change\":\"insert\",",
+            Mark::Stands => out.write_all(b"{"),
+            Mark::Went => out.write_all(b"{\"change\":\"delete\","),
+            Mark::Came => out.write_all(b"{\"change\":\"insert\","),
         },
         Notation::Csv | Notation::Sql => match mark {
-            Mark::Stands => b"",
-            Mark::Went => b"- ",
-            Mark::Came => b"+ ",
+            Mark::Stands => out.write_all(b""),
+            Mark::Went => out.write_all(b"- "),
+            Mark::Came => out.write_all(b"+ "),
         },
     }
 }
@@ -102,7 +102,7 @@ fn write_cell<W: Write>(
     ensures { OnOk result ((all : List ℕ) × AreTexts form [] 0 (row_of values.now) all
         × Appends (W.contents out.old) (W.contents out.new) (text_with mark form.notation cell.now all)) }
 {
-    out.write_all(opening_of(mark, form.notation))?;
+    write_opening(out, mark, form.notation)?;
     write_place(out, form.notation, cell)?;
     write_integer(out, form.notation, cell.rowid)?;
     write_colon(out, form.notation)?;

@@ -1,5 +1,5 @@
 -- Two lists of deleted cells of a page with their bytes, and what stands in one of them alone.
-use Rattle.std.specs.Prelude.{◌≡◌, ◌↔◌, ◌⊎◌, ℕ, suc, ◌*◌, ◌<◌, List, [], ◌∷◌, map}
+use Rattle.std.specs.Prelude.{◌≡◌, ◌↔◌, ◌⊎◌, ℕ, suc, ◌*◌, ◌<◌, List, [], ◌∷◌, map, Option, Some, None}
 use Rattle.sqval.specs.Bytes.{part}
 use Rattle.sqpage.specs.declared.cell.Parts.{Parts}
 use Rattle.sqpage.specs.Lists.{In, Every}
@@ -9,10 +9,11 @@ use Rattle.sqdeleted.specs.DeletedCursor.{AreLeft, Rise}
 use Rattle.sqdeleted.specs.declared.cell.DeletedCell.{DeletedCell}
 use Rattle.sqdeleted.specs.declared.cursor.DeletedCells.{DeletedCells}
 use Rattle.cli_show_deleted.specs.Cells.{StandsIn, IsCellIn}
-use Rattle.cli_show_deleted.specs.Changes.{Change, went, came, turns_of}
+use Rattle.cli_row_text.specs.declared.form.Form.{Form}
+use Rattle.cli_show_deleted.specs.Changes.{Change, IsChangeText, went, came, turns_of}
 use Rattle.cli_show_deleted.specs.declared.candidate.Candidate.{Candidate}
-use Rattle.cli_show_deleted.specs.declared.turn.Turn.{Turn}
-use Rattle.cli_show_deleted.specs.declared.turn.Turn.TheVariants.{End, Same, Went, Came}
+use Rattle.cli_show_deleted.specs.declared.turn.Found.{Found}
+use Rattle.cli_show_deleted.specs.declared.turn.Found.TheVariants.{Same, Went, Came}
 
 -- This is the cell that stands at its place, with its bytes, and what lies in them begins a record.
 pub record IsCandidateIn (used : List ℕ) (number : ℕ) (x : Candidate) : Type 0 where
@@ -74,8 +75,20 @@ IsAbove y [] = Unit {0}
 IsAbove y (x ∷ xs) = y.cell.at < x.cell.at
 
 -- What comes first of two such lists, and what is left behind it.
-abbrev pub IsTurn : (old new : List Candidate) → Turn → Type 0
-IsTurn old new End = (old ≡ []) × (new ≡ [])
-IsTurn old new (Same olds news) = (x y : Candidate) × (old ≡ x ∷ olds.now) × (new ≡ y ∷ news.now) × (x.cell.at ≡ y.cell.at) × (x.bytes.now ≡ y.bytes.now)
-IsTurn old new (Went cell olds) = (x : Candidate) × (cell ≡ x.cell) × (old ≡ x ∷ olds.now) × IsBefore x new
-IsTurn old new (Came cell news) = (y : Candidate) × (cell ≡ y.cell) × (new ≡ y ∷ news.now) × IsAbove y old
+abbrev pub IsTurn : (old new : List Candidate) → Option Found → (olds news : List Candidate) → Type 0
+IsTurn old new None olds news = (old ≡ []) × (new ≡ [])
+IsTurn old new (Some Same) olds news = (x y : Candidate) × (old ≡ x ∷ olds) × (new ≡ y ∷ news) × (x.cell.at ≡ y.cell.at) × (x.bytes.now ≡ y.bytes.now)
+IsTurn old new (Some (Went cell)) olds news = (x : Candidate) × (cell ≡ x.cell) × (old ≡ x ∷ olds) × (new ≡ news) × IsBefore x new
+IsTurn old new (Some (Came cell)) olds news = (y : Candidate) × (cell ≡ y.cell) × (new ≡ y ∷ news) × (old ≡ olds) × IsAbove y old
+
+-- what is found begins a record
+abbrev pub BeginsFound : Found → Type 0
+BeginsFound Same = Unit {0}
+BeginsFound (Went cell) = BeginsRecord cell.payload cell.local.now
+BeginsFound (Came cell) = BeginsRecord cell.payload cell.local.now
+
+-- its text, which is none where both have it
+abbrev pub IsFoundText : (old new : Form) → Found → List ℕ → Type 0
+IsFoundText old new Same t = t ≡ []
+IsFoundText old new (Went cell) t = IsChangeText old new (went cell) t
+IsFoundText old new (Came cell) t = IsChangeText old new (came cell) t

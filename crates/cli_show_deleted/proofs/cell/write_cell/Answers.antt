@@ -4,7 +4,7 @@ use Rattle.std.specs.Io.KnownBytes.{Appends}
 use Rattle.std.proofs.KnownBytes.{Appends-trans}
 use Rattle.std.proofs.lemmas.Result.{on_ok_weaker}
 use Rattle.cli_row_text.specs.Lines.{integer_text}
-use Rattle.cli_show_deleted.specs.Lines.{place_text, colon_text, tail_text}
+use Rattle.cli_show_deleted.specs.Lines.{opening_text, place_text, colon_text, tail_text}
 use Rattle.cli_show_deleted.proofs.cell.write_cell.Goals as goal
 
 pub returns : goal.returns
@@ -12,6 +12,7 @@ returns g c =
     let notation = c.args.form.notation in
     let cell = c.args.cell.now in
     let old = g.W.Write.contents c.args.out.now in
+    let opened = g.W.Write.contents c.write_opening.new.out in
     let placed = g.W.Write.contents c.write_place.new.out in
     let named = g.W.Write.contents c.write_integer.new.out in
     let colon = g.W.Write.contents c.write_colon.new.out in
@@ -25,7 +26,8 @@ returns g c =
     on_ok_weaker c.write_tail.result (λ last. (
       e.0,
       e.1,
-      Appends-trans old placed new (place_text notation cell) (id ++ (colon_text notation ++ (e.0 ++ tail))) c.in_ok-write_place.ensures
+      Appends-trans old opened new (opening_text c.args.mark notation) (place_text notation cell ++ (id ++ (colon_text notation ++ (e.0 ++ tail)))) c.in_ok-write_opening.ensures
+          (Appends-trans opened placed new (place_text notation cell) (id ++ (colon_text notation ++ (e.0 ++ tail))) c.in_ok-write_place.ensures
           (Appends-trans placed named new id (colon_text notation ++ (e.0 ++ tail)) told
-          (Appends-trans named colon new (colon_text notation) (e.0 ++ tail) c.in_ok-write_colon.ensures (Appends-trans colon held new e.0 tail e.2 last))),
+          (Appends-trans named colon new (colon_text notation) (e.0 ++ tail) c.in_ok-write_colon.ensures (Appends-trans colon held new e.0 tail e.2 last)))),
     )) c.write_tail.ensures
