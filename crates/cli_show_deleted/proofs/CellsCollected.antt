@@ -9,13 +9,13 @@ use Rattle.sqpage.specs.Page.{HasParts}
 use Rattle.sqpage.proofs.btree.PartsOfCells.{parts_once}
 use Rattle.sqcheck.specs.declared.role.Role.{Role}
 use Rattle.sqcheck.specs.declared.role.Role.TheVariants.{Btree, FreeTrunk, FreeLeaf, Unused}
-use Rattle.sqdeleted.specs.Deleted.{BeginsRecord, IsCellOf}
+use Rattle.sqdeleted.specs.Deleted.{BeginsRecord}
 use Rattle.sqdeleted.specs.DeletedCursor.{AreLeft, CellsMove, IsLeft}
 use Rattle.sqdeleted.specs.declared.cell.DeletedCell.{DeletedCell}
 use Rattle.sqdeleted.specs.declared.cursor.DeletedCells.{DeletedCells}
 use Rattle.sqdeleted.proofs.CellsOfGaps.{cell_takes}
 use Rattle.cli_show_deleted.specs.Cells.{StandsIn, IsCellIn}
-use Rattle.cli_show_deleted.specs.Changes.{AreChangesOf, Change, HasCell, IsChangeIn, IsOnlyIn, UsedPage, went, came}
+use Rattle.cli_show_deleted.specs.Changes.{AreChangesOf, Change, HasCell, IsChangeIn, UsedPage, went, came}
 use Rattle.cli_show_deleted.specs.declared.candidate.Candidate.{Candidate}
 use Rattle.cli_show_deleted.specs.internal.Candidates.{AreCandidatesOf, AreChangesAmong, AreCollected, AreSound, Holds, IsCandidateIn, IsChangeAmong, place_of, places}
 use Rattle.cli_show_deleted.proofs.CellsTold.{begins_cell, cell_in, every_more, left_parts}
@@ -135,9 +135,9 @@ module _ (role : Role) (used : List ℕ) (number : ℕ) (xs : List Candidate) (a
   pub sound : AreSound xs
   sound = record { rise = are.rise; begin = all_begin xs are.each }
     where
-    all_begin : (ys : List Candidate) → Every (IsCandidateIn used number) ys → Every (λ x. BeginsRecord x.cell.payload x.cell.local.now) ys
-    all_begin [] all = tt
-    all_begin (y ∷ ys) all = (all.0.begins, all_begin ys all.1)
+      all_begin : (ys : List Candidate) → Every (IsCandidateIn used number) ys → Every (λ x. BeginsRecord x.cell.payload x.cell.local.now) ys
+      all_begin [] all = tt
+      all_begin (y ∷ ys) all = (all.0.begins, all_begin ys all.1)
 
   pub cell_stands : (x : Candidate) (cell : DeletedCell) → In x xs → x.cell ≡ cell → IsCellIn used number cell
   cell_stands x cell i e = subst (IsCellIn used number) e (every_in (IsCandidateIn used number) xs x are.each i).cell
@@ -163,7 +163,7 @@ changes_of role used later bytes number xs ys changes old new are =
       );
       each = every_weaker (IsChangeAmong xs ys) (IsChangeIn (record { role = role; used = used }) (record { role = later; used = bytes }) number) changes stands are.each;
     }
-    where
+  where
     stands : (c : Change) → IsChangeAmong xs ys c → IsChangeIn (record { role = role; used = used }) (record { role = later; used = bytes }) number c
     stands (went cell) (x, i, e) = cell_stands role used number xs old x cell i e
     stands (came cell) (x, i, e) = cell_stands later bytes number ys new x cell i e

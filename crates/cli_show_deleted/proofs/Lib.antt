@@ -10,3 +10,5 @@ pub mod PagesPrinted
 pub mod CellsCollected
 -- What stands in one of two lists of cells alone, one turn after another.
 pub mod TurnsOfCells
+-- The pages of two databases, one more at the end.
+pub mod PagesBetween

@@ -1,6 +1,7 @@
 -- What stands in one of two lists of cells alone, one turn after another.
-use Rattle.std.proofs.Common.{◌≡◌, ◌↔◌, ◌⊎◌, ◌∙◌, ℕ, suc, ◌+◌, ◌*◌, ◌<◌, ◌≤◌, List, [], ◌∷◌, ◌++◌, Option, Some, None, inl, inr, ⊎_elim, refl, sym, ap, subst, append_assoc, append-nil, arith}
+use Rattle.std.proofs.Common.{◌≡◌, ◌⊎◌, ◌∙◌, ℕ, suc, ◌+◌, ◌*◌, ◌<◌, ◌≤◌, List, [], ◌∷◌, ◌++◌, ◌-◌, Option, Some, length, take, drop, length-drop, inl, inr, ⊎_elim, refl, sym, ap, subst, append_assoc, append-nil, arith}
 use Rattle.std.proofs.KnownBytes.{Appends-nil, Appends-trans}
+use Rattle.std.proofs.lemmas.List.{take_all}
 use Rattle.std.specs.Io.KnownBytes.{Appends}
 use Rattle.sqpage.specs.Lists.{In, Every}
 use Rattle.sqdeleted.specs.Deleted.{BeginsRecord}
@@ -22,6 +23,10 @@ rise_least : (a : ℕ) (xs : List ℕ) (y : ℕ) → Rise a xs → In y xs → a
 rise_least a [] y rise i = absurd i
 rise_least a (x ∷ xs) y (le, more) (inl e) = omega (arith, le, e)
 rise_least a (x ∷ xs) y (le, more) (inr i) = let h : x + 1 ≤ y = rise_least (x + 1) xs y more i in omega (arith, le, h)
+
+-- what is left of a list behind so many
+pub rest_is : {A : Type 0} (i : ℕ) (xs : List A) → take (length xs - i) (drop i xs) ≡ drop i xs
+rest_is {A} i xs = take_all (length xs - i) (drop i xs) (let many : length (drop i xs) ≡ length xs - i = length-drop i xs in omega (arith, many))
 
 -- ---- what is held
 

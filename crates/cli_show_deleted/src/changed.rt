@@ -109,9 +109,9 @@ fn print_pages_between<S: PageSource, T: PageSource, W: Write>(
 
 /// Prints the cells of deleted rows that stand whole in pages of one of two databases alone, page by page, in the order
 /// of their places: those of the old one as cells that went, and those of the new one as cells that came. A cell is the
-/// same where its bytes are, at the same place of the same page; of one whose bytes changed the old one comes first. What
-/// a page is used for tells in which places of it cells are looked for, as by `print_deleted`: where that changes, cells
-/// come and go, though no byte of the page does.
+/// same where its bytes are, at the same place of the same page; of one whose bytes changed the old one comes first.
+/// What a page is used for tells in which places of it cells are looked for, as by `print_deleted`: where that changes,
+/// cells come and go, though no byte of the page does.
 ///
 /// Refused as `print_deleted` is of either, before anything is printed, and by an error of the writer; where memory runs
 /// out or the writer fails, what was printed stands.

@@ -12,9 +12,9 @@ use std::io::{BufWriter, Write};
 use std::rt::Files;
 use std::time::Clock;
 
-/// Prints which cells of deleted rows of a database file went and came between two commits of its log. No file is opened
-/// for writing, and none is made. Refused by `FileChanged` where a file changed meanwhile; lines may have been printed
-/// then.
+/// Prints which cells of deleted rows of a database file went and came between two commits of its log. No file is
+/// opened for writing, and none is made. Refused by `FileChanged` where a file changed meanwhile; lines may have been
+/// printed then.
 pub(crate) fn print_deleted_diff<R: Files + AllocGlobal + Clock, M: Count, O: Write, E: Write>(
     job: &Job<'_, R, M>,
     between: Between,

@@ -22,5 +22,5 @@ returns-in-Ok-clause-ok g c = λ gives.
     inr (survey, w.0, known.readable, known.surveyed.1, subst (λ (f : Form). AreTextsOf f d survey.roles.items (length d) w.0) known.form roles, w.2))
     (c.print_pages.ensures.ok (keeps.still_gives gives) usable)
 
-pub returns-clause-err : goal.returns-clause-err
-returns-clause-err g c = λ gives. ⊎_elim (λ out. inl out) (λ unfit. inr (unfit, refl)) (c.in-Err.ensures.err gives)
+pub returns-in-Err-clause-err : goal.returns-in-Err-clause-err
+returns-in-Err-clause-err g c = λ gives. ⊎_elim (λ out. inl out) (λ unfit. inr (unfit, refl)) (c.in-Err.ensures.err gives)

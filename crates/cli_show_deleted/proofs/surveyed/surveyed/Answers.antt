@@ -11,7 +11,7 @@ returns-in-Ok-survey_pages_with-clause-ok g c = λ gives.
     let P = g.S.PageSource in
     let d = P.pages c.args.source.now in
     let size = P.size c.args.source.now in
-    let read = c.layout_of-layout.new.source in
+    let read = c.layout_of.new.source in
     let laid = c.in-Ok.ensures.ok gives in
     let keeps = c.in-Ok.ensures.keeps in
     let found = c.in-Ok-survey_pages_with.ensures in
@@ -29,10 +29,10 @@ returns-in-Ok-survey_pages_with-clause-ok g c = λ gives.
 pub returns-in-Err-clause-err : goal.returns-in-Err-clause-err
 returns-in-Err-clause-err g c = λ gives. unlaid (g.S.PageSource.pages c.args.source.now) (g.S.PageSource.size c.args.source.now) c.in-Err.stop (c.in-Err.ensures.err gives)
 
-pub returns-clause-err : goal.returns-clause-err
-returns-clause-err g c = λ gives.
+pub returns-in-Err-survey_pages_with-clause-err : goal.returns-in-Err-survey_pages_with-clause-err
+returns-in-Err-survey_pages_with-clause-err g c = λ gives.
     let P = g.S.PageSource in
-    let read = c.layout_of-layout.new.source in
+    let read = c.layout_of.new.source in
     let keeps = c.in-Ok.ensures.keeps in
     let still = keeps.still_gives gives in
     let error = c.in-Err-survey_pages_with.error in
