@@ -13,8 +13,8 @@ use sqview::FileBytes;
 use std::alloc::Global;
 use std::io::Write;
 
-/// Prints the cells of deleted rows that stand at one of two commits of a log alone, of which the files are given twice.
-/// Refused as either view is; where they aren't printed to their end, those before stand.
+/// Prints the cells of deleted rows that stand at one of two commits of a log alone, of which the files are given
+/// twice. Refused as either view is; where they aren't printed to their end, those before stand.
 pub fn show_deleted_changes<F: FileBytes + Drop, W: Write>(
     alloc: Global,
     from: Contents<F>,

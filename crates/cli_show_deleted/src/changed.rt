@@ -113,8 +113,8 @@ fn print_pages_between<S: PageSource, T: PageSource, W: Write>(
 /// What a page is used for tells in which places of it cells are looked for, as by `print_deleted`: where that changes,
 /// cells come and go, though no byte of the page does.
 ///
-/// Refused as `print_deleted` is of either, before anything is printed, and by an error of the writer; where memory runs
-/// out or the writer fails, what was printed stands.
+/// Refused as `print_deleted` is of either, before anything is printed, and by an error of the writer; where memory
+/// runs out or the writer fails, what was printed stands.
 pub fn print_deleted_changes<S: PageSource, T: PageSource, W: Write>(
     alloc: Global,
     old: &mut S,

@@ -568,11 +568,7 @@ fn between_of(given: &[&str]) -> Option<Between>
 }
 
 /// What the options of `diff` that are all known ask for. None where they don't say so.
-fn rows_or_deleted<'a>(
-    given: &'a [&'a str],
-    file: &'a str,
-    options: Options,
-) -> Option<Request<'a>>
+fn rows_or_deleted<'a>(given: &'a [&'a str], file: &'a str, options: Options) -> Option<Request<'a>>
     ensures { MatchOption result (AsksNothingCompared (map (λ w. w.now) given.entry.now))
         (λ request. IsCompared (map (λ w. w.now) given.entry.now) file.entry options request
         ⊎ IsBetween (map (λ w. w.now) given.entry.now) file.entry options request) }
