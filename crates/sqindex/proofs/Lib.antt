@@ -23,3 +23,4 @@ pub mod KeyedScanned
 pub mod RowsOfKind
 pub mod EntriesMarked
 pub mod IndexesMarked
+pub mod RowidsAlike

@@ -1,8 +1,10 @@
 //! The entry of a row, beside one of the index (fileformat2, 2.4).
-ghost use Rattle.std.specs.Prelude.{◌≡◌};
+ghost use Rattle.std.specs.Prelude.{◌≡◌, IsTrue};
+ghost use Rattle.std.specs.declared.cmp.Ordering.TheVariants.{Equal};
 ghost use Rattle.sqlite_record.specs.Record.{decode};
 ghost use Rattle.sqlite_value.specs.Keys.{entry_cmp};
-ghost use Rattle.sqindex.specs.Keys.{entry_for};
+ghost use Rattle.sqindex.specs.Keys.{entry_for, IsKeyed};
+ghost use Rattle.sqindex.specs.Rules.{width};
 
 use crate::fields::value_in;
 use sqkeys::IndexKey;
@@ -38,4 +40,26 @@ pub(crate) fn compare_entry(key: &IndexKey, rowid: i64, row: &[u8], entry: &[u8]
         Some(_) => Ordering::Less,
         None => Ordering::Equal,
     }
+}
+
+/// Whether an entry that has the rowid of a row is the row's. Its rowid isn't read again.
+#[inline(always)]
+pub(crate) fn has_columns(key: &IndexKey, rowid: i64, row: &[u8], entry: &[u8]) -> bool
+    requires keyed { IsKeyed (width key.now) rowid (decode entry.now) }
+    ensures { IsTrue result → entry_cmp key.now.order (entry_for key.now.columns.items rowid (decode row.now))
+        (decode entry.now) ≡ Equal }
+{
+    let mut order = key.order;
+    let mut fields = Fields::new(entry);
+    'columns: for column in &key.columns {
+        let Some(other) = fields.next() else {
+            return false;
+        };
+        match order.compare_first(value_in(column, rowid, row), other) {
+            Ordering::Equal => {}
+            _ => return false,
+        }
+        order = order.later();
+    }
+    true
 }

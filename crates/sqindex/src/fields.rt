@@ -67,6 +67,7 @@ fn integer(value: ValueRef<'_>) -> Option<i64>
 }
 
 /// The rowid of an entry behind so many columns. None where it hasn't just these and an integer.
+#[inline(always)]
 pub(crate) fn rowid_in(entry: &[u8], columns: usize) -> Option<i64>
     ensures { MatchOption result ((rowid : ℤ) → ¬ IsKeyed columns rowid (decode entry.now))
         (λ rowid. IsKeyed columns rowid (decode entry.now)) }

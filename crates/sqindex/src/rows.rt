@@ -90,6 +90,7 @@ impl Rows {
 
     /// Goes on to the next row, whose payload the walk holds then. None behind the last one. Refused where a row can't
     /// be read, by OtherKind where it has no rowid, and by RowidOrder where that isn't above the one before.
+    #[inline(always)]
     fn advance<S: PageSource>(&mut self, source: &mut S) -> Result<Option<Found>, ReadError>
         requires sized { S.size source.old ≡ self.old.walk.cells.size }
         ensures ok { S.gives_pages source.old → (table : ℕ) (given : List Stored)

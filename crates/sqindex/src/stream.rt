@@ -15,7 +15,7 @@ ghost use Rattle.sqindex.specs.internal.Stepping.{StepsOn, HoldsOn, IsStartOf, S
 ghost use Rattle.sqindex.specs.internal.RowsGiven.{IsCursor};
 ghost use Rattle.sqindex.specs.internal.Held.{plain};
 
-use crate::compare::compare_entry;
+use crate::compare::has_columns;
 use crate::entries::Entries;
 use crate::error::{EntryError, IndexError, ReadError};
 use crate::fault::IndexFault;
@@ -30,7 +30,6 @@ use crate::walk::{Found, Walk};
 use sqkeys::IndexKey;
 use sqpage::PageSource;
 use std::alloc::Global;
-use std::cmp::Ordering;
 
 /// What is known of the entries of an index so far beside the rows of its table.
 #[derive(Clone, Copy, Debug)]
@@ -103,15 +102,18 @@ fn see(
 }
 
 /// Whether an entry that has this rowid is that of a row.
+#[inline(always)]
 fn is_of(key: &IndexKey, found: Found, row: &[u8], rowid: i64, entry: &[u8]) -> bool
+    requires keyed { IsKeyed (width key.now) rowid (decode entry.now) }
     ensures { IsTrue result → (rowid_of (stored_of found row.now) ≡ rowid) × (entry_cmp key.now.order
         (entry_for key.now.columns.items rowid (decode row.now)) (decode entry.now) ≡ Equal) }
 {
-    found.rowid == Some(rowid) && compare_entry(key, rowid, row, entry) == Ordering::Equal
+    found.rowid == Some(rowid) && has_columns(key, rowid, row, entry)
 }
 
 /// Goes on by one row, where it is the one of an entry that has this rowid. InRange where it isn't, and the row is left
 /// for later; Lost where no row can be read.
+#[inline(always)]
 fn step<S: PageSource>(
     source: &mut S,
     key: &IndexKey,
@@ -120,6 +122,7 @@ fn step<S: PageSource>(
     entry: &[u8],
 ) -> Stage
     requires sized { S.size source.old ≡ rows.old.walk.cells.size }
+    requires keyed { IsKeyed (width key.now) rowid (decode entry.now) }
     ensures goes { S.gives_pages source.old → (table : ℕ) (given : List Stored)
         → IsCursor (S.pages source.old) table rows.old given
         → StepsOn (S.pages source.old) table key.now rowid entry.now given rows.new result }
@@ -153,6 +156,7 @@ fn hold(alloc: Global, part: &mut Part, found: Found, rowid: i64, entry: &[u8], 
 }
 
 /// Goes on with an entry that has this rowid.
+#[inline(always)]
 fn go_on<S: PageSource>(
     source: &mut S,
     key: &IndexKey,
@@ -188,6 +192,7 @@ fn go_on<S: PageSource>(
 }
 
 /// Goes on with an entry that has this rowid, or none.
+#[inline(always)]
 fn take<S: PageSource>(
     source: &mut S,
     key: &IndexKey,

@@ -120,6 +120,7 @@ impl Walk {
     }
 
     /// Goes on to the next cell in order. None behind the last one. Refused as `sqrows::Rows::advance` does.
+    #[inline(always)]
     pub(crate) fn advance<S: PageSource>(
         &mut self,
         source: &mut S,
