@@ -1,20 +1,67 @@
 -- Words that ask as a part of a command line does ask as that does.
-use Rattle.std.proofs.Common.{◌≡◌, ◌⊎◌, inl, inr, ⊎_elim, subst, ℕ, List, true, Option, Some, Result, Ok, Err}
+use Rattle.std.proofs.Common.{◌≡◌, ◌⊎◌, inl, inr, ⊎_elim, ◌∙◌, refl, sym, ap, subst, ℕ, List, [], ◌∷◌, ◌++◌, Bor, Option, None, Some, Result, Ok, Err}
 use Rattle.std.specs.Prelude.{codes, slice_get, IfOk}
 use Rattle.std.specs.List.{Contains}
+use Rattle.std.proofs.lemmas.List.{map-append}
+use Rattle.std.proofs.lemmas.List.Elements.{Contains-push_cases}
 use Rattle.cli_held.specs.declared.line.Hidden.{Hidden}
+use Rattle.cli_held.specs.declared.line.Hidden.TheVariants as hidden
 use Rattle.cli_held.specs.declared.todo.Todo.{Todo}
 use Rattle.cli_held.specs.declared.todo.Todo.TheVariants.{Run, Tell, Refuse}
-use Rattle.cli_held.specs.Todo.{IsHidden, IsPrepared, texts}
-use Rattle.cli_held.specs.internal.Asking.{IsRefused, KeepsAsking}
+use Rattle.cli_held.specs.Todo.{AreLeft, AreSome, IsHidden, IsBare, IsPrepared, SaysNothing, texts}
+use Rattle.cli_held.specs.internal.Asking.{AreAs, IsRefused, IsUnheld, KeepsAsking}
 
 pub when_ok : {T E : Type 0} (P Q : T → Type 0) → ((x : T) → P x → Q x) → (r : Result T E) → IfOk r P → IfOk r Q
 when_ok P Q more (Ok x) is = more x is
 when_ok P Q more (Err e) is = is
 
-pub kept_prepared : (words left : List (List ℕ)) → ((word : List ℕ) → Contains left word → Contains words word)
-    → (hidden : Option Hidden) → IsHidden words hidden → (todo : Todo) → KeepsAsking (IsRefused hidden) left todo → IsPrepared words todo
-kept_prepared words left only hidden stands (Run done under wait) asks =
-    (λ forced. ⊎_elim (λ said. inl (only _ said)) (λ held. inr (inr held)) (asks.0 forced), asks.1)
-kept_prepared words left only hidden stands (Tell line) asks = absurd asks
-kept_prepared words left only hidden stands (Refuse done why) asks = (subst (IsHidden words) asks.1 stands).0
+-- one word more, which is one of these or asks nobody
+pub some_more : (words done : List (List ℕ)) (one : List ℕ) → AreSome words done → Contains words one ⊎ (one ≡ codes "--force") → AreSome words (done ++ one ∷ [])
+some_more words done one some is word there =
+    ⊎_elim (some word) (λ e. subst (λ (w : List ℕ). Contains words w ⊎ (w ≡ codes "--force")) e is) (Contains-push_cases done one word there)
+
+pub pushed : (words : List (List ℕ)) (before after : List (Bor (List ℕ))) (one : Bor (List ℕ)) → after ≡ before ++ one ∷ [] → AreSome words (texts before)
+    → Contains words one.now ⊎ (one.now ≡ codes "--force") → AreSome words (texts after)
+pushed words before after one e some is =
+    subst (AreSome words) (sym (ap texts e ∙ map-append (λ (w : Bor (List ℕ)). w.now) before (one ∷ []))) (some_more words (texts before) one.now some is)
+
+-- where nothing stands before the command, nothing was found there
+not_hidden : (words : List (List ℕ)) (said : Option Hidden) → IsBare words → IsHidden words said → said ≡ None
+not_hidden words None bare is = refl
+not_hidden words (Some hidden.Locks) bare is = absurd (bare.0 is)
+not_hidden words (Some (hidden.Held numbers)) bare is = absurd (bare.1 is.0)
+not_hidden words (Some (hidden.Refused why)) bare is = absurd (bare.2 is.0)
+
+module _ (words left : List (List ℕ)) (only : (word : List ℕ) → Contains left word → Contains words word) (said : Option Hidden) (stands : IsHidden words said) where
+  some_of_words : (done : List (List ℕ)) → AreSome left done → AreSome words done
+  some_of_words done some word there = ⊎_elim (λ l. inl (only word l)) inr (some word there)
+
+  left_as : (plain : said ≡ None → SaysNothing words → left ≡ words) (done : List (List ℕ)) → AreAs said left done → AreLeft words done
+  left_as plain done like = record {
+    only = some_of_words done (some said like);
+    plain = λ bare nothing. let none = not_hidden words said bare stands in exact said none like ∙ plain none nothing;
+  }
+    where
+      some : (of : Option Hidden) → AreAs of left done → AreSome left done
+      some None is = λ word there. inl (subst (λ (l : List (List ℕ)). Contains l word) is there)
+      some (Some h) is = is
+
+      exact : (of : Option Hidden) → of ≡ None → AreAs of left done → done ≡ left
+      exact None none is = is
+      exact (Some h) none is = absurd (cc none)
+
+  pub kept_prepared : (said ≡ None → SaysNothing words → left ≡ words) → (todo : Todo) → KeepsAsking (IsRefused said) said left todo → IsPrepared words todo
+  kept_prepared plain (Run done under wait) asks =
+      (λ forced. ⊎_elim (λ said. inl (only _ said)) (λ held. inr (inr held)) (asks.0.0 forced), asks.0.1, left_as plain (texts done.items) asks.1)
+  kept_prepared plain (Tell line) asks = absurd asks
+  kept_prepared plain (Refuse done why) asks = ((subst (IsHidden words) asks.0.1 stands).0, left_as plain (texts done.items) asks.1)
+
+  -- words that are carried out without locks
+  pub unheld_prepared : Contains words (codes "--no-lock") → (said ≡ None → SaysNothing words → ⊥) → (todo : Todo) → IsUnheld left todo → IsPrepared words todo
+  unheld_prepared unlocked never (Run done under wait) is = (
+    λ forced. inr (inl unlocked),
+    λ held. absurd (cc (is.0, held)),
+    record { only = some_of_words (texts done.items) is.1; plain = λ bare nothing. absurd (never (not_hidden words said bare stands) nothing) },
+  )
+  unheld_prepared unlocked never (Tell line) is = absurd is
+  unheld_prepared unlocked never (Refuse done why) is = absurd is

@@ -35,8 +35,23 @@ IsPlainLine words line = line.hidden ≡ None → SaysNothing words → (texts l
 abbrev pub MayAskNobody : (words : List (List ℕ)) → Locks → Type 0
 MayAskNobody words under = Contains words (codes "--force") ⊎ Contains words (codes "--no-lock") ⊎ (under ≡ locks.Held held.Everything)
 
--- Words are carried out as ones that ask nobody only where they may be; locks are held only where some are.
+-- nothing stands before the command
+abbrev pub IsBare : (words : List (List ℕ)) → Type 0
+IsBare words = (slice_get words 1 ≢ Some (codes "--locks")) × (slice_get words 1 ≢ Some (codes "--held")) × (slice_get words 1 ≢ Some (codes "--refused"))
+
+-- each is one of these words, or the one by which nobody is asked
+abbrev pub AreSome : (words done : List (List ℕ)) → Type 0
+AreSome words done = (word : List ℕ) → Contains done word → Contains words word ⊎ (word ≡ codes "--force")
+
+-- What is left of words without what they say of locks, and what stands before the command: they themselves, where they
+-- say nothing of them and nothing stands there.
+pub record AreLeft (words done : List (List ℕ)) : Type 0 where
+  pub only : AreSome words done
+  pub plain : IsBare words → SaysNothing words → done ≡ words
+
+-- These are carried out, as words that ask nobody only where they may be; locks are held only where some are.
 abbrev pub IsPrepared : (words : List (List ℕ)) → Todo → Type 0
 IsPrepared words (Run done under wait) = (Contains (texts done.items) (codes "--force") → MayAskNobody words under) × (under ≢ locks.Held held.Nothing)
+    × AreLeft words (texts done.items)
 IsPrepared words (Tell line) = slice_get words 1 ≡ Some (codes "--locks")
-IsPrepared words (Refuse done why) = slice_get words 1 ≡ Some (codes "--refused")
+IsPrepared words (Refuse done why) = (slice_get words 1 ≡ Some (codes "--refused")) × AreLeft words (texts done.items)

@@ -1,7 +1,7 @@
 //! What is to be done with a command line.
 ghost use Rattle.std.specs.Prelude.{◌≡◌, ◌≢◌, IfOk, IsTrue, MatchOption, Some};
 ghost use Rattle.cli_held.specs.Held.{IsTold};
-ghost use Rattle.cli_held.specs.Todo.{IsPrepared, texts};
+ghost use Rattle.cli_held.specs.Todo.{AreSome, IsPrepared, texts};
 ghost use Rattle.cli_held.specs.internal.Asking.{IsRefused, IsUnheld, KeepsAsking};
 
 use crate::fdinfo::{Held, held_by};
@@ -118,13 +118,15 @@ fn held_for<R: Files + AllocGlobal>(
 }
 
 /// The words of a recovery, with the option by which nobody is asked whether the file is in use.
-fn unasked<'a>(alloc: Global, words: &[&'a str]) -> io::Result<Vec<&'a str>> {
+fn unasked<'a>(alloc: Global, words: &[&'a str]) -> io::Result<Vec<&'a str>>
+    ensures { IfOk result (λ all. AreSome (texts words.entry.now) (texts all.items)) }
+{
     let mut all = Vec::new(alloc);
-    for (i, word) in words.iter().enumerate() {
+    for i in 0..words.len() {
         if i == 2 {
             all.push("--force")?;
         }
-        all.push(*word)?;
+        all.push(words[i])?;
     }
     Ok(all)
 }
@@ -143,7 +145,8 @@ fn asking_nobody<'a>(
     words: Vec<&'a str>,
     want: Option<Want>,
 ) -> io::Result<Vec<&'a str>>
-    ensures { want ≢ Some Want.Recover → IfOk result (λ all. all ≡ words.entry) }
+    ensures same { want ≢ Some Want.Recover → IfOk result (λ all. all ≡ words.entry) }
+    ensures some { IfOk result (λ all. AreSome (texts words.entry.items) (texts all.items)) }
 {
     match want {
         Some(Want::Recover) => unasked(alloc, words.as_slice()),
@@ -159,7 +162,7 @@ fn to_run<'a, R: Files + AllocGlobal>(
     numbers: &str,
     wait: u32,
 ) -> io::Result<Todo<'a>>
-    ensures { IfOk result (KeepsAsking ⊥ (texts words.entry.items)) }
+    ensures { IfOk result (KeepsAsking ⊥ (Some (Hidden.Held numbers.entry)) (texts words.entry.items)) }
 {
     match held_for(rt, words.as_slice(), numbers) {
         Ok((want, held)) if held != Held::Nothing => Ok(Todo::Run {
@@ -177,7 +180,7 @@ fn to_run<'a, R: Files + AllocGlobal>(
 
 /// What is to be done with words whose locks can't be had.
 fn without<'a>(alloc: Global, words: Vec<&'a str>, why: &str, wait: u32) -> Todo<'a>
-    ensures { KeepsAsking (Unit {0}) (texts words.entry.items) result }
+    ensures { KeepsAsking (Unit {0}) (Some (Hidden.Refused why.entry)) (texts words.entry.items) result }
 {
     match (why, want_of(alloc, words.as_slice())) {
         (_, None) => Todo::Run {
@@ -198,7 +201,7 @@ fn without<'a>(alloc: Global, words: Vec<&'a str>, why: &str, wait: u32) -> Todo
 
 /// What is to be done with words that are to be carried out without locks: at once, and nobody is asked.
 fn unlocked<'a>(alloc: Global, words: Vec<&'a str>) -> io::Result<Todo<'a>>
-    ensures { IfOk result IsUnheld }
+    ensures { IfOk result (IsUnheld (texts words.entry.items)) }
 {
     let want = want_of(alloc, words.as_slice());
     Ok(Todo::Run {
@@ -215,7 +218,7 @@ fn ready<'a, R: Files + AllocGlobal>(
     words: Vec<&'a str>,
     wait: u32,
 ) -> io::Result<Todo<'a>>
-    ensures { IfOk result (KeepsAsking (IsRefused hidden.entry) (texts words.entry.items)) }
+    ensures { IfOk result (KeepsAsking (IsRefused hidden.entry) hidden.entry (texts words.entry.items)) }
 {
     match hidden {
         Some(Hidden::Held(numbers)) => to_run(rt, words, numbers, wait),
