@@ -303,11 +303,9 @@ pub(crate) fn deleted_arg<'a>(alloc: Global) -> Made<Arg<'a>> {
 
 /// Whether the changes of deleted rows' cells are printed.
 pub(crate) fn deleted_changes_arg<'a>(alloc: Global) -> Made<Arg<'a>> {
-    let help = "Prints which cells of deleted rows, as rows --deleted finds them, went and came instead";
-    let arg = without(
-        without(Ok(flag(alloc, "deleted", help)), "sql"),
-        "commits",
-    );
+    let help =
+        "Prints which cells of deleted rows, as rows --deleted finds them, went and came instead";
+    let arg = without(without(Ok(flag(alloc, "deleted", help)), "sql"), "commits");
     without(arg, "table")
 }
 
