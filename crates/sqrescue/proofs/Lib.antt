@@ -1,1 +1,4 @@
 pub mod ComesOfFound
+pub mod DiffsOfFiles
+pub mod GreatestStatus
+pub mod WordsEnd

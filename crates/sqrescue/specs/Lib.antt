@@ -1,4 +1,7 @@
 pub mod Comes
+pub mod Diffs
+pub mod Each
 pub mod Locking
 pub mod Reads
 pub mod Runs
+pub mod internal

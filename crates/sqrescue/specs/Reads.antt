@@ -1,5 +1,5 @@
 -- What a reading of a database file comes to (own).
-use Rattle.std.specs.Prelude.{◌≡◌, ◌⊎◌, ℕ, Bool, true, false, ◌||◌, List, Result, IsErrAnd}
+use Rattle.std.specs.Prelude.{◌≡◌, ◌⊎◌, ℕ, Bool, true, false, ◌||◌, List, Option, Result, IsErrAnd}
 use Rattle.cli_words.specs.declared.requests.Options.{Options}
 use Rattle.cli_words.specs.declared.requests.Part.TheVariants as parts
 use Rattle.cli_files.specs.declared.opened_file.OpenedFile.{OpenedFile}
@@ -8,8 +8,10 @@ use Rattle.cli_show.specs.Limits.{limits_named}
 use Rattle.cli_show.specs.declared.error.ShowError.{ShowError}
 use Rattle.cli_show.specs.declared.views.Asked.{Asked}
 use Rattle.sqrescue.specs.Comes.{Comes}
+use Rattle.sqrescue.specs.Diffs.{DiffsTo}
+use Rattle.cli_recover.specs.Copies.{CopiesTo}
+use Rattle.cli_report.specs.Reports.{ReportsTo}
 use Rattle.cli_report.specs.Salvages.{SalvagesTo}
-use Rattle.cli_job.specs.Answers.{IsDoneOr}
 use Rattle.cli_job.specs.Sources.{IsAloneOf, IsSourceOf, IsUnsourced}
 use Rattle.cli_job.specs.declared.answers.Answer.{Answer}
 use Rattle.cli_job.specs.declared.commands.Command.{Command}
@@ -35,13 +37,13 @@ command_of (looks.Rows wanted) options = Rows wanted
 command_of (looks.Places table) options = Places table
 command_of looks.Deleted options = Deleted
 
--- What a reading of these files comes to: a look as its command does, a salvage as its script ended, a copy is made or
--- refused.
+-- What a reading of these files comes to: a look as its command does, a diff as its changes were printed, a report by the
+-- survey of its pages, a salvage as its script ended, and a copy as what is planned of the files.
 abbrev pub ReadsTo : {F : Type 0} → (bytes : OpenedFile F → List ℕ) → (gives : OpenedFile F → Type 0) → Reading → Source → Result Answer ShowError → Type 0
 ReadsTo bytes gives (readings.Look look) source answer = Comes bytes gives source (command_of look source.options) answer
-ReadsTo bytes gives (readings.Copy to) source answer = IsDoneOr answer
-ReadsTo bytes gives (readings.Report to changes) source answer = Unit {0}
-ReadsTo bytes gives (readings.Diff compared) source answer = Unit {0}
+ReadsTo bytes gives (readings.Copy to) source answer = (before after : Option (List ℕ)) × CopiesTo bytes gives source to.now answer before after
+ReadsTo bytes gives (readings.Report to changes) source answer = ReportsTo bytes gives source answer
+ReadsTo bytes gives (readings.Diff compared) source answer = DiffsTo bytes gives source compared answer
 ReadsTo bytes gives (readings.DeletedDiff between) source answer = Unit {0}
 ReadsTo bytes gives (readings.Salvage to places) source answer = SalvagesTo bytes gives source places answer
 

@@ -1,5 +1,5 @@
 -- What a run of the program comes to (own).
-use Rattle.std.specs.Prelude.{◌≡◌, ◌⊎◌, ℕ, ◌++◌, List, Option, None, Some, Result, Err, codes}
+use Rattle.std.specs.Prelude.{◌≡◌, ◌⊎◌, ℕ, ◌++◌, List, Option, None, Some, Result, Ok, Err, codes}
 use Rattle.std.specs.Borrow.{Bor}
 use Rattle.std.specs.List.{Contains}
 use Rattle.cli_facts.specs.Statuses.{status_code}
@@ -16,14 +16,18 @@ use Rattle.cli_words.specs.declared.requests.Options.{Options}
 use Rattle.cli_words.specs.declared.requests.Cells.TheVariants as cells
 use Rattle.cli_words.specs.declared.requests.Request.{Request}
 use Rattle.cli_words.specs.declared.requests.Request.TheVariants as requests
-use Rattle.cli_job.specs.Answers.{status_named, IsDoneOr}
+use Rattle.cli_job.specs.Answers.{Tells, status_named}
+use Rattle.cli_recover.specs.Recovers.{RecoversTo}
 use Rattle.sqrescue.specs.Locking.{refusal_of}
 use Rattle.sqrescue.specs.Reads.{IsRead}
 use Rattle.cli_job.specs.declared.answers.Answer.{Answer}
+use Rattle.cli_job.specs.declared.answers.Answer.TheVariants as answers
 use Rattle.sqrescue.specs.declared.program.Under.{Under}
 use Rattle.sqrescue.specs.declared.program.Under.TheVariants as under
 use Rattle.sqrescue.specs.declared.readings.Look.TheVariants.{Part, Damage, Rows, Places, Deleted}
 use Rattle.sqrescue.specs.declared.readings.Read.{Read}
+use Rattle.sqrescue.specs.declared.readings.Task.{Task}
+use Rattle.sqrescue.specs.declared.readings.Task.TheVariants as tasks
 use Rattle.sqrescue.specs.declared.readings.Reading.{Reading}
 use Rattle.sqrescue.specs.declared.readings.Reading.TheVariants.{Look, Diff, DeletedDiff, Copy, Report, Salvage}
 
@@ -31,30 +35,34 @@ use Rattle.sqrescue.specs.declared.readings.Reading.TheVariants.{Look, Diff, Del
 abbrev pub read_named : Reading → (file : Bor (List ℕ)) → Options → Read
 read_named reading file options = record { reading = reading; file = file; options = options }
 
--- what is read for a request; none for a recovery in place and for the version
-abbrev pub read_for : Request → Option Read
-read_for (requests.Show file part options) = Some (read_named (Look (Part part)) file options)
-read_for (requests.Check file deep options) = Some (read_named (Look (Damage deep)) file options)
-read_for (requests.Rows file table form options) = Some (read_named (Look (Rows (record { table = table; form = form }))) file options)
-read_for (requests.Cells file (cells.Places table) options) = Some (read_named (Look (Places table)) file options)
-read_for (requests.Cells file cells.Deleted options) = Some (read_named (Look Deleted) file options)
-read_for (requests.Diff file compared options) = Some (read_named (Diff compared) file (record options { at = compared.to }))
-read_for (requests.DeletedDiff file between options) = Some (read_named (DeletedDiff between) file (record options { at = between.to }))
-read_for (requests.Recover file (Some to) force options) = Some (read_named (Copy to) file options)
-read_for (requests.Recover file None force options) = None
-read_for (requests.Report file to changes options) = Some (read_named (Report to changes) file options)
-read_for (requests.Salvage file to places options) = Some (read_named (Salvage to places) file options)
-read_for requests.Version = None
+-- what a request is carried out by
+abbrev pub task_of : Request → Task
+task_of (requests.Show file part options) = tasks.Read (read_named (Look (Part part)) file options)
+task_of (requests.Check file deep options) = tasks.Read (read_named (Look (Damage deep)) file options)
+task_of (requests.Rows file table form options) = tasks.Read (read_named (Look (Rows (record { table = table; form = form }))) file options)
+task_of (requests.Cells file (cells.Places table) options) = tasks.Read (read_named (Look (Places table)) file options)
+task_of (requests.Cells file cells.Deleted options) = tasks.Read (read_named (Look Deleted) file options)
+task_of (requests.Diff file compared options) = tasks.Read (read_named (Diff compared) file (record options { at = compared.to }))
+task_of (requests.DeletedDiff file between options) = tasks.Read (read_named (DeletedDiff between) file (record options { at = between.to }))
+task_of (requests.Recover file (Some to) force options) = tasks.Read (read_named (Copy to) file options)
+task_of (requests.Recover file None force options) = tasks.Recover file force options
+task_of (requests.Report file to changes options) = tasks.Read (read_named (Report to changes) file options)
+task_of (requests.Salvage file to places options) = tasks.Read (read_named (Salvage to places) file options)
+task_of requests.Version = tasks.Version
 
--- what a request comes to that reads this; what reads nothing so is done, or refused
-abbrev pub ComesBy : {F : Type 0} → (bytes : OpenedFile F → List ℕ) → (gives : OpenedFile F → Type 0) → Option Read → Result Answer ShowError → Type 0
-ComesBy bytes gives (Some read) answer = IsRead bytes gives read answer
-ComesBy bytes gives None answer = IsDoneOr answer
+-- What it comes to: what is read as its reading does; a recovery in place as what was planned of the file, of which the
+-- outcome is printed; the version is printed, or couldn't be.
+abbrev pub ComesBy : {F : Type 0} → (bytes : OpenedFile F → List ℕ) → (gives : OpenedFile F → Type 0) → Task → Result Answer ShowError
+    → (before after : Option (List ℕ)) → Type 0
+ComesBy bytes gives (tasks.Read read) answer before after = IsRead bytes gives read answer
+ComesBy bytes gives (tasks.Recover file force options) answer before after = RecoversTo bytes gives file.now options answer before after
+ComesBy bytes gives tasks.Version answer before after = Tells (Ok answers.Done) answer
 
 -- under these locks, or without them as it is refused
-abbrev pub ComesUnder : {F : Type 0} → (bytes : OpenedFile F → List ℕ) → (gives : OpenedFile F → Type 0) → Under → Request → Result Answer ShowError → Type 0
-ComesUnder bytes gives (under.Locks locks wait) request answer = ComesBy bytes gives (read_for request) answer
-ComesUnder bytes gives (under.Refused refusal) request answer = answer ≡ Err (errors.Refused refusal)
+abbrev pub ComesUnder : {F : Type 0} → (bytes : OpenedFile F → List ℕ) → (gives : OpenedFile F → Type 0) → Under → Request → Result Answer ShowError
+    → (before after : Option (List ℕ)) → Type 0
+ComesUnder bytes gives (under.Locks locks wait) request answer before after = ComesBy bytes gives (task_of request) answer before after
+ComesUnder bytes gives (under.Refused refusal) request answer before after = answer ≡ Err (errors.Refused refusal)
 
 -- a word by which help may be asked for: its name, or an option with an h
 abbrev pub MayAskHelp : (word : List ℕ) → Type 0
@@ -70,22 +78,35 @@ EndsUnasked words statuses.Damaged = ⊥
 EndsUnasked words statuses.NotUnderstood = Unit {0}
 EndsUnasked words statuses.Refused = Unit {0}
 
--- How a run ends: as what the words ask for comes to.
-abbrev pub Ends : {F : Type 0} → (bytes : OpenedFile F → List ℕ) → (gives : OpenedFile F → Type 0) → Under → (words : List (List ℕ)) → Status → Type 0
-Ends bytes gives locks words status =
-    ((request : Request) × Asks words request × ((answer : Result Answer ShowError) × ComesUnder bytes gives locks request answer × (status ≡ status_named answer)))
-    ⊎ EndsUnasked words status
+-- A run whose words ask for something ends as that comes to; where it is done, what it prints is all that is printed.
+pub record EndsAsked {F : Type 0} (bytes : OpenedFile F → List ℕ) (gives : OpenedFile F → Type 0) (locks : Under) (words : List (List ℕ)) (status : Status)
+    (before after : Option (List ℕ)) : Type 0 where
+  pub request : Request
+  pub asks : Asks words request
+  pub answer : Result Answer ShowError
+  pub printed : Option (List ℕ)
+  pub comes : ComesUnder bytes gives locks request answer before printed
+  pub ends : status ≡ status_named answer
+  pub all : answer ≡ Ok answers.Done → after ≡ printed
+
+-- How a run ends: so, or as its words ask for nothing.
+abbrev pub Ends : {F : Type 0} → (bytes : OpenedFile F → List ℕ) → (gives : OpenedFile F → Type 0) → Under → (words : List (List ℕ)) → Status
+    → (before after : Option (List ℕ)) → Type 0
+Ends bytes gives locks words status before after = EndsAsked bytes gives locks words status before after ⊎ EndsUnasked words status
 
 -- with this number
-abbrev pub EndsBy : {F : Type 0} → (bytes : OpenedFile F → List ℕ) → (gives : OpenedFile F → Type 0) → Under → (words : List (List ℕ)) → (code : ℕ) → Type 0
-EndsBy bytes gives locks words code = (status : Status) × Ends bytes gives locks words status × (code ≡ status_code status)
+abbrev pub EndsBy : {F : Type 0} → (bytes : OpenedFile F → List ℕ) → (gives : OpenedFile F → Type 0) → Under → (words : List (List ℕ)) → (code : ℕ)
+    → (before after : Option (List ℕ)) → Type 0
+EndsBy bytes gives locks words code before after = (status : Status) × Ends bytes gives locks words status before after × (code ≡ status_code status)
 
 -- What is to be done with a line ends so.
-abbrev pub DoesTodo : {F : Type 0} → (bytes : OpenedFile F → List ℕ) → (gives : OpenedFile F → Type 0) → Todo → (code : ℕ) → Type 0
-DoesTodo bytes gives (Run words locks wait) code = EndsBy bytes gives (under.Locks locks wait) (texts words.items) code
-DoesTodo bytes gives (Tell line) code = (code ≡ 0) ⊎ (code ≡ 3)
-DoesTodo bytes gives (Refuse words why) code = EndsBy bytes gives (under.Refused (refusal_of why)) (texts words.items) code
+abbrev pub DoesTodo : {F : Type 0} → (bytes : OpenedFile F → List ℕ) → (gives : OpenedFile F → Type 0) → Todo → (code : ℕ)
+    → (before after : Option (List ℕ)) → Type 0
+DoesTodo bytes gives (Run words locks wait) code before after = EndsBy bytes gives (under.Locks locks wait) (texts words.items) code before after
+DoesTodo bytes gives (Tell line) code before after = (code ≡ 0) ⊎ (code ≡ 3)
+DoesTodo bytes gives (Refuse words why) code before after = EndsBy bytes gives (under.Refused (refusal_of why)) (texts words.items) code before after
 
 -- How the program ends whose line names one file.
-abbrev pub EndsLine : {F : Type 0} → (bytes : OpenedFile F → List ℕ) → (gives : OpenedFile F → Type 0) → (words : List (List ℕ)) → (code : ℕ) → Type 0
-EndsLine bytes gives words code = (todo : Todo) × IsPrepared words todo × DoesTodo bytes gives todo code
+abbrev pub EndsLine : {F : Type 0} → (bytes : OpenedFile F → List ℕ) → (gives : OpenedFile F → Type 0) → (words : List (List ℕ)) → (code : ℕ)
+    → (before after : Option (List ℕ)) → Type 0
+EndsLine bytes gives words code before after = (todo : Todo) × IsPrepared words todo × DoesTodo bytes gives todo code before after

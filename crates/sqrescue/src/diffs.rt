@@ -1,4 +1,9 @@
 //! What `diff` prints.
+ghost use Rattle.std.specs.Prelude.{◌≡◌, IfErr, IfOk, true};
+ghost use Rattle.cli_files.specs.Files.{opened_bytes};
+ghost use Rattle.cli_job.specs.Opened.{GivesBytes, IsUnopened};
+ghost use Rattle.sqrescue.specs.Diffs.{AreNew, AreOpenedAt, Diffs, DiffsTo, compared_to, files_ahead};
+
 use crate::answers::KEPT;
 use cli_dump::{Printed, show_changes, show_history};
 use cli_facts::{Notes, Refusal, SystemFile};
@@ -24,6 +29,8 @@ pub(crate) fn print_diff<R: Files + AllocGlobal + Clock, M: Count, O: Write, E: 
 ) -> Result<Answer, ShowError>
 where
     R::File: SystemFile,
+    ensures { DiffsTo (opened_bytes R.File.bytes)
+        (GivesBytes R.File.bytes R.File.keeps_word R.File.never_fails) job.entry.now.source.now compared.entry result }
 {
     match BufWriter::with_capacity(job.rt.alloc(), KEPT, out) {
         Ok(mut lines) => match changes_standing(job, compared, &mut lines, notes) {
@@ -52,6 +59,9 @@ fn changes_standing<R: Files + AllocGlobal + Clock, M: Count, W: Write, E: Write
 ) -> Result<Printed, Refusal>
 where
     R::File: SystemFile,
+    ensures { Diffs (opened_bytes R.File.bytes)
+        (GivesBytes R.File.bytes R.File.keeps_word R.File.never_fails) job.entry.now.source.now
+        (compared_to job.entry.now.source.now compared.entry) result }
 {
     let to = job.source.options.at;
     let before = job.before(false, notes)?;
@@ -72,6 +82,8 @@ fn changes_now<R: Files + AllocGlobal + Clock, M: Count, W: Write, E: Write>(
 ) -> Result<Printed, Refusal>
 where
     R::File: SystemFile,
+    ensures { Diffs (opened_bytes R.File.bytes)
+        (GivesBytes R.File.bytes R.File.keeps_word R.File.never_fails) job.entry.now.source.now compared.entry result }
 {
     if compared.commits {
         return history_now(job, compared, out, notes);
@@ -92,6 +104,9 @@ fn history_now<R: Files + AllocGlobal + Clock, M: Count, W: Write, E: Write>(
 ) -> Result<Printed, Refusal>
 where
     R::File: SystemFile,
+    ensures { compared.entry.commits ≡ true → Diffs (opened_bytes R.File.bytes)
+        (GivesBytes R.File.bytes R.File.keeps_word R.File.never_fails) job.entry.now.source.now
+        compared.entry result }
 {
     let (paths, options) = (&job.source.paths, job.source.options);
     match open_all(job.rt, paths, options.super_journal, compared.to, notes) {
@@ -115,15 +130,14 @@ pub(crate) fn opened_at<'a, R: Files + AllocGlobal, M, E: Write>(
 ) -> Result<Contents<ReadAhead<OpenedFile<'a, R::File>>>, Refusal>
 where
     R::File: SystemFile,
+    ensures opened { IfOk result (λ files. AreOpenedAt job.entry.now.source.now at (files_ahead files)) }
+    ensures new { IfOk result AreNew }
+    ensures refused { IfErr result (IsUnopened (opened_bytes R.File.bytes)
+        (GivesBytes R.File.bytes R.File.keeps_word R.File.never_fails) job.entry.now.source.now.paths
+        job.entry.now.source.now.options.super_journal at) }
 {
-    let source = job.source;
-    match open_all(
-        job.rt,
-        &source.paths,
-        source.options.super_journal,
-        at,
-        notes,
-    ) {
+    let (paths, options) = (&job.source.paths, job.source.options);
+    match open_all(job.rt, paths, options.super_journal, at, notes) {
         Ok(files) => read_ahead(job.rt.alloc(), files, Wants::UNCOUNTED.ahead),
         Err(refusal) => Err(refusal),
     }

@@ -1,9 +1,14 @@
 //! A command line of several files: what is asked of one is done of each, in their order.
-ghost use Rattle.std.specs.Prelude.{◌≤◌, IfOk};
+ghost use Rattle.std.specs.Prelude.{◌≡◌, ◌⊎◌, ◌≤◌, IfOk, IsTrue, MatchOption, Some, length, ℕ};
+ghost use Rattle.cli_each.specs.Lines.{texts};
+ghost use Rattle.cli_files.specs.Files.{opened_bytes};
+ghost use Rattle.cli_job.specs.Opened.{GivesBytes};
+ghost use Rattle.sqrescue.specs.Each.{AsksLocks, EndsEach, EndsOne, EndsSeveral, EndsWords, IsLineFor};
+ghost use Rattle.sqrescue.specs.Each.{IsMeant, with_starter};
 
 use crate::locking;
 use crate::prefixed::Prefixed;
-use crate::program::told;
+use crate::program::{told, unasked};
 use cli_args::request;
 use cli_each::{Apart, files_of, line_of, taken_apart};
 use cli_facts::SystemFile;
@@ -22,17 +27,33 @@ pub(crate) fn answered<R: Files + AllocGlobal + Clock, O: Write, E: Write + IsTe
 ) -> io::Result<u8>
 where
     R::File: SystemFile,
-    ensures { IfOk result (λ status. status ≤ 3) }
+    ensures ends { IfOk result (λ code. EndsWords (opened_bytes R.File.bytes)
+        (GivesBytes R.File.bytes R.File.keeps_word R.File.never_fails) (texts words.entry.now) code
+        (O.contents out.old) (O.contents out.new)) }
+    ensures least { IfOk result (λ status. status ≤ 3) }
 {
     let apart = taken_apart(rt.alloc(), words)?;
     let files = files_of(rt.alloc(), apart.words.as_slice())?;
     match apart.one {
-        Some(number) => match files.get(number.wrapping_sub(1)) {
-            Some(place) => one_of(rt, &apart, *place, out, err),
+        Some(number) => match place_of(files.as_slice(), number) {
+            Some(place) => one_of(rt, &apart, place, out, err),
             None => locking::answered(rt, words, out, err),
         },
         None if files.len() < 2 => locking::answered(rt, words, out, err),
         None => several(rt, &apart, files.as_slice(), out, err),
+    }
+}
+
+/// The place of the file of this number, from 1.
+fn place_of(files: &[usize], number: usize) -> Option<usize>
+    ensures { MatchOption result ((place : ℕ) → ¬ IsMeant number files.now place) (IsMeant number files.now) }
+{
+    if number == 0 {
+        return None;
+    }
+    match files.get(number - 1) {
+        Some(place) => Some(*place),
+        None => None,
     }
 }
 
@@ -46,24 +67,40 @@ fn several<R: Files + AllocGlobal + Clock, O: Write, E: Write + IsTerminal>(
 ) -> io::Result<u8>
 where
     R::File: SystemFile,
-    ensures { IfOk result (λ status. status ≤ 3) }
+    requires { 2 ≤ length places.now }
+    ensures ends { IfOk result (EndsSeveral (opened_bytes R.File.bytes)
+        (GivesBytes R.File.bytes R.File.keeps_word R.File.never_fails) apart.entry.now places.entry.now) }
+    ensures least { IfOk result (λ status. status ≤ 3) }
 {
-    let place = places.first().copied().unwrap_or(0);
-    let first = line_for(rt.alloc(), apart.starter, apart.words.as_slice(), place)?;
-    if !is_understood(rt.alloc(), first.as_slice()) {
-        return locking::answered(rt, first.as_slice(), out, err);
-    }
+    let alloc = rt.alloc();
+    let place = places[0];
+    let first = line_for(alloc, apart.starter, apart.words.as_slice(), place)?;
+    let line = cli_held::line_of(alloc, first.as_slice())?;
+    let words = line.words.as_slice();
     if asks_locks(apart) {
-        // Each has locks of its own.
-        let (alloc, count) = (rt.alloc(), places.len());
-        let text = format!(in alloc; "each {count}\n")?;
-        return Ok(told(out, text.as_str()));
+        return tell_locks(alloc, words, places.len(), out);
     }
-    each_of(rt, apart, places, out, err)
+    match request(alloc, words) {
+        Ok(_) => each_of(rt, apart, places, out, err),
+        Err(error) => Ok(unasked(words, &error, out, err).code()),
+    }
+}
+
+/// Says that each of so many files has locks of its own, if the words of the line of one are understood.
+fn tell_locks<O: Write>(alloc: Global, words: &[&str], count: usize, out: &mut O) -> io::Result<u8>
+    ensures told { IfOk result (λ status. (status ≡ 0) ⊎ (status ≡ 3)) }
+{
+    let text = match request(alloc, words) {
+        Ok(_) => format!(in alloc; "each {count}\n")?,
+        Err(_) => String::new(alloc),
+    };
+    Ok(told(out, text.as_str()))
 }
 
 /// Whether it is asked which locks the words want.
-fn asks_locks(apart: &Apart<'_>) -> bool {
+fn asks_locks(apart: &Apart<'_>) -> bool
+    ensures { IsTrue result → AsksLocks apart.now }
+{
     match apart.starter {
         Some((word, _)) => word == "--locks",
         None => false,
@@ -89,28 +126,32 @@ fn line_for<'a>(
     starter: Option<(&'a str, &'a str)>,
     words: &'a [&'a str],
     place: usize,
-) -> Result<Vec<&'a str>, AllocError> {
+) -> Result<Vec<&'a str>, AllocError>
+    ensures { IfOk result (λ line. IsLineFor starter.entry (texts words.entry.now) place (texts line.items)) }
+{
     let left = line_of(alloc, words, place)?;
-    let Some((word, value)) = starter else {
-        return Ok(left);
-    };
-    let mut line = Vec::new(alloc);
-    for (i, one) in left.iter().enumerate() {
-        if i == 1 {
-            line.push(word)?;
-            line.push(value)?;
-        }
-        line.push(*one)?;
+    match starter {
+        Some(said) => started(alloc, said, left.as_slice()),
+        None => Ok(left),
     }
-    Ok(line)
 }
 
-/// Whether a line is understood.
-fn is_understood(alloc: Global, line: &[&str]) -> bool {
-    match cli_held::line_of(alloc, line) {
-        Ok(line) => request(alloc, line.words.as_slice()).is_ok(),
-        Err(_) => true,
-    }
+/// The words with what their starter says behind the first one.
+fn started<'a>(
+    alloc: Global,
+    said: (&'a str, &'a str),
+    left: &[&'a str],
+) -> Result<Vec<&'a str>, AllocError>
+    ensures { IfOk result (λ line. texts line.items ≡ with_starter (Some said.entry) (texts left.entry.now)) }
+{
+    let (word, value) = said;
+    let behind = left.len().min(1);
+    let mut line = Vec::new(alloc);
+    line.extend_from_slice(&left[..behind])?;
+    line.push(word)?;
+    line.push(value)?;
+    line.extend_from_slice(&left[behind..])?;
+    Ok(line)
 }
 
 /// Carries out the line with one of its files, of which each line that is printed says that it is.
@@ -123,7 +164,9 @@ fn one_of<R: Files + AllocGlobal + Clock, O: Write, E: Write + IsTerminal>(
 ) -> io::Result<u8>
 where
     R::File: SystemFile,
-    ensures { IfOk result (λ status. status ≤ 3) }
+    ensures ends { IfOk result (EndsOne (opened_bytes R.File.bytes)
+        (GivesBytes R.File.bytes R.File.keeps_word R.File.never_fails) apart.entry.now place) }
+    ensures least { IfOk result (λ status. status ≤ 3) }
 {
     let line = line_for(rt.alloc(), apart.starter, apart.words.as_slice(), place)?;
     let file = apart.words.get(place).copied().unwrap_or("");
@@ -142,7 +185,10 @@ fn each_of<R: Files + AllocGlobal + Clock, O: Write, E: Write + IsTerminal>(
 ) -> io::Result<u8>
 where
     R::File: SystemFile,
-    ensures { IfOk result (λ status. status ≤ 3) }
+    requires { 1 ≤ length places.now }
+    ensures ends { IfOk result (EndsEach (opened_bytes R.File.bytes)
+        (GivesBytes R.File.bytes R.File.keeps_word R.File.never_fails) apart.entry.now places.entry.now) }
+    ensures least { IfOk result (λ status. status ≤ 3) }
 {
     let mut greatest = 0;
     for place in places {

@@ -35,8 +35,9 @@ pub(crate) fn answered<R: Files + AllocGlobal + Clock, O: Write, E: Write + IsTe
 ) -> io::Result<u8>
 where
     R::File: SystemFile,
-    ensures ends { IfOk result (EndsLine (opened_bytes R.File.bytes)
-        (GivesBytes R.File.bytes R.File.keeps_word R.File.never_fails) (texts words.entry.now)) }
+    ensures ends { IfOk result (λ code. EndsLine (opened_bytes R.File.bytes)
+        (GivesBytes R.File.bytes R.File.keeps_word R.File.never_fails) (texts words.entry.now) code
+        (O.contents out.old) (O.contents out.new)) }
     ensures least { IfOk result (λ status. status ≤ 3) }
 {
     match prepared(rt, words)? {

@@ -1,7 +1,10 @@
 //! Reads and recovers SQLite databases with the logs that a stop in the middle of a write left behind.
 #![tactic(auto)]
 
-ghost use Rattle.std.specs.Prelude.{◌≤◌, IfOk};
+ghost use Rattle.std.specs.Prelude.{◌≤◌, IfOk, List, ℕ};
+ghost use Rattle.cli_files.specs.Files.{opened_bytes};
+ghost use Rattle.cli_job.specs.Opened.{GivesBytes};
+ghost use Rattle.sqrescue.specs.Each.{EndsWords};
 
 mod answers;
 mod checking;
@@ -33,7 +36,10 @@ fn answer<R: Env + Files + AllocGlobal + Clock, O: Write, E: Write + IsTerminal>
 ) -> io::Result<u8>
 where
     R::File: SystemFile,
-    ensures { IfOk result (λ status. status ≤ 3) }
+    ensures ends { IfOk result (λ code. (words : List (List ℕ)) × EndsWords (opened_bytes R.File.bytes)
+        (GivesBytes R.File.bytes R.File.keeps_word R.File.never_fails) words code
+        (O.contents out.old) (O.contents out.new)) }
+    ensures least { IfOk result (λ status. status ≤ 3) }
 {
     let alloc = rt.alloc();
     let words: Vec<String> = env::args(rt)?.collect(alloc)?;

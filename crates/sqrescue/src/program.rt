@@ -1,16 +1,16 @@
 //! The program over a runtime's files and two writers.
-ghost use Rattle.std.specs.Prelude.{◌≡◌, ◌⊎◌, IsTrue, map};
+ghost use Rattle.std.specs.Prelude.{◌≡◌, ◌⊎◌, IsTrue, Ok, map};
 ghost use Rattle.cli_files.specs.Files.{opened_bytes};
 ghost use Rattle.cli_job.specs.Answers.{status_named};
 ghost use Rattle.cli_job.specs.Opened.{GivesBytes};
 ghost use Rattle.sqrescue.specs.Reads.{IsRead, ReadsTo};
-ghost use Rattle.sqrescue.specs.Runs.{AsksHelp, ComesUnder, Ends, EndsUnasked, MayAskHelp};
+ghost use Rattle.sqrescue.specs.Runs.{AsksHelp, ComesBy, ComesUnder, Ends, EndsUnasked, MayAskHelp};
 
 use crate::answers::answered;
 use crate::deleted_diffs::print_deleted_diff;
 use crate::diffs::print_diff;
 use crate::hints::{next_step, step_after_damage, step_after_rows};
-use crate::readings::{Read, Reading, read_for};
+use crate::readings::{Read, Reading, Task, task_of};
 use cli_args::{LineError, request};
 use cli_facts::{NoteWriter, Notes, Refusal, Status, SystemFile};
 use cli_files::Progress;
@@ -46,7 +46,7 @@ pub(crate) fn run<R: Files + AllocGlobal + Clock, O: Write, E: Write + IsTermina
 where
     R::File: SystemFile,
     ensures { Ends (opened_bytes R.File.bytes) (GivesBytes R.File.bytes R.File.keeps_word R.File.never_fails) under
-        (map (λ w. w.now) words.entry.now) result }
+        (map (λ w. w.now) words.entry.now) result (O.contents out.old) (O.contents out.new) }
 {
     match request(rt.alloc(), words) {
         Ok(request) => {
@@ -59,7 +59,7 @@ where
 }
 
 /// How a run ends whose words ask for nothing, or for help.
-fn unasked<O: Write, E: Write>(
+pub(crate) fn unasked<O: Write, E: Write>(
     words: &[&str],
     error: &LineError,
     out: &mut O,
@@ -108,7 +108,8 @@ fn status_of<O: Write, E: Write>(
     out: &mut O,
     err: &mut E,
 ) -> Status
-    ensures { result ≡ status_named answer }
+    ensures named { result ≡ status_named answer }
+    ensures same { answer ≡ Ok Answer.Done → O.contents out.new ≡ O.contents out.old }
 {
     match answer {
         Ok(Answer::Done) => Status::Done,
@@ -131,7 +132,8 @@ fn noted<R: Files + AllocGlobal + Clock, O: Write, E: Write + IsTerminal>(
 where
     R::File: SystemFile,
     ensures { ComesUnder (opened_bytes R.File.bytes)
-        (GivesBytes R.File.bytes R.File.keeps_word R.File.never_fails) under request.entry result }
+        (GivesBytes R.File.bytes R.File.keeps_word R.File.never_fails) under request.entry result
+        (O.contents out.old) (O.contents out.new) }
 {
     let options = options_of(&request);
     let is_read = err.is_terminal();
@@ -278,27 +280,39 @@ fn carried_out<R: Files + AllocGlobal + Clock, O: Write, E: Write>(
 where
     R::File: SystemFile,
     ensures { ComesUnder (opened_bytes R.File.bytes)
-        (GivesBytes R.File.bytes R.File.keeps_word R.File.never_fails) under request.entry result }
+        (GivesBytes R.File.bytes R.File.keeps_word R.File.never_fails) under request.entry result
+        (O.contents out.old) (O.contents out.new) }
 {
-    let (locks, wait) = match under {
-        Under::Locks(locks, wait) => (locks, wait),
-        Under::Refused(refusal) => return Err(ShowError::Refused(refusal)),
-    };
-    tell_locks(locks, notes);
-    match read_for(request) {
-        Some(asked) => read_under(rt, &asked, (locks, wait), out, notes),
-        None => match request {
-            Request::Recover {
-                file,
-                force,
-                options,
-                ..
-            } => recover(rt, (file, force, options), out, notes),
-            _ => {
-                line(out, &VERSION)?;
-                Ok(Answer::Done)
-            }
-        },
+    match under {
+        Under::Locks(locks, wait) => {
+            tell_locks(locks, notes);
+            done_by(rt, task_of(request), (locks, wait), out, notes)
+        }
+        Under::Refused(refusal) => Err(ShowError::Refused(refusal)),
+    }
+}
+
+/// What a task comes to under these locks; what is read is read again for so many seconds.
+fn done_by<R: Files + AllocGlobal + Clock, O: Write, E: Write>(
+    rt: &R,
+    task: Task<'_>,
+    under: (Locks, u32),
+    out: &mut O,
+    notes: &mut Notes<'_, E>,
+) -> Result<Answer, ShowError>
+where
+    R::File: SystemFile,
+    ensures { ComesBy (opened_bytes R.File.bytes)
+        (GivesBytes R.File.bytes R.File.keeps_word R.File.never_fails) task.entry result
+        (O.contents out.old) (O.contents out.new) }
+{
+    match task {
+        Task::Read(asked) => read_under(rt, &asked, under, out, notes),
+        Task::Recover(file, force, options) => recover(rt, (file, force, options), out, notes),
+        Task::Version => {
+            line(out, &VERSION)?;
+            Ok(Answer::Done)
+        }
     }
 }
 

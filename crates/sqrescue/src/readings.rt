@@ -1,7 +1,7 @@
 //! What is done with a database file that is only read.
-ghost use Rattle.std.specs.Prelude.{◌≡◌, Some};
+ghost use Rattle.std.specs.Prelude.{◌≡◌};
 ghost use Rattle.sqrescue.specs.Reads.{asked_named, command_of, is_of_log};
-ghost use Rattle.sqrescue.specs.Runs.{read_for, read_named};
+ghost use Rattle.sqrescue.specs.Runs.{read_named, task_of};
 
 use cli_dump::Wanted;
 use cli_job::Command;
@@ -42,6 +42,15 @@ pub(crate) struct Read<'a> {
     pub(crate) reading: Reading<'a>,
     pub(crate) file: &'a str,
     pub(crate) options: Options,
+}
+
+/// What a request is carried out by.
+#[derive(Clone, Copy)]
+pub(crate) enum Task<'a> {
+    Read(Read<'a>),
+    /// A recovery in place of this file, and whether nobody is asked if it is in use.
+    Recover(&'a str, bool, Options),
+    Version,
 }
 
 /// What is asked of files.
@@ -95,10 +104,10 @@ impl<'a> Reading<'a> {
     }
 
     /// The same, of this file.
-    fn of(self, file: &'a str, options: Options) -> Option<Read<'a>>
-        ensures { result ≡ Some (read_named self.entry file.entry options) }
+    fn of(self, file: &'a str, options: Options) -> Task<'a>
+        ensures { result ≡ Task.Read (read_named self.entry file.entry options) }
     {
-        Some(Read {
+        Task::Read(Read {
             reading: self,
             file,
             options,
@@ -106,9 +115,9 @@ impl<'a> Reading<'a> {
     }
 }
 
-/// What is read for a request; none for a recovery in place and for the version.
-pub(crate) fn read_for<'a>(request: Request<'a>) -> Option<Read<'a>>
-    ensures { result ≡ read_for request.entry }
+/// What a request is carried out by.
+pub(crate) fn task_of<'a>(request: Request<'a>) -> Task<'a>
+    ensures { result ≡ task_of request.entry }
 {
     match request {
         Request::Show {
@@ -171,6 +180,12 @@ pub(crate) fn read_for<'a>(request: Request<'a>) -> Option<Read<'a>>
             places,
             options,
         } => Reading::Salvage { to, places }.of(file, options),
-        Request::Recover { to: None, .. } | Request::Version => None,
+        Request::Recover {
+            file,
+            to: None,
+            force,
+            options,
+        } => Task::Recover(file, force, options),
+        Request::Version => Task::Version,
     }
 }

@@ -1,0 +1,16 @@
+use Rattle.std.proofs.Common.{inr, rules}
+use Rattle.cli_files.specs.Files.{opened_bytes}
+use Rattle.cli_job.specs.Opened.{GivesBytes}
+use Rattle.sqrescue.proofs.DiffsOfFiles.{diffs_stand}
+use Rattle.sqrescue.specs.Diffs.{compared_to}
+use Rattle.sqrescue.proofs.diffs.changes_standing.Goals as goal
+
+pub returns : goal.returns
+returns g c =
+    let bytes = opened_bytes g.R.File.SystemFile.bytes in
+    let gives = GivesBytes g.R.File.SystemFile.bytes g.R.File.SystemFile.keeps_word g.R.File.SystemFile.never_fails in
+    let source = c.args.job.now.source.now in
+    diffs_stand bytes gives source (compared_to source c.args.compared) c.changes_now-printed.result c.standing.result c.changes_now-printed.ensures c.standing.ensures
+
+pub returns-in_err-before : goal.returns-in_err-before
+returns-in_err-before g c = inr (search rules)

@@ -1,0 +1,14 @@
+use Rattle.std.proofs.Common.{inl, inr, refl}
+use Rattle.std.specs.Prelude.{Ok, Err}
+use Rattle.cli_facts.specs.declared.outcome.Refusal.TheVariants.{NoMemory}
+use Rattle.sqrescue.proofs.diffs.print_diff.Goals as goal
+
+pub returns-in-Ok-changes_standing : goal.returns-in-Ok-changes_standing
+returns-in-Ok-changes_standing g c = (Ok c.in-Ok-changes_standing.printed, c.in-Ok-changes_standing.ensures, c.write_printed.ensures)
+
+pub returns-in-Err-changes_standing : goal.returns-in-Err-changes_standing
+returns-in-Err-changes_standing g c =
+    (Err c.in-Err-changes_standing.refusal, c.in-Err-changes_standing.ensures, inl (rw c.told.ensures refl))
+
+pub returns-in-Err : goal.returns-in-Err
+returns-in-Err g c = (Err NoMemory, inr (inr (inr (inr (inr refl)))), inl refl)

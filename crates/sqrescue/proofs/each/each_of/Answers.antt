@@ -1,0 +1,35 @@
+use Rattle.std.proofs.Common.{◌≤◌, ◌<◌, ◌⊎◌, ◌≡◌, get_or, inl, inr, ⊎_elim, arith}
+use Rattle.std.proofs.lemmas.List.{get_or_default}
+use Rattle.std.proofs.lemmas.Bool.{cases_lt}
+use Rattle.cli_files.specs.Files.{opened_bytes}
+use Rattle.cli_job.specs.Opened.{GivesBytes}
+use Rattle.sqrescue.specs.Each.{EndsOne}
+use Rattle.sqrescue.proofs.GreatestStatus.{first_all, first_more, first_none}
+use Rattle.sqrescue.proofs.each.each_of.Goals as goal
+
+pub loop-place-init : goal.loop-place-init
+loop-place-init g c =
+    let bytes = opened_bytes g.R.File.SystemFile.bytes in
+    let gives = GivesBytes g.R.File.SystemFile.bytes g.R.File.SystemFile.keeps_word g.R.File.SystemFile.never_fails in
+    record { least = omega arith; first = first_none (EndsOne bytes gives c.args.apart.now) c.args.places.now }
+
+pub loop-place-preserved : goal.loop-place-preserved
+loop-place-preserved g c =
+    let bytes = opened_bytes g.R.File.SystemFile.bytes in
+    let gives = GivesBytes g.R.File.SystemFile.bytes g.R.File.SystemFile.keeps_word g.R.File.SystemFile.never_fails in
+    let place = get_or c.args.places.now c.loop-place.place-index 0 in
+    let status = c.in_ok-status.status in
+    let greatest = c.loop-place.greatest in
+    let which : (c.max-greatest.result ≡ status) ⊎ (c.max-greatest.result ≡ greatest) =
+    ⊎_elim (λ (h : status < greatest). inr (omega (arith, h))) (λ (h : greatest ≤ status). inl (omega (arith, h))) (cases_lt status greatest) in
+    record {
+      least = omega (arith, c.in_ok-status.ensures.least);
+      first = first_more (EndsOne bytes gives c.args.apart.now) c.args.places.now c.loop-place.place-index place c.in_ok-status.status c.loop-place.greatest c.max-greatest.result
+          c.loop-place-test.true (get_or_default c.args.places.now c.loop-place.place-index 0 place c.loop-place-test.true) (omega arith) (omega arith) which c.loop-place.invariant.first c.in_ok-status.ensures.ends;
+    }
+
+pub returns-clause-ends : goal.returns-clause-ends
+returns-clause-ends g c =
+    let bytes = opened_bytes g.R.File.SystemFile.bytes in
+    let gives = GivesBytes g.R.File.SystemFile.bytes g.R.File.SystemFile.keeps_word g.R.File.SystemFile.never_fails in
+    first_all (EndsOne bytes gives c.args.apart.now) c.args.places.now c.loop-place.place-index c.loop-place.greatest c.requires c.loop-place-test.false c.loop-place.invariant.first

@@ -1,0 +1,91 @@
+-- What a diff comes to, by the changes of the files that were opened for it (own).
+use Rattle.std.specs.Prelude.{◌≡◌, ◌⊎◌, ℕ, Bool, true, false, List, Option, Some, Result, Ok, Err, IsErrAnd}
+use Rattle.cli_words.specs.declared.requests.Compared.{Compared}
+use Rattle.cli_words.specs.declared.requests.Options.{Options}
+use Rattle.cli_facts.specs.declared.outcome.Refusal.{Refusal}
+use Rattle.sqview.specs.declared.read_ahead.ReadAhead.{ReadAhead}
+use Rattle.cli_files.specs.Refusals.{IsFromWatch}
+use Rattle.cli_files.specs.declared.opened_file.OpenedFile.{OpenedFile}
+use Rattle.cli_show.specs.Contents.{AreGiven, contents_of}
+use Rattle.cli_show.specs.Limits.{limits_named}
+use Rattle.cli_show.specs.declared.contents.Contents.{Contents}
+use Rattle.cli_show.specs.declared.error.ShowError.{ShowError}
+use Rattle.cli_show.specs.declared.error.ShowError.TheVariants as errors
+use Rattle.cli_history.specs.declared.files.Files.{Files}
+use Rattle.cli_dump.specs.Changes.{AreChangesShown, IsUncompared}
+use Rattle.cli_dump.specs.History.{IsHistoryRefused, IsHistoryShown}
+use Rattle.cli_dump.specs.declared.rows.Printed.{Printed}
+use Rattle.cli_job.specs.Answers.{Tells, answer_of_rows}
+use Rattle.cli_job.specs.Opened.{AreOpened, IsUnopened}
+use Rattle.cli_job.specs.declared.answers.Answer.{Answer}
+use Rattle.cli_job.specs.declared.sources.Source.{Source}
+
+-- opened files that are read ahead, and that nothing was read of them yet
+abbrev pub files_ahead : {F : Type 0} → Contents (ReadAhead (OpenedFile F)) → Contents (OpenedFile F)
+files_ahead files = record { db = files.db.file; wal = files.wal.file; journal = files.journal.file }
+
+abbrev pub AreNew : {F : Type 0} → Contents (ReadAhead (OpenedFile F)) → Type 0
+AreNew files = (files.db.held ≡ 0) × (files.wal.held ≡ 0) × (files.journal.held ≡ 0)
+
+-- the bytes of files as the history of their log is read from them
+abbrev pub lent_bytes : Contents (List ℕ) → Files (List ℕ)
+lent_bytes files = record { db = files.db; wal = files.wal; journal = files.journal }
+
+-- Of files at both commits their changes are shown, to their end or up to a stop; or there is no view at one of both.
+abbrev pub ShowsChanges : Options → Compared → (from to : Contents (List ℕ)) → Result Printed Refusal → Type 0
+ShowsChanges options compared from to (Ok printed) = (before after : Option (List ℕ)) × AreChangesShown compared from to before after printed.ended
+ShowsChanges options compared from to (Err refusal) = IsUncompared options compared from to refusal
+
+-- Those of each commit between both are, or this is why they aren't.
+abbrev pub ShowsHistory : Options → Compared → (files : Contents (List ℕ)) → Result Printed Refusal → Type 0
+ShowsHistory options compared files (Ok printed) =
+    (before after : Option (List ℕ)) × IsHistoryShown (limits_named options.large) (lent_bytes files) compared before after printed.ended
+ShowsHistory options compared files (Err refusal) = (before after : Option (List ℕ)) × IsHistoryRefused options (lent_bytes files) compared before after refusal
+
+-- The files were opened at this commit.
+abbrev pub AreOpenedAt : {F : Type 0} → Source → (at : Option ℕ) → Contents (OpenedFile F) → Type 0
+AreOpenedAt source at files = AreOpened false source.paths source.options.super_journal at files
+
+-- the changes are shown of files that were opened at each of both commits
+pub record ComparesOpened {F : Type 0} (bytes : OpenedFile F → List ℕ) (gives : OpenedFile F → Type 0) (source : Source) (compared : Compared)
+    (found : Result Printed Refusal) : Type 0 where
+  pub old : Contents (OpenedFile F)
+  pub new : Contents (OpenedFile F)
+  pub old_opened : AreOpenedAt source (Some compared.from) old
+  pub new_opened : AreOpenedAt source compared.to new
+  pub shows : AreGiven gives old → AreGiven gives new → ShowsChanges source.options compared (contents_of bytes old) (contents_of bytes new) found
+
+-- those of each commit are of files that were opened at the later one
+pub record FollowsOpened {F : Type 0} (bytes : OpenedFile F → List ℕ) (gives : OpenedFile F → Type 0) (source : Source) (compared : Compared)
+    (found : Result Printed Refusal) : Type 0 where
+  pub files : Contents (OpenedFile F)
+  pub opened : AreOpenedAt source compared.to files
+  pub shows : AreGiven gives files → ShowsHistory source.options compared (contents_of bytes files) found
+
+-- the one or the other, as each commit's changes are asked for
+abbrev pub DiffsOpened : {F : Type 0} → (bytes : OpenedFile F → List ℕ) → (gives : OpenedFile F → Type 0) → (commits : Bool) → Source → Compared → Result Printed Refusal → Type 0
+DiffsOpened bytes gives true source compared found = FollowsOpened bytes gives source compared found
+DiffsOpened bytes gives false source compared found = ComparesOpened bytes gives source compared found
+
+-- no files are opened at one of both commits, or files that are watched changed
+abbrev pub IsUndiffed : {F : Type 0} → (bytes : OpenedFile F → List ℕ) → (gives : OpenedFile F → Type 0) → Source → Compared → Refusal → Type 0
+IsUndiffed bytes gives source compared refusal = IsUnopened bytes gives source.paths source.options.super_journal (Some compared.from) refusal
+    ⊎ (IsUnopened bytes gives source.paths source.options.super_journal compared.to refusal ⊎ IsFromWatch refusal)
+
+-- What is printed of the changes of a database.
+abbrev pub Diffs : {F : Type 0} → (bytes : OpenedFile F → List ℕ) → (gives : OpenedFile F → Type 0) → Source → Compared → Result Printed Refusal → Type 0
+Diffs bytes gives source compared found = DiffsOpened bytes gives compared.commits source compared found ⊎ IsErrAnd found (IsUndiffed bytes gives source compared)
+
+-- what comes of it
+abbrev pub answer_of_printed : Result Printed Refusal → Result Answer ShowError
+answer_of_printed (Ok printed) = answer_of_rows printed.ended
+answer_of_printed (Err refusal) = Err (errors.Refused refusal)
+
+-- up to the commit that is read of a source
+abbrev pub compared_to : Source → Compared → Compared
+compared_to source compared = record compared { to = source.options.at }
+
+-- What is told of a diff is what comes of its changes.
+abbrev pub DiffsTo : {F : Type 0} → (bytes : OpenedFile F → List ℕ) → (gives : OpenedFile F → Type 0) → Source → Compared → Result Answer ShowError → Type 0
+DiffsTo bytes gives source compared answer =
+    (found : Result Printed Refusal) × Diffs bytes gives source (compared_to source compared) found × Tells (answer_of_printed found) answer
