@@ -8,6 +8,7 @@ pub mod SampledImages
 pub mod LikeliestImages
 pub mod JudgedRecords
 pub mod AppendedBytes
+pub mod PairsWritten
 pub mod WrittenTexts
 pub mod JudgedFiles
 pub mod WaitingCommits
@@ -15,3 +16,4 @@ pub mod MarkedRecords
 pub mod NotedFiles
 pub mod KeptCalls
 pub mod ShownImages
+pub mod WatchedFiles

@@ -27,6 +27,10 @@ notes_image image thread old new t u e noted goes = record {
 pub notes_of : (image : Image) (thread : ℕ) (old new : RunState) (taken : Bool) → IsPresent old.files image → NotesImage image thread old new taken → Notes thread old new
 notes_of image thread old new taken present is = record { present = image; is_present = present; taken = taken; noted = is.noted; goes = is.goes }
 
+-- as they were looked at
+pub notes_seen : (image : Image) (thread : ℕ) (old seen new : RunState) (taken : Bool) → seen ≡ old → IsPresent old.files image → NotesImage image thread seen new taken → Notes thread old new
+notes_seen image thread old seen new taken same present is = notes_of image thread old new taken present (subst (λ (s : RunState). NotesImage image thread s new taken) same is)
+
 -- what is wrong with them
 pub fault_of : (a b d db wal journal : List ℕ) (fault : Option CheckError) → a ≡ db → b ≡ wal → d ≡ journal → MatchOption fault (ShowsSound a b d) (ShowsFault a b d)
     → MatchOption fault (ShowsSound db wal journal) (ShowsFault db wal journal)

@@ -1,10 +1,12 @@
 pub mod Promises
+pub mod Watching
 pub mod Runs
 pub mod Goings
 pub mod Snapshots
 pub mod Marked
 pub mod Markings
 pub mod Told
+pub mod Objects
 pub mod Surveys
 pub mod Samples
 pub mod Lines

@@ -1,4 +1,4 @@
--- The lines that are printed of what is wrong with images (own).
+-- The lines that are printed of what is wrong with images, or the objects (own).
 use Rattle.std.specs.Prelude.{ℕ, ◌-◌, Bool, true, cond, ◌&&◌, nat_eq, List, [], ◌∷◌, ◌++◌, codes, length, take, Option, Some, None}
 use Rattle.std.specs.List.{flat_map}
 use Rattle.std.specs.Fmt.{decimal}
@@ -12,11 +12,14 @@ use Rattle.sqcrash.specs.declared.marked.CommitFault.{CommitFault}
 use Rattle.rig_play.specs.declared.trace.Kind.{Kind}
 use Rattle.rig_play.specs.declared.trace.Kind.TheVariants as kinds
 use Rattle.rig_play.specs.declared.trace.Subject.{Subject}
-use Rattle.rig_play.specs.declared.trace.Subject.TheVariants as subjects
 use Rattle.rig_missing.specs.declared.missing.Missing.{Missing}
+use Rattle.sqcrash.specs.Objects.{wrong_members, fault_members, subject_text, call_members, pairs_text}
 use Rattle.sqcrash.specs.Told.{Told}
 use Rattle.sqcrash.specs.declared.stopped.Stopped.{Stopped}
 use Rattle.sqcrash.specs.declared.plan.Plan.{Plan}
+use Rattle.sqcrash.specs.declared.plan.Style.{Style}
+use Rattle.sqcrash.specs.declared.plan.Style.TheVariants.{Lines, Json}
+use Rattle.sqcrash.specs.declared.survey.Tally.{Tally}
 
 -- a fault of a page
 abbrev pub fault_text : (page : ℕ) → Fault → List ℕ
@@ -40,17 +43,9 @@ wrong_text known (judgments.Fault e) = fault_text e.page e.fault
 wrong_text known (judgments.Refused e) = refusal_text e
 
 -- the line of a finding at a point, without its end
-abbrev pub line_text : (point known image : ℕ) → Judgment → List ℕ
-line_text point known image j = codes "point " ++ (decimal point ++ (codes " image " ++ (decimal image ++ (codes ": " ++ wrong_text known j))))
-
--- what a record is of
-abbrev pub subject_text : Subject → List ℕ
-subject_text subjects.Db = codes "db"
-subject_text subjects.Wal = codes "wal"
-subject_text subjects.Journal = codes "journal"
-subject_text subjects.Folder = codes "folder"
-subject_text subjects.Marks = codes "marks"
-subject_text subjects.Other = codes "other"
+abbrev pub line_text : Style → (point known image : ℕ) → Judgment → List ℕ
+line_text Lines point known image j = codes "point " ++ (decimal point ++ (codes " image " ++ (decimal image ++ (codes ": " ++ wrong_text known j))))
+line_text Json point known image j = codes "{\"point\":" ++ (decimal point ++ (codes ",\"image\":" ++ (decimal image ++ (codes "," ++ (wrong_members known j ++ codes "}")))))
 
 -- a call: of a write the place and the bytes, of a truncation the length
 abbrev pub call_text : Kind → Subject → (place count : ℕ) → List ℕ
@@ -72,40 +67,52 @@ abbrev pub range_text : (first last : ℕ) → List ℕ
 range_text first last = codes " " ++ cond (nat_eq first last) (decimal first) (decimal first ++ (codes "-" ++ decimal last))
 
 -- the line of a call that isn't down, up to its sectors
-abbrev pub down_text : (number : ℕ) → Kind → Subject → (place count : ℕ) → List ℕ
-down_text number kind s place count = codes "  not down: record " ++ (decimal number ++ (codes ": " ++ (call_text kind s place count ++ codes ", sectors")))
+abbrev pub down_text : Style → (number : ℕ) → Kind → Subject → (place count : ℕ) → List ℕ
+down_text Lines number kind s place count = codes "  not down: record " ++ (decimal number ++ (codes ": " ++ (call_text kind s place count ++ codes ", sectors")))
+down_text Json number kind s place count = codes "{\"not down\":" ++ (decimal number ++ (codes "," ++ (call_members kind s place count ++ codes ",\"sectors\":[")))
 
 -- and sectors in ranges
-abbrev pub ranges_text : List (ℕ × ℕ) → List ℕ
-ranges_text ranges = flat_map (λ r. range_text r.0 r.1) ranges
+abbrev pub spaced_text : List (ℕ × ℕ) → List ℕ
+spaced_text ranges = flat_map (λ r. range_text r.0 r.1) ranges
+
+abbrev pub ranges_text : Style → List (ℕ × ℕ) → List ℕ
+ranges_text Lines ranges = spaced_text ranges
+ranges_text Json ranges = pairs_text ranges
+
+-- what stands behind them, without the line's end
+abbrev pub behind_ranges : Style → List ℕ
+behind_ranges Lines = []
+behind_ranges Json = codes "]}"
 
 -- the line of a call that isn't down, with its end
-abbrev pub missing_text : Missing → List ℕ
-missing_text m = down_text m.number m.kind m.subject m.place m.count ++ (ranges_text m.sectors.items ++ 10 ∷ [])
+abbrev pub missing_text : Style → Missing → List ℕ
+missing_text style m = down_text style m.number m.kind m.subject m.place m.count ++ (ranges_text style m.sectors.items ++ (behind_ranges style ++ 10 ∷ []))
 
 -- how many more there are, without the line's end
-abbrev pub count_text : ℕ → List ℕ
-count_text n = codes "  .. " ++ (decimal n ++ codes " more")
+abbrev pub count_text : Style → ℕ → List ℕ
+count_text Lines n = codes "  .. " ++ (decimal n ++ codes " more")
+count_text Json n = codes "{\"more not down\":" ++ (decimal n ++ codes "}")
 
 -- with it; nothing where there are none
-abbrev pub more_text : ℕ → List ℕ
-more_text n = cond (nat_eq n 0) [] (count_text n ++ 10 ∷ [])
+abbrev pub more_text : Style → ℕ → List ℕ
+more_text style n = cond (nat_eq n 0) [] (count_text style n ++ 10 ∷ [])
 
 -- the lines of calls that aren't down, 20 at most
-abbrev pub missings_text : List Missing → List ℕ
-missings_text missing = flat_map missing_text (take 20 missing) ++ more_text (length missing - 20)
+abbrev pub missings_text : Style → List Missing → List ℕ
+missings_text style missing = flat_map (missing_text style) (take 20 missing) ++ more_text style (length missing - 20)
 
 -- the line of the record behind which the machine stopped, without its end
-abbrev pub stopped_text : Stopped → List ℕ
-stopped_text at = codes "  stopped behind record " ++ (decimal at.number ++ (codes ": " ++ call_text at.kind at.subject at.place at.count))
+abbrev pub stopped_text : Style → Stopped → List ℕ
+stopped_text Lines at = codes "  stopped behind record " ++ (decimal at.number ++ (codes ": " ++ call_text at.kind at.subject at.place at.count))
+stopped_text Json at = codes "{\"stopped behind\":" ++ (decimal at.number ++ (codes "," ++ (call_members at.kind at.subject at.place at.count ++ codes "}")))
 
 -- why something is wrong: where the machine stopped, and what isn't down
-abbrev pub why_text : Stopped → List Missing → List ℕ
-why_text at missing = (stopped_text at ++ 10 ∷ []) ++ missings_text missing
+abbrev pub why_text : Style → Stopped → List Missing → List ℕ
+why_text style at missing = (stopped_text style at ++ 10 ∷ []) ++ missings_text style missing
 
 -- the lines of a finding: what is wrong, and where it is asked for, why
-abbrev pub finding_text : (why : Bool) → Stopped → Told → List ℕ
-finding_text why at f = (line_text at.point at.known f.image f.judgment ++ 10 ∷ []) ++ cond why (why_text at f.missing) []
+abbrev pub finding_text : Style → (why : Bool) → Stopped → Told → List ℕ
+finding_text style why at f = (line_text style at.point at.known f.image f.judgment ++ 10 ∷ []) ++ cond why (why_text style at f.missing) []
 
 -- a number is the one that is asked for, if one is
 abbrev pub is_asked : Option ℕ → (n : ℕ) → Bool
@@ -114,7 +121,7 @@ is_asked (Some m) n = nat_eq m n
 
 -- the lines of a finding, if it is asked for
 abbrev pub asked_texts : Plan → Stopped → Told → List (List ℕ)
-asked_texts plan at f = cond (is_asked plan.point at.point && is_asked plan.image f.image) (finding_text plan.why at f ∷ []) []
+asked_texts plan at f = cond (is_asked plan.point at.point && is_asked plan.image f.image) (finding_text plan.style plan.why at f ∷ []) []
 
 -- the lines of each finding at a point that is asked for
 abbrev pub texts_of : Plan → Stopped → List Told → List (List ℕ)
@@ -135,22 +142,30 @@ limit_behind None k = None
 limit_behind (Some n) k = Some (n - k)
 
 -- how many more there are, without the line's end
-abbrev pub left_count : ℕ → List ℕ
-left_count n = codes ".. " ++ (decimal n ++ codes " more")
+abbrev pub left_count : Style → ℕ → List ℕ
+left_count Lines n = codes ".. " ++ (decimal n ++ codes " more")
+left_count Json n = codes "{\"more\":" ++ (decimal n ++ codes "}")
 
 -- with it; nothing where there are none
-abbrev pub left_line : ℕ → List ℕ
-left_line n = cond (nat_eq n 0) [] (left_count n ++ 10 ∷ [])
+abbrev pub left_line : Style → ℕ → List ℕ
+left_line style n = cond (nat_eq n 0) [] (left_count style n ++ 10 ∷ [])
 
 -- of so many findings those that aren't written
-abbrev pub left_text : Option ℕ → (count : ℕ) → List ℕ
-left_text None count = []
-left_text (Some n) count = left_line (count - n)
+abbrev pub left_text : Style → Option ℕ → (count : ℕ) → List ℕ
+left_text style None count = []
+left_text style (Some n) count = left_line style (count - n)
 
 -- the line of a commit that isn't well formed, without its end
-abbrev pub commit_text : CommitFault → List ℕ
-commit_text f = codes "commit " ++ (decimal f.commit ++ (codes ": " ++ fault_text f.error.page f.error.fault))
+abbrev pub commit_text : Style → CommitFault → List ℕ
+commit_text Lines f = codes "commit " ++ (decimal f.commit ++ (codes ": " ++ fault_text f.error.page f.error.fault))
+commit_text Json f = codes "{\"commit\":" ++ (decimal f.commit ++ (codes "," ++ (fault_members f.error.page f.error.fault ++ codes "}")))
 
 -- the lines of commits, each with its end
-abbrev pub commits_text : List CommitFault → List ℕ
-commits_text faults = flat_map (λ f. commit_text f ++ 10 ∷ []) faults
+abbrev pub commits_text : Style → List CommitFault → List ℕ
+commits_text style faults = flat_map (λ f. commit_text style f ++ 10 ∷ []) faults
+
+-- the line of what was counted, without its end
+abbrev pub sum_text : Style → Tally → List ℕ
+sum_text Lines t = decimal t.points ++ (codes " points, " ++ (decimal t.images ++ (codes " images, " ++ (decimal t.lost ++ (codes " lost, " ++ (decimal t.mixed ++ (codes " mixed, " ++ (decimal t.faults ++ codes " faults"))))))))
+sum_text Json t =
+    codes "{\"points\":" ++ (decimal t.points ++ (codes ",\"images\":" ++ (decimal t.images ++ (codes ",\"lost\":" ++ (decimal t.lost ++ (codes ",\"mixed\":" ++ (decimal t.mixed ++ (codes ",\"faults\":" ++ (decimal t.faults ++ codes "}")))))))))

@@ -102,7 +102,7 @@ marked_rig rig m = record {
 abbrev pub BeginsBy : (at_marks : Bool) → Plan → List ℕ → List Record → RigState → (lines : List ℕ) → Type 0
 BeginsBy false plan b records rig lines = (rig ≡ no_rig plan) × (lines ≡ [])
 BeginsBy true plan b records rig lines =
-    (m : Marked) × AreMarked (no_run plan.promise plan.sector plan.tears plan.meta) b records m × (rig ≡ marked_rig (no_rig plan) m) × (lines ≡ commits_text m.faults.items)
+    (m : Marked) × AreMarked (no_run plan.promise plan.sector plan.tears plan.meta) b records m × (rig ≡ marked_rig (no_rig plan) m) × (lines ≡ commits_text plan.style m.faults.items)
 
 abbrev pub BeginsRig : Plan → List ℕ → List Record → RigState → (lines : List ℕ) → Type 0
 BeginsRig plan b records rig lines = BeginsBy (are_at_marks plan.commits) plan b records rig lines
@@ -118,4 +118,4 @@ pub record IsJudgment (plan : Plan) (b : List ℕ) (tally : Tally) (lines : List
   pub of_images : List (List ℕ)
   pub judged : JudgesAll plan b trace.records.items first last of_images
   pub counted : tally ≡ last.tally
-  pub all : lines ≡ of_commits ++ (joined (first_of plan.lines of_images) ++ left_text plan.lines (length of_images))
+  pub all : lines ≡ of_commits ++ (joined (first_of plan.lines of_images) ++ left_text plan.style plan.lines (length of_images))

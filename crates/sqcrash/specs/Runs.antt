@@ -44,7 +44,7 @@ size_of None = None
 size_of (Some size) = Some size.bytes
 
 abbrev pub run_of : Run → RunState
-run_of r = record { promise = r.promise; taken_at = r.taken_at; waiting = map commit_of (reverse r.waiting.items); files = files_of r.player; commits = commits_of r.history; makers = r.makers.items; known = r.known; played = r.played; why = size_of r.why; kept = r.kept.items; shrinks = size_of r.shrinks }
+run_of r = record { promise = r.promise; taken_at = r.taken_at; waiting = map commit_of (reverse r.waiting.items); files = files_of r.watched.player; commits = commits_of r.watched.history; makers = r.makers.items; known = r.known; played = r.played; why = size_of r.why; kept = r.kept.items; shrinks = size_of r.shrinks }
 
 -- nothing was played yet
 abbrev pub no_run : Promise → (sector : ℕ) (tears : Bool) → Meta → RunState

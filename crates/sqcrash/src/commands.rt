@@ -5,7 +5,7 @@ ghost use Rattle.sqcrash.specs.Words.{AsksHelp, AsksVersion, HasVersion, IsPart,
 ghost use Rattle.sqcrash.specs.Ends.{IsOfPart, IsReadAs, IsRefusedAs};
 ghost use Rattle.sqcrash.specs.declared.requests.LineError.TheVariants.{Version};
 
-use crate::plan::{CommitsAt, Part, Plan};
+use crate::plan::{CommitsAt, Part, Plan, Style};
 use crate::promise::Promise;
 use crate::requests::{LineError, Request};
 use clap::error::ErrorKind;
@@ -138,6 +138,16 @@ fn command<'a>(alloc: Global) -> Result<Command<'a>, AllocError> {
             "Writes lines of image I of a point alone, counted from 0",
         )
         .value_parser(value_parser!(u64)))?
+        .arg(flag(
+            alloc,
+            "json",
+            "Prints each line as a JSON object, and a refusal as one, too",
+        ))?
+        .arg(flag(
+            alloc,
+            "time",
+            "Tells on standard error how long it took, and how many images were judged",
+        ))?
         .arg(option(
             alloc,
             "keep",
@@ -151,6 +161,15 @@ fn commits_at(matches: &ArgMatches<'_>) -> CommitsAt {
     match matches.get_str("commits") {
         Some("marks") => CommitsAt::Marks,
         _ => CommitsAt::Calls,
+    }
+}
+
+/// How what is found is to be printed.
+fn style_of(matches: &ArgMatches<'_>) -> Style {
+    if matches.get_flag("json") {
+        Style::Json
+    } else {
+        Style::Lines
     }
 }
 
@@ -223,11 +242,13 @@ fn matched<'a>(matches: &ArgMatches<'a>, part: Option<Part>) -> Option<Request<'
         lines: matches.get_one::<u64>("lines"),
         point: matches.get_one::<u64>("point"),
         image: matches.get_one::<u64>("image"),
+        style: style_of(matches),
     };
     Some(Request {
         trace: matches.get_str("TRACE")?,
         plan,
         keep: matches.get_str("keep"),
+        time: matches.get_flag("time"),
     })
 }
 

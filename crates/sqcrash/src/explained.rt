@@ -2,15 +2,17 @@
 ghost use Rattle.std.specs.Prelude.{◌≡◌, ◌&&◌, [], ◌∷◌, length, take, OnOk, MatchResult};
 ghost use Rattle.std.specs.Io.KnownBytes.{Appends};
 ghost use Rattle.std.specs.List.{flat_map};
-ghost use Rattle.sqcrash.specs.Lines.{ranges_text, missing_text, more_text, missings_text, why_text, finding_text};
-ghost use Rattle.sqcrash.specs.Lines.{is_asked, asked_texts, texts_of, left_text, left_line};
+ghost use Rattle.sqcrash.specs.Objects.{next_pair, pairs_text};
+ghost use Rattle.sqcrash.specs.Lines.{spaced_text, ranges_text, behind_ranges, missing_text, more_text, missings_text};
+ghost use Rattle.sqcrash.specs.Lines.{why_text, finding_text, is_asked, asked_texts, texts_of, left_text, left_line};
 ghost use Rattle.sqcrash.specs.Writes.{Writes, is_within};
 ghost use Rattle.sqcrash.specs.Refusals.{WriteRefused};
 
 use crate::finding::Finding;
 use crate::lines::Line;
+use crate::objects::{CallMembers, PairText, SubjectText};
 use crate::outcome::{Refusal, more};
-use crate::plan::Plan;
+use crate::plan::{Plan, Style};
 use crate::stopped::Stopped;
 use rig_missing::Missing;
 use rig_play::{Kind, Subject};
@@ -19,28 +21,6 @@ use std::io::{self, Write};
 
 /// The most calls of a finding that are told.
 const MOST: usize = 20;
-
-/// What a record speaks of.
-#[derive(Clone, Copy)]
-struct SubjectText(Subject);
-
-impl fmt::Display for SubjectText {
-    ghost use Rattle.std.specs.Prelude.{Some};
-    ghost use Rattle.sqcrash.specs.Lines.{subject_text};
-
-    ghost output = { λ x. Some (subject_text x.0) };
-
-    fn fmt<W: fmt::Write>(&self, f: &mut fmt::Formatter<W>) -> fmt::Result {
-        f.write_str(match self.0 {
-            Subject::Db => "db",
-            Subject::Wal => "wal",
-            Subject::Journal => "journal",
-            Subject::Folder => "folder",
-            Subject::Marks => "marks",
-            Subject::Other => "other",
-        })
-    }
-}
 
 /// A call.
 #[derive(Clone, Copy)]
@@ -75,6 +55,22 @@ impl fmt::Display for CallText {
     }
 }
 
+impl CallText {
+    ghost use Rattle.std.specs.Prelude.{◌≡◌};
+
+    /// The same as members of an object.
+    fn members(self) -> CallMembers
+        ensures { result ≡ record { kind = self.kind; subject = self.subject; place = self.place; count = self.count } }
+    {
+        CallMembers {
+            kind: self.kind,
+            subject: self.subject,
+            place: self.place,
+            count: self.count,
+        }
+    }
+}
+
 /// Sectors from a first to a last one.
 #[derive(Clone, Copy)]
 struct RangeText(u64, u64);
@@ -98,6 +94,7 @@ impl fmt::Display for RangeText {
 /// The line of a call that isn't down, up to its sectors.
 #[derive(Clone, Copy)]
 struct DownText {
+    style: Style,
     number: u64,
     call: CallText,
 }
@@ -106,26 +103,29 @@ impl fmt::Display for DownText {
     ghost use Rattle.std.specs.Prelude.{Some};
     ghost use Rattle.sqcrash.specs.Lines.{down_text};
 
-    ghost output = { λ x. Some (down_text x.number x.call.kind x.call.subject x.call.place x.call.count) };
+    ghost output = { λ x. Some (down_text x.style x.number x.call.kind x.call.subject x.call.place x.call.count) };
 
     fn fmt<W: fmt::Write>(&self, f: &mut fmt::Formatter<W>) -> fmt::Result {
-        write!(
-            f,
-            "  not down: record {}: {}, sectors",
-            self.number, self.call
-        )
+        let (number, call) = (self.number, self.call);
+        match self.style {
+            Style::Lines => write!(f, "  not down: record {number}: {call}, sectors"),
+            Style::Json => {
+                let members = call.members();
+                write!(f, "{{\"not down\":{number},{members},\"sectors\":[")
+            }
+        }
     }
 }
 
 /// The line of the record behind which the machine stopped.
 #[derive(Clone, Copy)]
-struct StoppedText(Stopped);
+struct StoppedText(Style, Stopped);
 
 impl fmt::Display for StoppedText {
     ghost use Rattle.std.specs.Prelude.{Some};
     ghost use Rattle.sqcrash.specs.Lines.{stopped_text};
 
-    ghost output = { λ x. Some (stopped_text x.0) };
+    ghost output = { λ x. Some (stopped_text x.0 x.1) };
 
     fn fmt<W: fmt::Write>(&self, f: &mut fmt::Formatter<W>) -> fmt::Result {
         let Stopped {
@@ -135,35 +135,45 @@ impl fmt::Display for StoppedText {
             place,
             count,
             ..
-        } = self.0;
+        } = self.1;
         let call = CallText {
             kind,
             subject,
             place,
             count,
         };
-        write!(f, "  stopped behind record {number}: {call}")
+        match self.0 {
+            Style::Lines => write!(f, "  stopped behind record {number}: {call}"),
+            Style::Json => {
+                let members = call.members();
+                write!(f, "{{\"stopped behind\":{number},{members}}}")
+            }
+        }
     }
 }
 
 /// How many more there are.
 #[derive(Clone, Copy)]
-struct CountText(usize);
+struct CountText(Style, usize);
 
 impl fmt::Display for CountText {
     ghost use Rattle.std.specs.Prelude.{Some};
     ghost use Rattle.sqcrash.specs.Lines.{count_text};
 
-    ghost output = { λ x. Some (count_text x.0) };
+    ghost output = { λ x. Some (count_text x.0 x.1) };
 
     fn fmt<W: fmt::Write>(&self, f: &mut fmt::Formatter<W>) -> fmt::Result {
-        write!(f, "  .. {} more", self.0)
+        let count = self.1;
+        match self.0 {
+            Style::Lines => write!(f, "  .. {count} more"),
+            Style::Json => write!(f, "{{\"more not down\":{count}}}"),
+        }
     }
 }
 
-/// Writes sectors in ranges.
-fn write_ranges<O: Write>(out: &mut O, ranges: &[(u64, u64)]) -> io::Result<()>
-    ensures { OnOk result (Appends (O.contents out.old) (O.contents out.new) (ranges_text ranges.now)) }
+/// Writes ranges of sectors, with a space before each.
+fn write_spaced<O: Write>(out: &mut O, ranges: &[(u64, u64)]) -> io::Result<()>
+    ensures { OnOk result (Appends (O.contents out.old) (O.contents out.new) (spaced_text ranges.now)) }
 {
     for range in ranges {
         write!(out, "{}", RangeText(range.0, range.1))?;
@@ -171,9 +181,61 @@ fn write_ranges<O: Write>(out: &mut O, ranges: &[(u64, u64)]) -> io::Result<()>
     Ok(())
 }
 
+/// Writes pairs, each behind a comma.
+fn write_next_pairs<O: Write>(out: &mut O, ranges: &[(u64, u64)]) -> io::Result<()>
+    ensures { OnOk result (Appends (O.contents out.old) (O.contents out.new) (flat_map next_pair ranges.now)) }
+{
+    for range in ranges {
+        write!(out, ",{}", PairText(range.0, range.1))?;
+    }
+    Ok(())
+}
+
+/// Writes pairs, with a comma between two.
+#[tactic(auto, using(crate::proofs::PairsWritten::pairs_first, crate::proofs::PairsWritten::pairs_none))]
+fn write_pairs<O: Write>(out: &mut O, ranges: &[(u64, u64)]) -> io::Result<()>
+    ensures { OnOk result (Appends (O.contents out.old) (O.contents out.new) (pairs_text ranges.now)) }
+{
+    match ranges.split_first() {
+        Some((first, rest)) => {
+            write!(out, "{}", PairText(first.0, first.1))?;
+            write_next_pairs(out, rest)
+        }
+        None => Ok(()),
+    }
+}
+
+/// Writes sectors in ranges.
+fn write_ranges<O: Write>(out: &mut O, style: Style, ranges: &[(u64, u64)]) -> io::Result<()>
+    ensures { OnOk result (Appends (O.contents out.old) (O.contents out.new) (ranges_text style ranges.now)) }
+{
+    match style {
+        Style::Lines => write_spaced(out, ranges),
+        Style::Json => write_pairs(out, ranges),
+    }
+}
+
+/// What stands behind sectors.
+#[derive(Clone, Copy)]
+struct BehindRanges(Style);
+
+impl fmt::Display for BehindRanges {
+    ghost use Rattle.std.specs.Prelude.{Some};
+    ghost use Rattle.sqcrash.specs.Lines.{behind_ranges};
+
+    ghost output = { λ x. Some (behind_ranges x.0) };
+
+    fn fmt<W: fmt::Write>(&self, f: &mut fmt::Formatter<W>) -> fmt::Result {
+        f.write_str(match self.0 {
+            Style::Lines => "",
+            Style::Json => "]}",
+        })
+    }
+}
+
 /// Writes the line of a call that isn't down.
-fn write_missing<O: Write>(out: &mut O, missing: &Missing) -> io::Result<()>
-    ensures { OnOk result (Appends (O.contents out.old) (O.contents out.new) (missing_text missing.now)) }
+fn write_missing<O: Write>(out: &mut O, style: Style, missing: &Missing) -> io::Result<()>
+    ensures { OnOk result (Appends (O.contents out.old) (O.contents out.new) (missing_text style missing.now)) }
 {
     let call = CallText {
         kind: missing.kind,
@@ -182,65 +244,83 @@ fn write_missing<O: Write>(out: &mut O, missing: &Missing) -> io::Result<()>
         count: missing.count,
     };
     let number = missing.number;
-    write!(out, "{}", DownText { number, call })?;
-    write_ranges(out, &missing.sectors)?;
-    writeln!(out, "")?;
+    write!(
+        out,
+        "{}",
+        DownText {
+            style,
+            number,
+            call
+        }
+    )?;
+    write_ranges(out, style, &missing.sectors)?;
+    writeln!(out, "{}", BehindRanges(style))?;
     Ok(())
 }
 
 /// How many more findings there are.
 #[derive(Clone, Copy)]
-struct LeftText(u64);
+struct LeftText(Style, u64);
 
 impl fmt::Display for LeftText {
     ghost use Rattle.std.specs.Prelude.{Some};
     ghost use Rattle.sqcrash.specs.Lines.{left_count};
 
-    ghost output = { λ x. Some (left_count x.0) };
+    ghost output = { λ x. Some (left_count x.0 x.1) };
 
     fn fmt<W: fmt::Write>(&self, f: &mut fmt::Formatter<W>) -> fmt::Result {
-        write!(f, ".. {} more", self.0)
+        let count = self.1;
+        match self.0 {
+            Style::Lines => write!(f, ".. {count} more"),
+            Style::Json => write!(f, "{{\"more\":{count}}}"),
+        }
     }
 }
 
 /// Writes how many more findings there are, if there are any.
-fn write_left_line<O: Write>(out: &mut O, count: u64) -> io::Result<()>
-    ensures { OnOk result (Appends (O.contents out.old) (O.contents out.new) (left_line count)) }
+fn write_left_line<O: Write>(out: &mut O, style: Style, count: u64) -> io::Result<()>
+    ensures { OnOk result (Appends (O.contents out.old) (O.contents out.new) (left_line style count)) }
 {
     if count == 0 {
         return Ok(());
     }
-    writeln!(out, "{}", LeftText(count))?;
+    writeln!(out, "{}", LeftText(style, count))?;
     Ok(())
 }
 
 /// Writes how many of these findings aren't told, if there are any.
-pub fn write_left<O: Write>(out: &mut O, lines: Option<u64>, told: u64) -> io::Result<()>
-    ensures { OnOk result (Appends (O.contents out.old) (O.contents out.new) (left_text lines told)) }
+pub fn write_left<O: Write>(
+    out: &mut O,
+    style: Style,
+    lines: Option<u64>,
+    told: u64,
+) -> io::Result<()>
+    ensures { OnOk result (Appends (O.contents out.old) (O.contents out.new) (left_text style lines told)) }
 {
     match lines {
-        Some(most) => write_left_line(out, told.saturating_sub(most)),
+        Some(most) => write_left_line(out, style, told.saturating_sub(most)),
         None => Ok(()),
     }
 }
 
 /// Writes how many more there are, if there are any.
-fn write_more<O: Write>(out: &mut O, count: usize) -> io::Result<()>
-    ensures { OnOk result (Appends (O.contents out.old) (O.contents out.new) (more_text count)) }
+fn write_more<O: Write>(out: &mut O, style: Style, count: usize) -> io::Result<()>
+    ensures { OnOk result (Appends (O.contents out.old) (O.contents out.new) (more_text style count)) }
 {
     if count == 0 {
         return Ok(());
     }
-    writeln!(out, "{}", CountText(count))?;
+    writeln!(out, "{}", CountText(style, count))?;
     Ok(())
 }
 
 /// Writes the lines of all these calls that aren't down.
-fn write_each<O: Write>(out: &mut O, missing: &[Missing]) -> io::Result<()>
-    ensures { OnOk result (Appends (O.contents out.old) (O.contents out.new) (flat_map missing_text missing.now)) }
+fn write_each<O: Write>(out: &mut O, style: Style, missing: &[Missing]) -> io::Result<()>
+    ensures { OnOk result (Appends (O.contents out.old) (O.contents out.new)
+        (flat_map (missing_text style) missing.now)) }
 {
     for call in missing {
-        write_missing(out, call)?;
+        write_missing(out, style, call)?;
     }
     Ok(())
 }
@@ -253,28 +333,41 @@ fn first_few(missing: &[Missing]) -> &[Missing]
 }
 
 /// Writes the lines of calls that aren't down, 20 at most.
-fn write_missings<O: Write>(out: &mut O, missing: &[Missing]) -> io::Result<()>
-    ensures { OnOk result (Appends (O.contents out.old) (O.contents out.new) (missings_text missing.now)) }
+fn write_missings<O: Write>(out: &mut O, style: Style, missing: &[Missing]) -> io::Result<()>
+    ensures { OnOk result (Appends (O.contents out.old) (O.contents out.new) (missings_text style missing.now)) }
 {
-    write_each(out, first_few(missing))?;
-    write_more(out, missing.len().saturating_sub(MOST))?;
+    write_each(out, style, first_few(missing))?;
+    write_more(out, style, missing.len().saturating_sub(MOST))?;
     Ok(())
 }
 
 /// Writes why something is wrong with an image.
-fn write_why<O: Write>(out: &mut O, at: Stopped, missing: &[Missing]) -> io::Result<()>
-    ensures { OnOk result (Appends (O.contents out.old) (O.contents out.new) (why_text at missing.now)) }
+fn write_why<O: Write>(
+    out: &mut O,
+    style: Style,
+    at: Stopped,
+    missing: &[Missing],
+) -> io::Result<()>
+    ensures { OnOk result (Appends (O.contents out.old) (O.contents out.new) (why_text style at missing.now)) }
 {
-    writeln!(out, "{}", StoppedText(at))?;
-    write_missings(out, missing)?;
+    writeln!(out, "{}", StoppedText(style, at))?;
+    write_missings(out, style, missing)?;
     Ok(())
 }
 
 /// Writes the lines of a finding.
-fn write_finding<O: Write>(out: &mut O, why: bool, at: Stopped, finding: &Finding) -> io::Result<()>
-    ensures { OnOk result (Appends (O.contents out.old) (O.contents out.new) (finding_text why at finding.now)) }
+fn write_finding<O: Write>(
+    out: &mut O,
+    style: Style,
+    why: bool,
+    at: Stopped,
+    finding: &Finding,
+) -> io::Result<()>
+    ensures { OnOk result
+        (Appends (O.contents out.old) (O.contents out.new) (finding_text style why at finding.now)) }
 {
     let line = Line {
+        style,
         point: at.point,
         known: at.known,
         image: finding.image(),
@@ -284,7 +377,7 @@ fn write_finding<O: Write>(out: &mut O, why: bool, at: Stopped, finding: &Findin
     if !why {
         return Ok(());
     }
-    write_why(out, at, finding.missing())?;
+    write_why(out, style, at, finding.missing())?;
     Ok(())
 }
 
@@ -317,14 +410,14 @@ fn write_one<O: Write>(
     told: u64,
     finding: &Finding,
 ) -> Result<u64, Refusal>
-    ensures { MatchResult result (λ n. Writes plan.lines (finding_text plan.why at finding.now ∷ []) told n
+    ensures { MatchResult result (λ n. Writes plan.lines (finding_text plan.style plan.why at finding.now ∷ []) told n
         (O.contents out.old) (O.contents out.new)) (WriteRefused told 1) }
 {
     let count = more(told)?;
     if !is_within(plan.lines, told) {
         return Ok(count);
     }
-    write_finding(out, plan.why, at, finding)?;
+    write_finding(out, plan.style, plan.why, at, finding)?;
     Ok(count)
 }
 

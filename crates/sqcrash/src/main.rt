@@ -7,9 +7,11 @@ ghost use Rattle.sqcrash.specs.Ends.{Ends};
 mod commands;
 mod explained;
 mod finding;
+mod fresh;
 mod keep;
 mod lines;
 mod marked;
+mod objects;
 mod outcome;
 mod plan;
 mod program;
@@ -21,14 +23,16 @@ mod sample;
 mod shown;
 mod stopped;
 mod survey;
+mod watched;
 
 use std::env::{self, Env};
 use std::io::{self, Write};
 use std::process::ExitCode;
 use std::rt::Files;
+use std::time::Clock;
 
 /// Reads the words and carries them out.
-fn answer<R: Env + Files + AllocGlobal, O: Write, E: Write>(
+fn answer<R: Env + Files + Clock + AllocGlobal, O: Write, E: Write>(
     rt: &R,
     out: &mut O,
     err: &mut E,

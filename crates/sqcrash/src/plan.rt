@@ -24,6 +24,14 @@ pub struct Part {
     ghost is_some: { 0 < of },
 }
 
+/// How what is found is printed.
+#[derive(Clone, Copy, Debug, PartialEq, Eq)]
+pub enum Style {
+    Lines,
+    /// A JSON object on each line.
+    Json,
+}
+
 /// How a trace is to be judged.
 #[derive(Clone, Copy, Debug, PartialEq, Eq)]
 pub struct Plan {
@@ -55,5 +63,6 @@ pub struct Plan {
     pub point: Option<u64>,
     /// The image at its point of which a line is written, counted from 0; all where there is none.
     pub image: Option<u64>,
+    pub style: Style,
     ghost is_size: { IsTrue (is_sector_size sector) },
 }

@@ -11,10 +11,10 @@ ghost use Rattle.sqcrash.specs.Ends.{Comes, Ends, IsStatusOf};
 use crate::commands::request;
 use crate::explained::{write_findings, write_left};
 use crate::keep::{Folder, Keeper};
-use crate::lines::write_commits;
+use crate::lines::{TimeText, write_commits, write_sum};
 use crate::marked::{are_at_marks, take_marked};
 use crate::outcome::Refusal;
-use crate::plan::{Part, Plan};
+use crate::plan::{Part, Plan, Style};
 use crate::requests::{LineError, Request};
 use crate::rig::Rig;
 use crate::survey::Tally;
@@ -24,6 +24,7 @@ use std::fmt::Display;
 use std::fs;
 use std::io::{self, Write};
 use std::rt::Files;
+use std::time::{Clock, Instant};
 
 const DONE: u8 = 0;
 
@@ -36,7 +37,7 @@ const REFUSED: u8 = 3;
 /// Carries out a command line, whose first word is the program's name, and answers the program's status: 0 where
 /// nothing is wrong (also for help and the version), 1 where something is with a commit or an image, 2 for words that
 /// aren't understood, 3 where it was refused or a file or a writer failed.
-pub fn run<R: Files + AllocGlobal, O: Write, E: Write>(
+pub fn run<R: Files + Clock + AllocGlobal, O: Write, E: Write>(
     rt: &R,
     words: &[&str],
     out: &mut O,
@@ -52,9 +53,33 @@ pub fn run<R: Files + AllocGlobal, O: Write, E: Write>(
         Err(LineError::NotUnderstood(fault)) => return printed(err, &fault, NOT_UNDERSTOOD),
         Err(LineError::NoMemory) => return refused(err, &LineError::NoMemory),
     };
+    let begun = begun_at(rt, request.time);
     match carried_out(rt, &request, out) {
-        Ok(tally) => status_of(&tally),
-        Err(refusal) => refused(err, &refusal),
+        Ok(tally) => {
+            tell_time(rt, err, begun, tally.images);
+            status_of(&tally)
+        }
+        Err(refusal) => refused_in(out, err, request.plan.style, &refusal),
+    }
+}
+
+/// When a run began, where it is to be told how long it took, and the clock can be read.
+fn begun_at<C: Clock>(clock: &C, is_asked: bool) -> Option<Instant> {
+    if is_asked {
+        Instant::now(clock).ok()
+    } else {
+        None
+    }
+}
+
+/// Tells how long it took since then, and how many images were judged.
+fn tell_time<C: Clock, E: Write>(clock: &C, err: &mut E, begun: Option<Instant>, images: u64) {
+    let Some(begun) = begun else {
+        return;
+    };
+    if let Ok(now) = Instant::now(clock) {
+        let millis = now.saturating_duration_since(begun).as_millis();
+        let _ = line(err, &TimeText { millis, images });
     }
 }
 
@@ -87,7 +112,8 @@ fn carried_out<R: Files + AllocGlobal, O: Write>(
     let bytes = read(rt, request.trace)?;
     let mut folder = Folder::new(rt, request.keep, request.plan)?;
     let tally = judge_trace(rt.alloc(), request.plan, &bytes, &mut folder, out)?;
-    line(out, &tally)?;
+    write_sum(out, request.plan.style, tally)?;
+    out.flush()?;
     Ok(tally)
 }
 
@@ -154,7 +180,7 @@ fn begun<O: Write>(
         return Ok(rig);
     }
     let marked = take_marked(alloc, plan, bytes, records)?;
-    write_commits(out, &marked.faults)?;
+    write_commits(out, plan.style, &marked.faults)?;
     rig.wait_for(marked);
     Ok(rig)
 }
@@ -179,7 +205,7 @@ fn judge_records<K: Keeper, O: Write>(
         let next = write_findings(out, plan, rig.stopped(bytes, call), told, &findings)?;
         told = next;
     }
-    write_left(out, plan.lines, told)?;
+    write_left(out, plan.style, plan.lines, told)?;
     Ok(rig.tally())
 }
 
@@ -209,6 +235,16 @@ fn printed<W: Write, T: Display>(writer: &mut W, text: &T, status: u8) -> u8
     match line(writer, text) {
         Ok(()) => status,
         Err(_) => REFUSED,
+    }
+}
+
+/// A refusal on standard error, or as an object on standard output.
+fn refused_in<O: Write, E: Write>(out: &mut O, err: &mut E, style: Style, refusal: &Refusal) -> u8
+    ensures { result ≡ 3 }
+{
+    match style {
+        Style::Lines => refused(err, refusal),
+        Style::Json => printed(out, &format_args!("{{\"refused\":\"{refusal}\"}}"), REFUSED),
     }
 }
 

@@ -11,6 +11,8 @@ pub struct Request<'a> {
     pub plan: Plan,
     /// The folder in which images are kept that are found wrong.
     pub keep: Option<&'a str>,
+    /// Whether it is told how long it took.
+    pub time: bool,
 }
 
 /// Why a line asks for nothing.

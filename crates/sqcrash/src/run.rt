@@ -8,10 +8,9 @@ ghost use Rattle.sqcrash.specs.Refusals.{IsOfMemory, IsUnplayed, PlayRefused};
 use crate::outcome::{Refusal, more};
 use crate::plan::CommitsAt;
 use crate::promise::{Mark, Promise};
+use crate::watched::Watched;
 use rig_images::Image;
-use rig_judge::{
-    History, Judgment, Snapshot, fault_in_files, files_show, judge_files, judge_scanned,
-};
+use rig_judge::{Judgment, Snapshot, fault_in_files, files_show, judge_files, judge_scanned};
 use rig_missing::{Change, Missing, Playing, SectorSize, change_of, file_in, missing_calls};
 use rig_play::{Kind, Meta, Player, Record, Subject};
 use sqpage::CheckError;
@@ -55,14 +54,12 @@ pub struct Run {
     taken_at: CommitsAt,
     /// Of the commits at marks those that aren't shown yet, the next one last.
     waiting: Vec<Snapshot>,
-    player: Player,
-    history: History,
+    /// The files and the commits.
+    watched: Watched,
     /// The thread that made each commit.
     makers: Vec<u32>,
     /// The number of the last commit that is known to be durable.
     known: usize,
-    /// The present files, as they were last looked at.
-    present: Image,
     /// How many records were played.
     played: u64,
     /// The size of a sector, where it is to be told which calls aren't down in an image.
@@ -100,11 +97,9 @@ impl Run {
             promise,
             taken_at: CommitsAt::Calls,
             waiting: Vec::new(alloc),
-            player: Player::new(alloc, sector, tears, meta),
-            history: History::new(alloc),
+            watched: Watched::new(alloc, sector, tears, meta),
             makers: Vec::new(alloc),
             known: 0,
-            present: Image::none(alloc),
             played: 0,
             why: None,
             kept: Vec::new(alloc),
@@ -159,14 +154,14 @@ impl Run {
     pub fn commits(&self) -> usize
         ensures { result ≡ length (run_of self.now).commits }
     {
-        self.history.len()
+        self.watched.history().len()
     }
 
     /// The commits, the oldest first.
     pub fn into_commits(self) -> Vec<Snapshot>
         ensures { map commit_of result.items ≡ (run_of self).commits }
     {
-        self.history.into_commits()
+        self.watched.into_commits()
     }
 
     /// Where its memory comes from.
@@ -178,7 +173,7 @@ impl Run {
     pub fn player(&self) -> &Player
         ensures { files_of result.now ≡ (run_of self.now).files }
     {
-        &self.player
+        self.watched.player()
     }
 
     /// The number of the last commit that is known to be durable, counted from 0.
@@ -194,7 +189,8 @@ impl Run {
             image.now.db.items image.now.wal.items image.now.journal.items) IsOfMemory }
     {
         let (db, wal, journal) = (&image.db, &image.wal, &image.journal);
-        Ok(judge_files(self.alloc, &self.history, self.known, db, wal, journal)?)
+        let history = self.watched.history();
+        Ok(judge_files(self.alloc, history, self.known, db, wal, journal)?)
     }
 
     /// The same where the log's scan is there, or isn't.
@@ -207,21 +203,29 @@ impl Run {
             return self.judge(image);
         };
         let (db, wal, journal) = (&image.db, &image.wal, &image.journal);
-        Ok(judge_scanned(&self.history, self.known, db, wal, journal, scan)?)
+        let history = self.watched.history();
+        Ok(judge_scanned(history, self.known, db, wal, journal, scan)?)
+    }
+
+    /// Looks at the present files.
+    fn look(&mut self) -> Result<(), Refusal>
+        ensures present { OnOk result (IsPresent (run_of self.old).files self.new.watched.present) }
+        ensures same { OnOk result (run_of self.new ≡ run_of self.old) }
+        ensures waiting { self.new.waiting.items ≡ self.old.waiting.items }
+        ensures memory { IfErr result IsOfMemory }
+    {
+        self.watched.look()
     }
 
     /// Takes the database that the present files show, as they were looked at, where it isn't the last commit's.
     /// Answers whether it did.
     fn note_present(&mut self, thread: u32) -> Result<bool, Refusal>
         ensures noted { IfOk result
-            (NotesImage self.old.present thread (run_of self.old) (run_of self.new)) }
-        ensures present { OnOk result (self.new.present ≡ self.old.present) }
+            (NotesImage self.old.watched.present thread (run_of self.old) (run_of self.new)) }
+        ensures present { OnOk result (self.new.watched.present ≡ self.old.watched.present) }
         ensures memory { IfErr result IsOfMemory }
     {
-        let files = &self.present;
-        let taken = self
-            .history
-            .note(self.alloc, &files.db, &files.wal, &files.journal)?;
+        let taken = self.watched.note()?;
         if taken {
             self.makers.push(thread)?;
         }
@@ -232,16 +236,16 @@ impl Run {
     fn note(&mut self, thread: u32) -> Result<(), Refusal>
         ensures { MatchResult result (λ done. Notes thread (run_of self.old) (run_of self.new)) IsOfMemory }
     {
-        self.present.set_present(&self.player)?;
+        self.look()?;
         self.note_present(thread)?;
         Ok(())
     }
 
     /// What is wrong with the database that the present files show, as they were looked at.
     fn fault(&self) -> Result<Option<CheckError>, Refusal>
-        ensures { MatchResult result (IsFaultIn self.now.present) IsOfMemory }
+        ensures { MatchResult result (IsFaultIn self.now.watched.present) IsOfMemory }
     {
-        let files = &self.present;
+        let files = self.watched.present();
         Ok(fault_in_files(self.alloc, &files.db, &files.wal, &files.journal)?)
     }
 
@@ -250,7 +254,7 @@ impl Run {
     pub fn note_checked(&mut self, thread: u32) -> Result<Option<CheckError>, Refusal>
         ensures { MatchResult result (NotesFault thread (run_of self.old) (run_of self.new)) IsOfMemory }
     {
-        self.present.set_present(&self.player)?;
+        self.look()?;
         if self.note_present(thread)? {
             self.fault()
         } else {
@@ -260,13 +264,13 @@ impl Run {
 
     /// Whether the present files, as they were looked at, show the next of the commits at marks.
     fn shows_next(&self) -> Result<bool, Refusal>
-        ensures { MatchResult result (ShowsLastOf self.now.waiting.items self.now.present) IsOfMemory }
+        ensures { MatchResult result (ShowsLastOf self.now.waiting.items self.now.watched.present) IsOfMemory }
     {
         let count = self.waiting.len();
         if count == 0 {
             return Ok(false);
         }
-        let files = &self.present;
+        let files = self.watched.present();
         Ok(files_show(
             self.alloc,
             &self.waiting[count - 1],
@@ -284,7 +288,7 @@ impl Run {
         let Some(next) = self.waiting.pop() else {
             return Ok(());
         };
-        self.history.push(next)?;
+        self.watched.push(next)?;
         self.makers.push(thread)?;
         Ok(())
     }
@@ -297,7 +301,7 @@ impl Run {
         if self.waiting.len() == 0 {
             return Ok(());
         }
-        self.present.set_present(&self.player)?;
+        self.look()?;
         if !self.shows_next()? {
             return Ok(());
         }
@@ -318,7 +322,7 @@ impl Run {
     fn begin(&mut self, thread: u32) -> Result<(), Refusal>
         ensures { MatchResult result (λ done. Begins thread (run_of self.old) (run_of self.new)) IsOfMemory }
     {
-        if self.history.len() > 0 {
+        if self.commits() > 0 {
             return Ok(());
         }
         self.take(thread)
@@ -326,13 +330,13 @@ impl Run {
 
     /// Looks at the present files, and answers how long one of them is, in bytes.
     fn length_of(&mut self, subject: Subject) -> Result<u64, Refusal>
-        ensures long { IfOk result (λ n. (n ≡ length (file_in subject self.new.present)) × (n < 2 ^ 63)) }
-        ensures present { OnOk result (IsPresent (run_of self.old).files self.new.present) }
+        ensures long { IfOk result (λ n. (n ≡ length (file_in subject self.new.watched.present)) × (n < 2 ^ 63)) }
+        ensures present { OnOk result (IsPresent (run_of self.old).files self.new.watched.present) }
         ensures same { OnOk result (run_of self.new ≡ run_of self.old) }
         ensures memory { IfErr result IsOfMemory }
     {
-        self.present.set_present(&self.player)?;
-        Ok(file_in(subject, &self.present).len() as u64)
+        self.look()?;
+        Ok(file_in(subject, self.watched.present()).len() as u64)
     }
 
     /// The files go over as a record says. Refused by Record.
@@ -342,7 +346,7 @@ impl Run {
             (run_of self.new ≡ record (run_of self.old) { files = (run_of self.new).files }) }
         ensures refused { IfErr result (IsUnplayed (run_of self.old).files trace.now call.now) }
     {
-        match self.player.play(trace, call) {
+        match self.watched.play(trace, call) {
             Ok(()) => Ok(()),
             Err(error) => Err(Refusal::Record(call.from.saturating_sub(HEAD_LEN), error)),
         }
@@ -356,9 +360,9 @@ impl Run {
         playing: Playing,
     ) -> Result<Option<Change>, Refusal>
         ensures { MatchResult result
-            (ChangeAnswer size.bytes call.now playing (file_in call.now.subject self.now.present)) IsOfMemory }
+            (ChangeAnswer size.bytes call.now playing (file_in call.now.subject self.now.watched.present)) IsOfMemory }
     {
-        let present = file_in(call.subject, &self.present);
+        let present = file_in(call.subject, self.watched.present());
         Ok(change_of(self.alloc, size, call, playing, present)?)
     }
 
@@ -386,7 +390,7 @@ impl Run {
         let number = more(self.played)?;
         let was = self.length_of(call.subject)?;
         self.move_files(trace, call)?;
-        self.present.set_present(&self.player)?;
+        self.look()?;
         let playing = playing_of(number, call.bytes(trace), was);
         let change = self.change_by(call, size, playing)?;
         self.keep(change)?;

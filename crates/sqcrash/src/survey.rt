@@ -20,7 +20,6 @@ use rig_judge::Judgment;
 use rig_missing::Missing;
 use sqwal::Scan;
 use std::alloc::Global;
-use std::fmt;
 
 /// How many points and images there were, and of these how many with something wrong.
 #[derive(Clone, Copy, Debug, PartialEq, Eq)]
@@ -89,16 +88,6 @@ impl Tally {
             Judgment::Fault(_) | Judgment::Refused(_) => self.faults = more(self.faults)?,
         }
         Ok(self)
-    }
-}
-
-impl fmt::Display for Tally {
-    fn fmt<W: fmt::Write>(&self, f: &mut fmt::Formatter<W>) -> fmt::Result {
-        write!(
-            f,
-            "{} points, {} images, {} lost, {} mixed, {} faults",
-            self.points, self.images, self.lost, self.mixed, self.faults
-        )
     }
 }
 

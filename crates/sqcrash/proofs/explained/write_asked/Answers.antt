@@ -10,7 +10,7 @@ pub returns-then-not-is_told : goal.returns-then-not-is_told
 returns-then-not-is_told g c =
     let plan = c.args.plan in
     let old = g.O.Write.contents c.args.out.now in
-    let text = finding_text plan.why c.args.at c.args.finding.now in
+    let text = finding_text plan.style plan.why c.args.at c.args.finding.now in
     subst (λ (b : Bool). Writes plan.lines (cond b (text ∷ []) []) c.args.told c.args.told old old) c.if-not-is_told.ensures (writes_none plan.lines c.args.told old)
 
 pub returns : goal.returns
@@ -18,7 +18,7 @@ returns g c =
     let plan = c.args.plan in
     let old = g.O.Write.contents c.args.out.now in
     let new = g.O.Write.contents c.write_one.new.out in
-    let text = finding_text plan.why c.args.at c.args.finding.now in
+    let text = finding_text plan.style plan.why c.args.at c.args.finding.now in
     subst
     (λ (b : Bool). MatchResult c.write_one.result (λ n. Writes plan.lines (cond b (text ∷ []) []) c.args.told n old new) (WriteRefused c.args.told (length (cond b (text ∷ []) []))))
     c.if-not-is_told.ensures c.write_one.ensures

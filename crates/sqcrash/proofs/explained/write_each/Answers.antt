@@ -12,10 +12,10 @@ loop-call-init g c = appends_none (g.O.Write.contents c.args.out.now)
 
 pub loop-call-preserved : goal.loop-call-preserved
 loop-call-preserved g c =
-    appends_next missing_text c.args.missing.now c.loop-call.call-index c.call-item.result c.call-item.result (g.O.Write.contents c.args.out.now) (g.O.Write.contents c.loop-call.out)
+    appends_next (missing_text c.args.style) c.args.missing.now c.loop-call.call-index c.call-item.result c.call-item.result (g.O.Write.contents c.args.out.now) (g.O.Write.contents c.loop-call.out)
     (g.O.Write.contents c.write_missing.new.out) c.loop-call-test.true c.call-item.is c.loop-call.invariant c.in_ok-write_missing.ensures
 
 pub returns : goal.returns
 returns g c =
-    subst (λ (l : List Missing). Appends (g.O.Write.contents c.args.out.now) (g.O.Write.contents c.loop-call.out) (flat_map missing_text l))
+    subst (λ (l : List Missing). Appends (g.O.Write.contents c.args.out.now) (g.O.Write.contents c.loop-call.out) (flat_map (missing_text c.args.style) l))
     (take_all c.loop-call.call-index c.args.missing.now c.loop-call-test.false) c.loop-call.invariant

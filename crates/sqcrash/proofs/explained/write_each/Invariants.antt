@@ -5,4 +5,4 @@ use Rattle.sqcrash.specs.Lines.{missing_text}
 use Rattle.sqcrash.proofs.explained.write_each.Given as goal
 
 abbrev pub invariant-loop-call : goal.invariant-loop-call
-invariant-loop-call g l = Appends (g.O.Write.contents l.initial.out) (g.O.Write.contents l.out) (flat_map missing_text (take l.call-index l.missing))
+invariant-loop-call g l = Appends (g.O.Write.contents l.initial.out) (g.O.Write.contents l.out) (flat_map (missing_text l.style) (take l.call-index l.missing))

@@ -13,9 +13,9 @@ returns g c =
     let old = g.O.Write.contents c.args.out.now in
     let mid = g.O.Write.contents c.writeln.new.self in
     let new = g.O.Write.contents c.write_why.new.out in
-    let text = line_text at.point at.known f.image f.judgment ++ 10 ∷ [] in
+    let text = line_text c.args.style at.point at.known f.image f.judgment ++ 10 ∷ [] in
     let line : Appends old mid text =
-    subst (λ (n : ℕ). Appends old mid (line_text at.point at.known n f.judgment ++ 10 ∷ [])) c.image.ensures
-    (subst (λ (j : Judgment). Appends old mid (line_text at.point at.known c.image.result j ++ 10 ∷ [])) c.judgment.ensures c.in_ok-writeln.ensures.bytes) in
-    let more : Appends mid new (why_text at f.missing) = subst (λ (l : List Missing). Appends mid new (why_text at l)) c.missing.ensures c.in_ok-write_why.ensures in
-    subst (λ (b : Bool). Appends old new (text ++ cond b (why_text at f.missing) [])) (sym c.if-not-why.false) (appends_more old mid new text (why_text at f.missing) line more)
+    subst (λ (n : ℕ). Appends old mid (line_text c.args.style at.point at.known n f.judgment ++ 10 ∷ [])) c.image.ensures
+    (subst (λ (j : Judgment). Appends old mid (line_text c.args.style at.point at.known c.image.result j ++ 10 ∷ [])) c.judgment.ensures c.in_ok-writeln.ensures.bytes) in
+    let more : Appends mid new (why_text c.args.style at f.missing) = subst (λ (l : List Missing). Appends mid new (why_text c.args.style at l)) c.missing.ensures c.in_ok-write_why.ensures in
+    subst (λ (b : Bool). Appends old new (text ++ cond b (why_text c.args.style at f.missing) [])) (sym c.if-not-why.false) (appends_more old mid new text (why_text c.args.style at f.missing) line more)

@@ -10,7 +10,7 @@ returns-then-count-eq0 g c =
     let n = c.args.count in
     let old = g.O.Write.contents c.args.out.now in
     let is : nat_eq n 0 ≡ true = grind (arith, nat_tests) in
-    subst (λ (b : Bool). Appends old old (cond b [] (left_count n ++ 10 ∷ []))) (sym is) (appends_none old)
+    subst (λ (b : Bool). Appends old old (cond b [] (left_count c.args.style n ++ 10 ∷ []))) (sym is) (appends_none old)
 
 pub returns : goal.returns
 returns g c =
@@ -18,4 +18,4 @@ returns g c =
     let old = g.O.Write.contents c.args.out.now in
     let new = g.O.Write.contents c.writeln.new.self in
     let is : nat_eq n 0 ≡ false = grind (arith, nat_tests) in
-    subst (λ (b : Bool). Appends old new (cond b [] (left_count n ++ 10 ∷ []))) (sym is) c.in_ok-writeln.ensures.bytes
+    subst (λ (b : Bool). Appends old new (cond b [] (left_count c.args.style n ++ 10 ∷ []))) (sym is) c.in_ok-writeln.ensures.bytes

@@ -24,7 +24,7 @@ loop-fault-preserved g c =
     let old = g.O.Write.contents c.args.out.now in
     let mid = g.O.Write.contents c.loop-fault.out in
     let new = g.O.Write.contents c.writeln.new.self in
-    let text : CommitFault → List ℕ = λ f. commit_text f ++ 10 ∷ [] in
+    let text : CommitFault → List ℕ = λ f. commit_text c.args.style f ++ 10 ∷ [] in
     let before = flat_map text (take i faults) in
     let fault = get_or faults i behind in
     let lines : flat_map text (take (i + 1) faults) ≡ before ++ text fault =
@@ -35,5 +35,5 @@ loop-fault-preserved g c =
 
 pub returns : goal.returns
 returns g c =
-    subst (λ (l : List CommitFault). Appends (g.O.Write.contents c.args.out.now) (g.O.Write.contents c.loop-fault.out) (commits_text l))
+    subst (λ (l : List CommitFault). Appends (g.O.Write.contents c.args.out.now) (g.O.Write.contents c.loop-fault.out) (commits_text c.args.style l))
     (take_all c.loop-fault.fault-index c.args.faults.now c.loop-fault-test.false) c.loop-fault.invariant

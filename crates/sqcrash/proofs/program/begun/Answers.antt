@@ -39,7 +39,7 @@ returns-clause-begins g c =
     let new = g.O.Write.contents c.write_commits.new.out in
     let is : rig_of c.wait_for.new.self ≡ marked_rig (no_rig plan) m =
     c.wait_for.ensures.rig ∙ ap (λ (r : RigState). marked_rig r m) (is_new plan rig c.new-rig.ensures.run c.new-rig.ensures.versions c.new-rig.ensures.tally c.new-rig.ensures.point) in (
-      commits_text faults,
-      subst (λ (b : Bool). BeginsBy b plan c.args.bytes.now c.args.records.now (rig_of c.wait_for.new.self) (commits_text faults)) c.if-not-are_at_marks.ensures (m, c.in_ok-marked.ensures, is, refl),
-      subst (λ (l : List CommitFault). Appends old new (commits_text l)) c.deref.ensures.value c.in_ok-write_commits.ensures,
+      commits_text plan.style faults,
+      subst (λ (b : Bool). BeginsBy b plan c.args.bytes.now c.args.records.now (rig_of c.wait_for.new.self) (commits_text plan.style faults)) c.if-not-are_at_marks.ensures (m, c.in_ok-marked.ensures, is, refl),
+      subst (λ (l : List CommitFault). Appends old new (commits_text plan.style l)) c.deref.ensures.value c.in_ok-write_commits.ensures,
     )

@@ -19,9 +19,14 @@ returns-in_err-tally g c =
     subst (λ (r : Result Tally Refusal). Comes c.args.request.now.plan r) (sym (is_passed c.from_residual-in_err-tally.result _ c.from_residual-in_err-tally.ensures.1))
     (inr (c.deref.result.now, c.in_err-tally.ensures.refused))
 
-pub returns-in_err-line : goal.returns-in_err-line
-returns-in_err-line g c =
-    subst (λ (r : Result Tally Refusal). Comes c.args.request.now.plan r) (sym (is_passed c.from_residual-in_err-line.result _ c.from_residual-in_err-line.ensures.1))
+pub returns-in_err-write_sum : goal.returns-in_err-write_sum
+returns-in_err-write_sum g c =
+    subst (λ (r : Result Tally Refusal). Comes c.args.request.now.plan r) (sym (is_passed c.from_residual-in_err-write_sum.result _ c.from_residual-in_err-write_sum.ensures.1))
+    (inr ([], tt))
+
+pub returns-in_err-flush : goal.returns-in_err-flush
+returns-in_err-flush g c =
+    subst (λ (r : Result Tally Refusal). Comes c.args.request.now.plan r) (sym (is_passed c.from_residual-in_err-flush.result _ c.from_residual-in_err-flush.ensures.1))
     (inr ([], tt))
 
 pub returns : goal.returns

@@ -77,11 +77,11 @@ returns-clause-judged g c =
     let new = g.O.Write.contents c.write_left.new.out in
     let texts = so_far.0 in
     let of_texts = joined (first_of plan.lines texts) in
-    let left = left_text plan.lines (length texts) in
+    let left = left_text plan.style plan.lines (length texts) in
     let of_first : Appends mid told of_texts =
     subst (λ (k : Option ℕ). Appends mid told (joined (first_of k texts))) (behind_none plan.lines) so_far.2.1 in
     let count : c.loop-call.told ≡ length texts = omega (arith, so_far.2.0) in
-    let of_left : Appends told new left = subst (λ (k : ℕ). Appends told new (left_text plan.lines k)) count c.in_ok-write_left.ensures in (
+    let of_left : Appends told new left = subst (λ (k : ℕ). Appends told new (left_text plan.style plan.lines k)) count c.in_ok-write_left.ensures in (
       begun.0 ++ (of_texts ++ left),
       record {
         trace = c.in_ok-trace.trace;
