@@ -51,7 +51,7 @@ _sqcrash() {
       ;;
   esac
   case $command in
-    '') options='-V --version --sector --tears --meta --images --seed --every --promise --commits --why --shrink --part --lines --point --image --keep -h --help' ;;
+    '') options='-V --version --sector --tears --meta --images --seed --every --promise --commits --why --shrink --part --lines --point --image --json --time --keep -h --help' ;;
   esac
   if [[ $word == -* ]]; then
     COMPREPLY=($(compgen -W "$options" -- "$word"))

@@ -14,5 +14,7 @@ complete -c sqcrash -l part -x -d 'Judges of each N points in turn the K-th alon
 complete -c sqcrash -l lines -x -d 'The most images of which lines are written'
 complete -c sqcrash -l point -x -d 'Writes lines of point P alone, counted from 1'
 complete -c sqcrash -l image -x -d 'Writes lines of image I of a point alone, counted from 0'
+complete -c sqcrash -l json -d 'Prints each line as a JSON object, and a refusal as one, too'
+complete -c sqcrash -l time -d 'Tells on standard error how long it took, and how many images were judged'
 complete -c sqcrash -l keep -xa '(__fish_complete_directories)' -d 'Writes images with something wrong, the first 1000, to DIR/pPOINT-iIMAGE.db, -wal and -journal'
 complete -c sqcrash -s h -l help -d 'Print help'

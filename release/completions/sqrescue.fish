@@ -57,6 +57,7 @@ complete -c sqrescue -n '__fish_seen_subcommand_from diff' -l no-lock -d 'Takes 
 complete -c sqrescue -n '__fish_seen_subcommand_from diff' -l to -x -d 'Compares up to commit frame N'
 complete -c sqrescue -n '__fish_seen_subcommand_from diff' -l table -x -d 'Prints the changes of this table alone, as SQLite compares names'
 complete -c sqrescue -n '__fish_seen_subcommand_from diff' -l commits -d 'Prints what each commit of the write-ahead log changed against the one before it, from M to N'
+complete -c sqrescue -n '__fish_seen_subcommand_from diff' -l deleted -d 'Prints which cells of deleted rows, as rows --deleted finds them, went and came instead'
 complete -c sqrescue -n '__fish_seen_subcommand_from diff' -l sql -d 'Prints SQL that makes the new rows of the old ones'
 complete -c sqrescue -n '__fish_seen_subcommand_from diff' -s h -l help -d 'Print help'
 complete -c sqrescue -n '__fish_seen_subcommand_from salvage' -s v -l verbose -d 'Says on standard error which files are read, which log counts, and why a command is refused'
