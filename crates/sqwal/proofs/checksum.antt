@@ -2,3 +2,6 @@
 pub mod Sums
 pub mod SlotParts
 pub mod SumsOfEqualHeaders
+pub mod SumsJoined
+pub mod FibonacciDoubled
+pub mod Lanes

@@ -5,3 +5,5 @@ pub mod Took
 pub mod Answers
 pub mod Commits
 pub mod ScanParts
+pub mod Leaps
+pub mod Lanes

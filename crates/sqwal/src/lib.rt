@@ -7,6 +7,7 @@ mod error;
 mod frame;
 mod header;
 mod index;
+mod leap;
 mod scan;
 mod slots;
 mod sum;

@@ -12,11 +12,11 @@ use Rattle.sqwal.specs.declared.sum.Order.TheVariants.{Big, Little}
 use Rattle.sqwal.specs.declared.sum.Sum.{Sum}
 
 -- as `weighted`, with the Fibonacci number before
-lower : List ℕ → ℕ
+unfoldable pub lower : List ℕ → ℕ
 lower [] = 0
 lower (x ∷ xs) = x * fibonacci (length xs) + lower xs
 
-fibonacci_more : (n : ℕ) → fibonacci (n + 1 + 1) ≡ fibonacci (n + 1) + fibonacci n
+pub fibonacci_more : (n : ℕ) → fibonacci (n + 1 + 1) ≡ fibonacci (n + 1) + fibonacci n
 unfolding fibonacci
 fibonacci_more n = rw add-one (rw add-one refl)
 
@@ -38,13 +38,13 @@ lower-push (x ∷ xs) y =
     omega arith
 
 -- the sum before the last word
-abbrev before : List ℕ → ℕ
+abbrev pub before : List ℕ → ℕ
 before xs = weighted (take (length xs - 1) xs)
 
 before-push : (xs : List ℕ) (y : ℕ) → before (xs ++ y ∷ []) ≡ weighted xs
 before-push xs y = ap (λ n. weighted (take n (xs ++ y ∷ []))) (let e : length (xs ++ y ∷ []) - 1 ≡ length xs = omega (arith, length_push xs y) in e) ∙ ap weighted (take_at xs (y ∷ []) (length xs) refl)
 
-lower-before : (xs : List ℕ) → lower xs ≡ before xs
+pub lower-before : (xs : List ℕ) → lower xs ≡ before xs
 unfolding lower weighted
 lower-before [] = refl
 lower-before (x ∷ xs) =
@@ -94,7 +94,7 @@ words-append order (x ∷ y ∷ []) b h = absurd (omega arith)
 words-append order (x ∷ y ∷ z ∷ []) b h = absurd (omega arith)
 words-append order (x ∷ y ∷ z ∷ w ∷ a) b h = ap (λ (ns : List ℕ). number order (x ∷ y ∷ z ∷ w ∷ []) ∷ ns) (words-append order a b (omega arith))
 
-words-first : (order : Order) (x : List ℕ) → 4 ≤ length x → words order x ≡ number order (take 4 x) ∷ words order (drop 4 x)
+pub words-first : (order : Order) (x : List ℕ) → 4 ≤ length x → words order x ≡ number order (take 4 x) ∷ words order (drop 4 x)
 unfolding words
 words-first order [] h = absurd (omega arith)
 words-first order (x ∷ []) h = absurd (omega arith)
@@ -102,7 +102,7 @@ words-first order (x ∷ y ∷ []) h = absurd (omega arith)
 words-first order (x ∷ y ∷ z ∷ []) h = absurd (omega arith)
 words-first order (x ∷ y ∷ z ∷ w ∷ a) h = refl
 
-words_none : (order : Order) (x : List ℕ) → length x ≡ 0 → words order x ≡ []
+pub words_none : (order : Order) (x : List ℕ) → length x ≡ 0 → words order x ≡ []
 unfolding words
 words_none order [] h = refl
 words_none order (x ∷ xs) h = absurd (omega arith)

@@ -2,7 +2,7 @@ use Rattle.std.proofs.Common.{◌≡◌, List, ℕ, [], take, drop, ◌*◌, ◌
 use Rattle.std.proofs.lemmas.List.{take-take}
 use Rattle.sqwal.specs.Sums.{number}
 use Rattle.sqwal.proofs.checksum.Sums.{get_or-first_chunks, goes_on_pair}
-use Rattle.sqwal.proofs.sum.Sum.over.Goals as goal
+use Rattle.sqwal.proofs.sum.Sum.pairs.Goals as goal
 
 pub loop-pair-preserved : goal.loop-pair-preserved
 loop-pair-preserved g c order same =
