@@ -1,5 +1,5 @@
 -- The entries of a range of rowids, read one after another.
-use Rattle.std.proofs.Common.{◌≡◌, ◌≤◌, ◌<◌, ◌+◌, ◌∙◌, ⊎_elim, inl, inr, ◌⊎◌, ℕ, Bool, true, false, not, ◌&&◌, cond, List, [], ◌∷◌, ◌++◌, map, length, take, get_or, slice_get, Option, Some, None, ℤ, pos, unwrap_or, int_le, refl, sym, ap, subst, arith, All, Contains, append-nil, append_assoc, count_by}
+use Rattle.std.proofs.Common.{◌≡◌, ◌≤◌, ◌<◌, ◌+◌, ◌∙◌, ⊎_elim, ℕ, Bool, true, false, not, ◌&&◌, cond, List, [], ◌∷◌, ◌++◌, map, length, take, get_or, slice_get, Option, Some, None, ℤ, pos, unwrap_or, int_le, refl, sym, ap, subst, arith, All, Contains, append-nil, append_assoc, count_by}
 use Rattle.std.specs.List.{AllZip, filter}
 use Rattle.std.proofs.lemmas.List.{length-map, take_more}
 use Rattle.std.proofs.lemmas.List.Elements.{filter-append, Contains-append_left}
@@ -8,7 +8,6 @@ use Rattle.std.proofs.lemmas.List.Sums.{sum_by-append}
 use Rattle.std.proofs.lemmas.Bool.{cases_Bool}
 use Rattle.std.proofs.lemmas.Int.{ints}
 use Rattle.sqval.specs.Database.{Database}
-use Rattle.sqlite_record.specs.Record.{decode}
 use Rattle.sqkeys.specs.declared.key.IndexKey.{IndexKey}
 use Rattle.sqindex.specs.declared.entries.Held.{Held}
 use Rattle.sqindex.specs.declared.entries.Entries.{Entries}
@@ -16,7 +15,6 @@ use Rattle.sqindex.specs.declared.error.EntryError.{EntryError}
 use Rattle.sqindex.specs.declared.error.IndexError.{IndexError}
 use Rattle.sqindex.specs.declared.error.IndexError.TheVariants as errors
 use Rattle.sqindex.specs.declared.error.ReadError.TheVariants as reads
-use Rattle.sqindex.specs.declared.fault.IndexFault.TheVariants as faults
 use Rattle.sqindex.specs.declared.part.Part.{Part}
 use Rattle.sqindex.specs.declared.span.Span.{Span}
 use Rattle.sqindex.specs.declared.walk.Found.{Found}

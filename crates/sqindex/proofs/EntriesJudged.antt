@@ -1,27 +1,24 @@
 -- Entries that are judged by themselves, and then by rowid.
-use Rattle.std.proofs.Common.{◌≡◌, ◌≢◌, ◌<◌, ◌≤◌, ◌+◌, ⊎_elim, ℕ, zero, suc, Bool, true, false, cond, List, [], ◌∷◌, map, length, get_or, slice_get, Some, ℤ, ◌<ℤ◌, ◌≤ℤ◌, ap₂, refl, sym, ap, ◌∙◌, subst, arith, All, count_by, IsPermutation}
+use Rattle.std.proofs.Common.{◌≡◌, ◌<◌, ◌≤◌, ◌+◌, ℕ, zero, suc, Bool, true, false, cond, List, [], ◌∷◌, map, length, get_or, slice_get, Some, ℤ, ◌<ℤ◌, ◌≤ℤ◌, ap₂, refl, sym, ap, ◌∙◌, subst, arith, All, count_by, IsPermutation}
 use Rattle.std.specs.declared.cmp.Ordering.{Ordering}
 use Rattle.std.specs.declared.cmp.Ordering.TheVariants.{Less, Equal, Greater}
 use Rattle.std.specs.Ordering.{is_lt, int_cmp}
 use Rattle.std.proofs.lemmas.Cmp.{int_ranked}
 use Rattle.std.proofs.lemmas.Int.{ints}
-use Rattle.std.proofs.lemmas.Bool.{cases_lt}
 use Rattle.std.proofs.lemmas.List.Sums.{sum_by-cons}
 use Rattle.std.proofs.lemmas.List.Sorted.{Contains-permutation, IsPermutation-map, IsPermutation-sym, All-permutation, sum_by-IsPermutation}
-use Rattle.std.proofs.lemmas.Option.{slice_get_within, get_or_from_slice_get}
+use Rattle.std.proofs.lemmas.Option.{get_or_from_slice_get}
 use Rattle.sqkeys.specs.declared.key.IndexKey.{IndexKey}
 use Rattle.sqindex.specs.declared.entries.Held.{Held}
 use Rattle.sqindex.specs.declared.entries.Entries.{Entries}
-use Rattle.sqindex.specs.declared.error.IndexError.{IndexError}
-use Rattle.sqindex.specs.declared.error.IndexError.TheVariants as errors
 use Rattle.sqindex.specs.declared.fault.IndexFault.TheVariants as faults
 use Rattle.sqindex.specs.Stored.{Stored}
 use Rattle.sqindex.specs.Keys.{values_of, has_rowid, IsKeyed}
 use Rattle.sqindex.specs.Rules.{width}
 use Rattle.sqindex.specs.Indexes.{EntryRefused}
-use Rattle.sqindex.specs.internal.Held.{nothing, held_in, entry_in, held_by}
+use Rattle.sqindex.specs.internal.Held.{held_in, entry_in, held_by}
 use Rattle.sqindex.specs.internal.Judging.{IsTie, IsNumbered}
-use Rattle.sqindex.proofs.Places.{some_once, of_all, all_of, map_get, get_map, contained, place_of}
+use Rattle.sqindex.proofs.Places.{some_once, of_all, map_get, contained, place_of}
 use Rattle.sqindex.proofs.RowidsOfEntries.{has_own}
 
 -- what is said of entries when they are sorted

@@ -1,23 +1,67 @@
 -- The entries of an index, judged one after another.
-use Rattle.std.proofs.Common.{◌≡◌, ◌≤◌, ◌+◌, ◌∙◌, ⊎_elim, inl, inr, ◌⊎◌, ℕ, Bool, true, false, cond, List, [], ◌∷◌, ◌++◌, length, slice_get, Option, Some, None, is_some, ℤ, refl, sym, ap, subst, arith, count_by}
+use Rattle.std.proofs.Common.{◌≡◌, ◌<◌, ◌≤◌, ◌+◌, zero, suc, take, ◌∙◌, ⊎_elim, inl, inr, ℕ, Bool, true, false, cond, List, [], ◌∷◌, ◌++◌, length, slice_get, Option, Some, None, is_some, ℤ, refl, sym, ap, subst, arith, count_by}
 use Rattle.std.proofs.lemmas.List.Elements.{All-push}
 use Rattle.std.proofs.lemmas.List.Sums.{sum_by-append}
 use Rattle.std.proofs.lemmas.Option.{slice_get_within}
 use Rattle.sqlite_record.specs.Record.{decode}
+use Rattle.std.specs.Ordering.{ordering_then}
 use Rattle.std.specs.declared.cmp.Ordering.TheVariants.{Less}
-use Rattle.sqlite_value.specs.Keys.{entry_cmp}
+use Rattle.sqlite_value.specs.declared.keys.Order.{Order}
+use Rattle.sqlite_value.specs.declared.value.Value.TheVariants.{Int}
+use Rattle.sqlite_value.specs.Keys.{by_key, first_key, later, entry_cmp, prefix_cmp}
+use Rattle.sqlite_value.specs.Order.{Row}
 use Rattle.sqkeys.specs.declared.key.IndexKey.{IndexKey}
 use Rattle.sqindex.specs.declared.error.EntryError.{EntryError}
 use Rattle.sqindex.specs.declared.fault.IndexFault.{IndexFault}
 use Rattle.sqindex.specs.declared.fault.IndexFault.TheVariants as faults
+use Rattle.sqindex.specs.declared.last.Last.{Last}
 use Rattle.sqindex.specs.Stored.{Stored}
 use Rattle.sqindex.specs.Keys.{values_of, has_rowid, IsKeyed}
 use Rattle.sqindex.specs.Rules.{width, IsSameKey}
 use Rattle.sqindex.specs.Indexes.{EntryRefused}
 use Rattle.sqindex.specs.internal.Judging.{IsBehind, NotBehind, AreSoundEntries}
 use Rattle.sqindex.specs.internal.KeyedScanning.{IsBefore}
-use Rattle.sqindex.specs.internal.Streaming.{IsNext, MayStand, MayNotStand, IsStream}
-use Rattle.sqindex.proofs.Places.{at_once, get_left, get_here, get_push}
+use Rattle.sqindex.specs.internal.Streaming.{before_of, IsNext, MayStand, MayNotStand, IsStream}
+use Rattle.sqindex.proofs.Places.{at_once, some_once, get_left, get_here, get_push}
+
+-- rows whose first columns rise
+less_first : (o : Order) (a b : Row) (m n : ℤ) → slice_get a 0 ≡ Some (Int m) → slice_get b 0 ≡ Some (Int n) → by_key (first_key o) (Int m) (Int n) ≡ Less → entry_cmp o a b ≡ Less
+less_first o [] b m n front next less = absurd (cc)
+less_first o (x ∷ a) [] m n front next less = absurd (cc)
+less_first o (x ∷ a) (y ∷ b) m n front next less =
+    let e : by_key (first_key o) x y ≡ Less = ap (λ v. by_key (first_key o) v y) (some_once x (Int m) front) ∙ ap (by_key (first_key o) (Int m)) (some_once y (Int n) next) ∙ less in
+    ap (λ z. ordering_then z (entry_cmp (later o) a b)) e
+
+less_prefix : (o : Order) (a b : Row) (m n : ℤ) (k : ℕ) → 0 < k → slice_get a 0 ≡ Some (Int m) → slice_get b 0 ≡ Some (Int n) → by_key (first_key o) (Int m) (Int n) ≡ Less → prefix_cmp o a (take k b) ≡ Less
+less_prefix o a b m n zero some front next less = absurd (omega (arith, some))
+less_prefix o [] b m n (suc k) some front next less = absurd (cc)
+less_prefix o (x ∷ a) [] m n (suc k) some front next less = absurd (cc)
+less_prefix o (x ∷ a) (y ∷ b) m n (suc k) some front next less =
+    let e : by_key (first_key o) x y ≡ Less = ap (λ v. by_key (first_key o) v y) (some_once x (Int m) front) ∙ ap (by_key (first_key o) (Int m)) (some_once y (Int n) next) ∙ less in
+    ap (λ z. ordering_then z (prefix_cmp (later o) a (take k b))) e
+
+pub behind_by_first : (key : IndexKey) (a b : Row) (m n : ℤ) → 0 < width key → slice_get a 0 ≡ Some (Int m) → slice_get b 0 ≡ Some (Int n) → by_key (first_key key.order) (Int m) (Int n) ≡ Less → IsBehind key a b
+behind_by_first key a b m n some front next less = record {
+  behind = less_first key.order a b m n front next less;
+  apart = λ unique same. let e = less_prefix key.order a b m n (width key) some front next less in let h = sym e ∙ same.0 in cc;
+}
+
+-- the entry that came last, as it is held
+pub none_before : (last : Last) → last.some ≡ false → IsBefore [] (before_of last)
+none_before last none = subst (λ (b : Bool). IsBefore [] (cond b (Some last.bytes.items) None)) (sym none) refl
+
+pub held_before : (xs : List Stored) (last : Last) (bytes : List ℕ) → last.some ≡ true → last.bytes.items ≡ bytes → IsBefore xs (Some bytes) → IsBefore xs (before_of last)
+held_before xs last bytes some is h =
+    subst (λ (b : Bool). IsBefore xs (cond b (Some last.bytes.items) None)) (sym some) (subst (λ (z : List ℕ). IsBefore xs (Some z)) (sym is) h)
+
+pub next_of_none : (key : IndexKey) (last : Last) (entry : List ℕ) → last.some ≡ false → IsNext key (before_of last) entry
+next_of_none key last entry none = subst (λ (b : Bool). IsNext key (cond b (Some last.bytes.items) None) entry) (sym none) tt
+
+pub next_of_some : (key : IndexKey) (last : Last) (entry : List ℕ) → last.some ≡ true → IsBehind key (decode last.bytes.items) (decode entry) → IsNext key (before_of last) entry
+next_of_some key last entry some h = subst (λ (b : Bool). IsNext key (cond b (Some last.bytes.items) None) entry) (sym some) h
+
+pub not_next : (key : IndexKey) (last : Last) (entry : List ℕ) (fault : IndexFault) → last.some ≡ true → NotBehind key (decode last.bytes.items) (decode entry) fault → MayNotStand key (before_of last) entry fault
+not_next key last entry fault some h = inr (last.bytes.items, subst (λ (b : Bool). cond b (Some last.bytes.items) None ≡ Some last.bytes.items) (sym some) refl, h)
 
 module _ (key : IndexKey) where
   pub none_streamed : IsStream key [] None

@@ -1,14 +1,12 @@
 -- What is found of an index as a whole.
-use Rattle.std.proofs.Common.{◌≡◌, ℕ, List, slice_get, Some, refl, sym, subst}
+use Rattle.std.proofs.Common.{◌≡◌, ℕ, List, slice_get, Some}
 use Rattle.sqval.specs.Database.{Database}
 use Rattle.sqkeys.specs.declared.key.IndexKey.{IndexKey}
 use Rattle.sqindex.specs.declared.fault.IndexFault.{IndexFault}
 use Rattle.sqindex.specs.declared.fault.IndexFault.TheVariants as faults
-use Rattle.sqindex.specs.declared.error.IndexError.{IndexError}
-use Rattle.sqindex.specs.declared.error.IndexError.TheVariants as errors
 use Rattle.sqindex.specs.Stored.{Stored}
 use Rattle.sqindex.specs.Rules.{HasKeyedRows, HasEntries}
-use Rattle.sqindex.specs.Indexes.{EntryRefused, StandsInIndex, ReadRefused, NoEntries, IndexRefused}
+use Rattle.sqindex.specs.Indexes.{EntryRefused, StandsInIndex}
 use Rattle.sqindex.specs.internal.Joining.{BothRefused}
 
 module _ (d : Database) (table index : ℕ) (key : IndexKey) (limit : ℕ) where

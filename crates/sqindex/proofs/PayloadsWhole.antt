@@ -1,5 +1,5 @@
 -- A payload that lies whole in its cell.
-use Rattle.std.proofs.Common.{◌≡◌, ◌+◌, ◌-◌, ◌/◌, ◌<◌, ◌≤◌, ◌∙◌, ℕ, List, [], ◌++◌, length, take, refl, sym, ap, arith, append-nil}
+use Rattle.std.proofs.Common.{◌≡◌, ◌+◌, ◌-◌, ◌<◌, ◌≤◌, ◌∙◌, ℕ, List, [], ◌++◌, length, take, refl, sym, ap, arith, append-nil}
 use Rattle.std.proofs.lemmas.List.{take_all}
 use Rattle.sqval.specs.Database.{Database}
 use Rattle.sqpage.specs.declared.cell.Cell.{Cell}

@@ -11,7 +11,6 @@ use Rattle.sqindex.specs.declared.error.IndexError.TheVariants as errors
 use Rattle.sqindex.specs.declared.join.Join.{Join}
 use Rattle.sqindex.specs.declared.part.Part.{Part}
 use Rattle.sqindex.specs.declared.rows.Rows.{Rows}
-use Rattle.sqindex.specs.declared.span.Span.{Span}
 use Rattle.sqindex.specs.Stored.{Stored}
 use Rattle.sqindex.specs.Keys.{rowid_of}
 use Rattle.sqindex.specs.Rules.{Rise, HasKeyedRows, HasEntries, Match, IsIndexOf}
@@ -23,7 +22,7 @@ use Rattle.sqindex.specs.internal.Matching.{SeesIn, HasRowsInOrder, IsMatchedTo,
 use Rattle.sqindex.specs.internal.RowsGiven.{IsCursor, AreUpTo, IsReadTo}
 use Rattle.sqindex.specs.internal.Parts.{PartRefused}
 use Rattle.sqindex.specs.internal.Spans.{up_to, passed, in_span, rows_in, entries_in, AreOfSpan, IsOpen}
-use Rattle.sqindex.specs.internal.Streaming.{StandsAmong, StreamRefused}
+use Rattle.sqindex.specs.internal.Streaming.{StreamRefused}
 use Rattle.sqindex.proofs.IndexesJudged.{stands, both}
 use Rattle.sqindex.proofs.ListsKept.{at_true, at_false, none_kept}
 use Rattle.sqindex.proofs.RowsInSpans.{rise_filter, rows_up, entries_up, nothing_matched, matched_more, matched_all, matched_next, fault_of_all}

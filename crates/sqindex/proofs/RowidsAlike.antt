@@ -56,3 +56,11 @@ column_next o columns i c rowid row v old new at is even =
     let rest = entry_for (drop (i + 1) columns) rowid row in
     let own : entry_for (drop i columns) rowid row ≡ value_at c rowid row ∷ rest = ap (λ cs. entry_for cs rowid row) front in
     ap (λ z. ordering_then z (entry_cmp (later o) rest new)) even ∙ sym (ap (λ e. entry_cmp o e old) own ∙ ap (entry_cmp o (value_at c rowid row ∷ rest)) is)
+
+-- an entry whose only column is an integer that is a row's
+pub alike_in_one : (o : Order) (columns : List KeyColumn) (rowid first : ℤ) (row entry : Row) → length columns ≡ 1 → IsKeyed (length columns) rowid entry → slice_get entry 0 ≡ Some (Int first)
+    → ((c : KeyColumn) → slice_get columns 0 ≡ Some c → by_key (first_key o) (value_at c rowid row) (Int first) ≡ Equal) → entry_cmp o (entry_for columns rowid row) entry ≡ Equal
+alike_in_one o [] rowid first row entry many keyed led even = absurd (omega (arith, many))
+alike_in_one o (c ∷ cs) rowid first row entry many keyed led even =
+    sym (column_next o (c ∷ cs) 0 c rowid row (Int first) entry (drop 1 entry) refl (front_at entry 0 (Int first) led) (sym (even c refl)))
+    ∙ rowids_alike (later o) (c ∷ cs) 1 row entry (drop 1 entry) rowid (sym many) keyed refl

@@ -1,8 +1,7 @@
 -- The rows of a table that a cursor has given.
-use Rattle.std.proofs.Common.{◌≡◌, ◌+◌, ◌∙◌, ℕ, zero, suc, true, false, ℤ, ◌<ℤ◌, int_le, List, [], ◌∷◌, ◌++◌, length, slice_get, Option, Some, None, refl, sym, ap, subst, arith, append-nil, append_assoc}
+use Rattle.std.proofs.Common.{◌≡◌, ◌+◌, ◌∙◌, ℕ, zero, suc, true, false, ℤ, ◌<ℤ◌, int_le, List, [], ◌∷◌, ◌++◌, length, slice_get, Option, Some, None, refl, sym, subst, arith, append-nil, append_assoc}
 use Rattle.std.proofs.lemmas.Int.{ints}
 use Rattle.sqval.specs.Database.{Database}
-use Rattle.sqval.specs.Record.{most_bytes}
 use Rattle.sqrows.specs.Cursor.{IsOver}
 use Rattle.sqrows.specs.declared.cells.Cells.{Cells}
 use Rattle.sqindex.specs.declared.rows.Ahead.{Ahead}

@@ -1,12 +1,11 @@
 -- Rows and entries in ranges of rowids.
-use Rattle.std.proofs.Common.{◌≡◌, ◌+◌, ◌∙◌, ⊎_elim, ℕ, zero, suc, Bool, true, false, not, ◌&&◌, List, [], ◌∷◌, ◌++◌, slice_get, Option, Some, None, ℤ, ◌<ℤ◌, int_le, refl, sym, ap, subst, arith, IsPermutation, Contains}
+use Rattle.std.proofs.Common.{◌≡◌, ◌+◌, ◌∙◌, ⊎_elim, ℕ, zero, suc, Bool, true, false, not, ◌&&◌, List, [], ◌∷◌, ◌++◌, slice_get, Option, Some, None, ℤ, ◌<ℤ◌, int_le, refl, sym, ap, subst, arith, IsPermutation}
 use Rattle.std.specs.List.{AllZip, filter}
 use Rattle.std.proofs.lemmas.Int.{ints}
 use Rattle.std.proofs.lemmas.Bool.{cases_Bool}
 use Rattle.std.proofs.lemmas.Option.{get_or_from_slice_get}
 use Rattle.std.proofs.lemmas.List.Sorted.{IsPermutation-refl, IsPermutation-sym, IsPermutation-trans, IsPermutation-cons, IsPermutation-middle, IsPermutation-append, Contains-permutation}
 use Rattle.sqlite_value.specs.declared.value.Value.TheVariants.{Null, Int}
-use Rattle.sqlite_value.specs.Order.{Row}
 use Rattle.sqkeys.specs.declared.key.IndexKey.{IndexKey}
 use Rattle.sqindex.specs.declared.fault.IndexFault.{IndexFault}
 use Rattle.sqindex.specs.declared.fault.IndexFault.TheVariants as faults

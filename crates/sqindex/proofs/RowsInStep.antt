@@ -1,7 +1,7 @@
 -- The rows of a table and the entries of its index, as long as both go in step.
 use Rattle.std.proofs.Common.{◌≡◌, ◌≤◌, ◌<◌, ◌+◌, ◌∙◌, ⊎_elim, ℕ, Bool, true, false, not, ◌&&◌, List, [], ◌∷◌, ◌++◌, length, slice_get, Option, Some, None, ℤ, int_le, refl, sym, ap, subst, arith, append-nil, append_assoc, length-append}
 use Rattle.std.specs.List.{filter}
-use Rattle.std.specs.Prelude.{Result, Ok, Err, MatchResult}
+use Rattle.std.specs.Prelude.{Result, Ok, Err}
 use Rattle.std.specs.declared.cmp.Ordering.TheVariants.{Equal}
 use Rattle.std.proofs.lemmas.Int.{ints}
 use Rattle.std.proofs.lemmas.Bool.{cases_lt}
@@ -23,14 +23,12 @@ use Rattle.sqindex.specs.declared.walk.Found.{Found}
 use Rattle.sqindex.specs.Stored.{Stored}
 use Rattle.sqindex.specs.Keys.{entry_for, values_of, rowid_of, IsEntryOf, IsKeyed}
 use Rattle.sqindex.specs.Rules.{width, Rise, HasKeyedRows, HasEntries, Match}
-use Rattle.sqindex.specs.Indexes.{IndexRefused}
 use Rattle.sqindex.specs.internal.Held.{held_by, plain}
 use Rattle.sqindex.specs.internal.Joining.{IsLast}
 use Rattle.sqindex.specs.internal.Matching.{AreMatchedTo, IsFirstPart, AreFirstRows}
-use Rattle.sqindex.specs.internal.Parts.{Gathers, IsPart}
 use Rattle.sqindex.specs.internal.Reading.{stored_of}
 use Rattle.sqindex.specs.internal.RowsGiven.{AreGiven, IsCursor, IsReadTo}
-use Rattle.sqindex.specs.internal.Spans.{number_in, up_to, passed, in_span, rows_to, entries_to, AreOfSpan, IsOpen}
+use Rattle.sqindex.specs.internal.Spans.{number_in, up_to, passed, in_span, rows_to, entries_to}
 use Rattle.sqindex.specs.internal.Stepping.{AreInStep, AreInRange, IsStartOf, StepsOn, HoldsOn}
 use Rattle.sqindex.proofs.CellsTaken.{has_once, taken_first}
 use Rattle.sqindex.proofs.EntriesInSpans.{none_gathered}

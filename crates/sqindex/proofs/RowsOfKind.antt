@@ -1,5 +1,5 @@
 -- The rows of a table of a kind, read one after another.
-use Rattle.std.proofs.Common.{◌≡◌, ℕ, Bool, List, [], ◌∷◌, ◌++◌, Some, None, is_none, sym, subst, arith, All, Contains}
+use Rattle.std.proofs.Common.{◌≡◌, ℕ, Bool, List, [], ◌∷◌, ◌++◌, Some, None, is_none, sym, subst, arith, Contains}
 use Rattle.std.proofs.lemmas.List.Elements.{All-push, All-contains}
 use Rattle.sqval.specs.Database.{Database}
 use Rattle.sqrows.specs.declared.cells.Cells.{Cells}

@@ -2,6 +2,7 @@
 pub mod Reading
 pub mod Bodies
 pub mod Held
+pub mod Ends
 pub mod Judging
 pub mod Joining
 pub mod Scanning

@@ -1,5 +1,5 @@
 //! The values of records in place (fileformat2, 2.1).
-ghost use Rattle.std.specs.Prelude.{◌≡◌, ◌≢◌, ◌↔◌, ℤ, take, IsTrue, MatchOption, option_map, slice_get};
+ghost use Rattle.std.specs.Prelude.{◌≡◌, ◌≢◌, ◌↔◌, ◌<◌, ◌⊎◌, ℤ, take, IsTrue, MatchOption, option_map, slice_get, Some};
 ghost use Rattle.std.specs.declared.cmp.Ordering.TheVariants.{Equal};
 ghost use Rattle.sqlite_record.specs.Record.{decode};
 ghost use Rattle.sqlite_value.specs.Value.{owned};
@@ -7,6 +7,7 @@ ghost use Rattle.sqlite_value.specs.declared.value.Value.TheVariants.{Null, Int}
 ghost use Rattle.sqlite_value.specs.Keys.{prefix_cmp};
 ghost use Rattle.sqindex.specs.Keys.{value_at, IsKeyed};
 ghost use Rattle.sqindex.specs.Rules.{HasNull, IsSameKey};
+ghost use Rattle.sqindex.specs.internal.Ends.{HasEnds};
 
 use sqkeys::KeyColumn;
 use sqlite_record::fields::Fields;
@@ -66,17 +67,34 @@ fn integer(value: ValueRef<'_>) -> Option<i64>
     }
 }
 
-/// The rowid of an entry behind so many columns. None where it hasn't just these and an integer.
+/// What an entry begins and ends with: its first column, where that is an integer, and its rowid.
+#[derive(Clone, Copy, Debug)]
+pub(crate) struct Ends {
+    pub(crate) first: Option<i64>,
+    pub(crate) rowid: i64,
+}
+
+/// The integer that the first column is: of this value in column 0, and otherwise as it was.
 #[inline(always)]
-pub(crate) fn rowid_in(entry: &[u8], columns: usize) -> Option<i64>
+fn first_in(i: usize, value: ValueRef<'_>, first: Option<i64>) -> Option<i64>
+    ensures { (n : ℤ) → result ≡ Some n → ((i ≡ 0) × (owned value.entry ≡ Int n)) ⊎ ((0 < i) × (first ≡ Some n)) }
+{
+    if i == 0 { integer(value) } else { first }
+}
+
+/// The ends of an entry of so many columns. None where it hasn't just these and an integer.
+#[inline(always)]
+pub(crate) fn ends_in(entry: &[u8], columns: usize) -> Option<Ends>
     ensures { MatchOption result ((rowid : ℤ) → ¬ IsKeyed columns rowid (decode entry.now))
-        (λ rowid. IsKeyed columns rowid (decode entry.now)) }
+        (HasEnds columns (decode entry.now)) }
 {
     let mut fields = Fields::new(entry);
+    let mut first = None;
     'fields: for i in 0..columns {
-        let Some(_) = fields.next() else {
+        let Some(value) = fields.next() else {
             return None;
         };
+        first = first_in(i, value, first);
     }
     let Some(last) = fields.next() else {
         return None;
@@ -84,7 +102,10 @@ pub(crate) fn rowid_in(entry: &[u8], columns: usize) -> Option<i64>
     if fields.next().is_some() {
         return None;
     }
-    integer(last)
+    match integer(last) {
+        Some(rowid) => Some(Ends { first, rowid }),
+        None => None,
+    }
 }
 
 /// Whether a value is NULL.

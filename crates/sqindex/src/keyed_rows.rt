@@ -96,14 +96,14 @@ fn see(key: &RowKey, scan: Scan, before: Option<&[u8]>, found: Found, row: &[u8]
 }
 
 /// What was held of a row, where one was.
-pub(crate) fn held(some: bool, bytes: &[u8]) -> Option<&[u8]>
+fn held(some: bool, bytes: &[u8]) -> Option<&[u8]>
     ensures { option_map (λ b. b.now) result ≡ (if some then Some bytes.now else None) }
 {
     if some { Some(bytes) } else { None }
 }
 
 /// Holds the payload that a walk came to.
-pub(crate) fn keep(before: &mut Vec<u8>, walk: &mut Walk)
+fn keep(before: &mut Vec<u8>, walk: &mut Walk)
     ensures held { before.new.items ≡ walk.old.payload.items }
     ensures same { (walk.new.cells ≡ walk.old.cells) × (walk.new.limit ≡ walk.old.limit) }
 {

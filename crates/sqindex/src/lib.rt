@@ -12,6 +12,7 @@ mod join;
 mod judge;
 mod judge_by;
 mod keyed_rows;
+mod last;
 mod marks;
 mod number;
 mod order;

@@ -13,7 +13,7 @@ ghost use Rattle.sqindex.specs.declared.error.ReadError.TheVariants.{NoMemory};
 use crate::entries::{Entries, HELD};
 use crate::error::{EntryError, IndexError, ReadError};
 use crate::fault::IndexFault;
-use crate::fields::rowid_in;
+use crate::fields::ends_in;
 use crate::order::sort_entries;
 use crate::room::Room;
 use crate::span::Span;
@@ -110,8 +110,8 @@ fn rowid_of(key: &IndexKey, found: Found, entry: &[u8]) -> Result<i64, IndexErro
     if found.rowid.is_some() {
         return Err(IndexError::Index(ReadError::OtherKind));
     }
-    match rowid_in(entry, key.columns.len()) {
-        Some(rowid) => Ok(rowid),
+    match ends_in(entry, key.columns.len()) {
+        Some(ends) => Ok(ends.rowid),
         None => Err(IndexError::Entry(EntryError {
             fault: IndexFault::EntryForm,
             page: found.page,

@@ -1,15 +1,18 @@
 //! The rules on the entries of an index alone, one after another (fileformat2, 2.4).
-ghost use Rattle.std.specs.Prelude.{◌≡◌, ◌++◌, ◌∷◌, [], ℕ, List, IfOk, IfErr, OnOk, IsTrue, option_map};
-ghost use Rattle.std.specs.declared.cmp.Ordering.TheVariants.{Equal};
+ghost use Rattle.std.specs.Prelude.{◌≡◌, ◌++◌, ◌∷◌, [], ℕ, ℤ, List, IfOk, IfErr, OnOk, IsTrue, Some};
+ghost use Rattle.std.specs.declared.cmp.Ordering.TheVariants.{Less, Equal};
 ghost use Rattle.sqlite_record.specs.Record.{decode};
-ghost use Rattle.sqlite_value.specs.Keys.{entry_cmp};
+ghost use Rattle.sqlite_value.specs.declared.value.Value.TheVariants.{Int};
+ghost use Rattle.sqlite_value.specs.Keys.{by_key, entry_cmp, first_key};
 ghost use Rattle.sqpage.specs.Source.{KeepsPages};
-ghost use Rattle.sqindex.specs.Keys.{entry_for, rowid_of, IsKeyed};
+ghost use Rattle.sqindex.specs.Keys.{entry_for, rowid_of};
 ghost use Rattle.sqindex.specs.Rules.{width};
 ghost use Rattle.sqindex.specs.Stored.{Stored};
+ghost use Rattle.sqindex.specs.declared.fields.Ends.{Ends as SpecEnds};
 ghost use Rattle.sqindex.specs.internal.KeyedScanning.{IsBefore};
 ghost use Rattle.sqindex.specs.internal.Reading.{stored_of};
-ghost use Rattle.sqindex.specs.internal.Streaming.{HasRowid, MayStand, MayNotStand, IsStream, StreamEnds};
+ghost use Rattle.sqindex.specs.internal.Ends.{HasEnds};
+ghost use Rattle.sqindex.specs.internal.Streaming.{IsEnded, before_of, MayStand, MayNotStand, IsStream, StreamEnds};
 ghost use Rattle.sqindex.specs.internal.Streaming.{StreamRefused};
 ghost use Rattle.sqindex.specs.internal.Stepping.{StepsOn, HoldsOn, IsStartOf, StartsIndex};
 ghost use Rattle.sqindex.specs.internal.RowsGiven.{IsCursor};
@@ -19,8 +22,8 @@ use crate::compare::has_columns;
 use crate::entries::Entries;
 use crate::error::{EntryError, IndexError, ReadError};
 use crate::fault::IndexFault;
-use crate::fields::rowid_in;
-use crate::keyed_rows::{held, keep};
+use crate::fields::{Ends, ends_in};
+use crate::last::Last;
 use crate::order::judge_next;
 use crate::part::{Part, gather};
 use crate::room::Room;
@@ -28,8 +31,11 @@ use crate::rows::Rows;
 use crate::span::{Span, is_passed};
 use crate::walk::{Found, Walk};
 use sqkeys::IndexKey;
+use sqlite_value::keys::Order;
+use sqlite_value::value::ValueRef;
 use sqpage::PageSource;
 use std::alloc::Global;
+use std::cmp::Ordering;
 
 /// What is known of the entries of an index so far beside the rows of its table.
 #[derive(Clone, Copy, Debug)]
@@ -54,44 +60,64 @@ pub(crate) struct Start {
     pub(crate) room: Room,
 }
 
-/// Judges an entry that has this rowid beside the one before it, where there is one. Refused by EntryForm where it has
-/// none, EntryOrder and KeyTwice.
+/// Whether two first columns are integers, and the second comes behind the first.
+#[inline(always)]
+fn rises(order: Order, before: Option<i64>, next: Option<i64>) -> bool
+    ensures { IsTrue result → (m : ℤ) × (n : ℤ) × (before ≡ Some m) × (next ≡ Some n)
+        × (by_key (first_key order) (Int m) (Int n) ≡ Less) }
+{
+    let Some(low) = before else {
+        return false;
+    };
+    let Some(high) = next else {
+        return false;
+    };
+    order.compare_first(ValueRef::Int(low), ValueRef::Int(high)) == Ordering::Less
+}
+
+/// Judges an entry that has these ends beside the one before it, where there is one. Refused by EntryForm where it has
+/// none, EntryOrder and KeyTwice. Where the first columns are integers that rise nothing else is read.
+#[inline(always)]
 fn judge_beside(
     key: &IndexKey,
-    before: Option<&[u8]>,
-    rowid: Option<i64>,
+    last: &Last,
+    ends: Option<Ends>,
     entry: &[u8],
 ) -> Result<(), IndexFault>
-    requires { HasRowid key.now entry.now rowid }
-    ensures ok { OnOk result (MayStand key.now (option_map (λ b. b.now) before.entry) entry.now) }
-    ensures err { IfErr result (MayNotStand key.now (option_map (λ b. b.now) before.entry) entry.now) }
+    requires { IsEnded key.now entry.now ends }
+    ensures ok { OnOk result (MayStand key.now (before_of last.now) entry.now) }
+    ensures err { IfErr result (MayNotStand key.now (before_of last.now) entry.now) }
 {
-    match rowid {
-        None => Err(IndexFault::EntryForm),
-        Some(_) => match before {
-            Some(before) => judge_next(key, before, entry),
-            None => Ok(()),
-        },
+    let Some(ends) = ends else {
+        return Err(IndexFault::EntryForm);
+    };
+    if !last.some {
+        return Ok(());
     }
+    if rises(key.order, last.first, ends.first) {
+        return Ok(());
+    }
+    judge_next(key, &last.bytes, entry)
 }
 
 /// Goes on by one entry, unless a fault was found before.
+#[inline(always)]
 fn see(
     key: &IndexKey,
     fault: Option<EntryError>,
-    before: Option<&[u8]>,
+    last: &Last,
     found: Found,
-    rowid: Option<i64>,
+    ends: Option<Ends>,
     entry: &[u8],
 ) -> Option<EntryError>
-    requires { HasRowid key.now entry.now rowid }
-    ensures { (xs : List Stored) → IsBefore xs (option_map (λ b. b.now) before.entry)
+    requires { IsEnded key.now entry.now ends }
+    ensures { (xs : List Stored) → IsBefore xs (before_of last.now)
         → IsStream key.now xs fault → IsStream key.now (xs ++ stored_of found entry.now ∷ []) result }
 {
     if fault.is_some() {
         return fault;
     }
-    match judge_beside(key, before, rowid, entry) {
+    match judge_beside(key, last, ends, entry) {
         Ok(()) => None,
         Err(fault) => Some(EntryError {
             fault,
@@ -101,31 +127,31 @@ fn see(
     }
 }
 
-/// Whether an entry that has this rowid is that of a row.
+/// Whether an entry that has these ends is that of a row.
 #[inline(always)]
-fn is_of(key: &IndexKey, found: Found, row: &[u8], rowid: i64, entry: &[u8]) -> bool
-    requires keyed { IsKeyed (width key.now) rowid (decode entry.now) }
-    ensures { IsTrue result → (rowid_of (stored_of found row.now) ≡ rowid) × (entry_cmp key.now.order
-        (entry_for key.now.columns.items rowid (decode row.now)) (decode entry.now) ≡ Equal) }
+fn is_of(key: &IndexKey, found: Found, row: &[u8], ends: Ends, entry: &[u8]) -> bool
+    requires keyed { HasEnds (width key.now) (decode entry.now) ends }
+    ensures { IsTrue result → (rowid_of (stored_of found row.now) ≡ ends.rowid) × (entry_cmp key.now.order
+        (entry_for key.now.columns.items ends.rowid (decode row.now)) (decode entry.now) ≡ Equal) }
 {
-    found.rowid == Some(rowid) && has_columns(key, rowid, row, entry)
+    found.rowid == Some(ends.rowid) && has_columns(key, ends, row, entry)
 }
 
-/// Goes on by one row, where it is the one of an entry that has this rowid. InRange where it isn't, and the row is left
+/// Goes on by one row, where it is the one of an entry that has these ends. InRange where it isn't, and the row is left
 /// for later; Lost where no row can be read.
 #[inline(always)]
 fn step<S: PageSource>(
     source: &mut S,
     key: &IndexKey,
     rows: &mut Rows,
-    rowid: i64,
+    ends: Ends,
     entry: &[u8],
 ) -> Stage
     requires sized { S.size source.old ≡ rows.old.walk.cells.size }
-    requires keyed { IsKeyed (width key.now) rowid (decode entry.now) }
+    requires keyed { HasEnds (width key.now) (decode entry.now) ends }
     ensures goes { S.gives_pages source.old → (table : ℕ) (given : List Stored)
         → IsCursor (S.pages source.old) table rows.old given
-        → StepsOn (S.pages source.old) table key.now rowid entry.now given rows.new result }
+        → StepsOn (S.pages source.old) table key.now ends.rowid entry.now given rows.new result }
     ensures size { rows.new.walk.cells.size ≡ rows.old.walk.cells.size }
     ensures keeps { KeepsPages S.pages S.size S.reads_right S.gives_pages source.old source.new }
 {
@@ -134,7 +160,7 @@ fn step<S: PageSource>(
         Ok(None) => return Stage::InRange,
         Err(_) => return Stage::Lost,
     };
-    if !is_of(key, found, &rows.walk.payload, rowid, entry) {
+    if !is_of(key, found, &rows.walk.payload, ends, entry) {
         return Stage::InRange;
     }
     rows.pass();
@@ -155,18 +181,18 @@ fn hold(alloc: Global, part: &mut Part, found: Found, rowid: i64, entry: &[u8], 
     }
 }
 
-/// Goes on with an entry that has this rowid.
+/// Goes on with an entry that has these ends.
 #[inline(always)]
 fn go_on<S: PageSource>(
     source: &mut S,
     key: &IndexKey,
     start: &mut Start,
     found: Found,
-    rowid: i64,
+    ends: Ends,
     entry: &[u8],
 ) -> Stage
     requires sized { S.size source.old ≡ start.old.rows.walk.cells.size }
-    requires keyed { IsKeyed (width key.now) rowid (decode entry.now) }
+    requires keyed { HasEnds (width key.now) (decode entry.now) ends }
     ensures starts { S.gives_pages source.old → (table : ℕ) (xs : List Stored)
         → IsStartOf (S.pages source.old) table key.now start.old.stage start.old.part start.old.rows xs
         → IsStartOf (S.pages source.old) table key.now result start.new.part start.new.rows
@@ -179,30 +205,30 @@ fn go_on<S: PageSource>(
     let held = start.room.held;
     match start.stage {
         Stage::Lost => Stage::Lost,
-        Stage::InRange => hold(alloc, &mut start.part, found, rowid, entry, held),
-        Stage::InStep => match step(source, key, &mut start.rows, rowid, entry) {
+        Stage::InRange => hold(alloc, &mut start.part, found, ends.rowid, entry, held),
+        Stage::InStep => match step(source, key, &mut start.rows, ends, entry) {
             Stage::Lost => Stage::Lost,
-            Stage::InRange => hold(alloc, &mut start.part, found, rowid, entry, held),
+            Stage::InRange => hold(alloc, &mut start.part, found, ends.rowid, entry, held),
             Stage::InStep => {
-                start.part.span = Span::behind(rowid);
+                start.part.span = Span::behind(ends.rowid);
                 Stage::InStep
             }
         },
     }
 }
 
-/// Goes on with an entry that has this rowid, or none.
+/// Goes on with an entry that has these ends, or none.
 #[inline(always)]
 fn take<S: PageSource>(
     source: &mut S,
     key: &IndexKey,
     start: &mut Start,
     found: Found,
-    rowid: Option<i64>,
+    ends: Option<Ends>,
     entry: &[u8],
 )
     requires sized { S.size source.old ≡ start.old.rows.walk.cells.size }
-    requires keyed { HasRowid key.now entry.now rowid }
+    requires keyed { IsEnded key.now entry.now ends }
     ensures starts { S.gives_pages source.old → (table : ℕ) (xs : List Stored)
         → IsStartOf (S.pages source.old) table key.now start.old.stage start.old.part start.old.rows xs
         → IsStartOf (S.pages source.old) table key.now start.new.stage start.new.part start.new.rows
@@ -211,12 +237,23 @@ fn take<S: PageSource>(
     ensures size { start.new.rows.walk.cells.size ≡ start.old.rows.walk.cells.size }
     ensures keeps { KeepsPages S.pages S.size S.reads_right S.gives_pages source.old source.new }
 {
-    let Some(rowid) = rowid else {
+    let Some(ends) = ends else {
         start.stage = Stage::Lost;
         return;
     };
-    let stage = go_on(source, key, start, found, rowid, entry);
+    let stage = go_on(source, key, start, found, ends, entry);
     start.stage = stage;
+}
+
+/// The first column of an entry that has these ends, where it is known to be an integer.
+#[inline(always)]
+fn first_of(ends: Option<Ends>) -> Option<i64>
+    ensures { (n : ℤ) → result ≡ Some n → (e : SpecEnds) × (ends ≡ Some e) × (e.first ≡ Some n) }
+{
+    match ends {
+        Some(ends) => ends.first,
+        None => None,
+    }
 }
 
 /// What is told behind the last entry: the first fault, or how many there are, whose payloads have so many bytes.
@@ -269,8 +306,7 @@ pub(crate) fn order_index<S: PageSource>(
     };
     let mut fault = None;
     let mut bytes: u64 = 0;
-    let mut before = Vec::new(alloc);
-    let mut some = false;
+    let mut last = Last::none(alloc);
     let mut walk = match Walk::new(alloc, source, index, limit) {
         Ok(walk) => walk,
         Err(refusal) => return Err(IndexError::Index(ReadError::Tree(refusal))),
@@ -284,12 +320,11 @@ pub(crate) fn order_index<S: PageSource>(
         if found.rowid.is_some() {
             return Err(IndexError::Index(ReadError::OtherKind));
         }
-        let rowid = rowid_in(&walk.payload, key.columns.len());
-        fault = see(key, fault, held(some, &before), found, rowid, &walk.payload);
-        take(source, key, &mut start, found, rowid, &walk.payload);
+        let ends = ends_in(&walk.payload, key.columns.len());
+        fault = see(key, fault, &last, found, ends, &walk.payload);
+        take(source, key, &mut start, found, ends, &walk.payload);
         bytes = bytes.saturating_add(walk.payload.len() as u64);
-        some = true;
-        keep(&mut before, &mut walk);
+        last = last.moved_to(&mut walk, first_of(ends));
     }
     Err(IndexError::Index(ReadError::NoMemory))
 }

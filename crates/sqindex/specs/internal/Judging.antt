@@ -1,7 +1,7 @@
 -- Words of the functions that judge the entries of an index (own). No public contract cites them.
 use Rattle.std.specs.Prelude.{◌≡◌, ◌≢◌, ◌<◌, ◌≤◌, ◌+◌, ℕ, true, List, length, slice_get, slice_index_or, Some, None, ℤ, ◌<ℤ◌}
 use Rattle.std.specs.List.{All, Contains, count_by}
-use Rattle.std.specs.List.Sorted.{IsPermutation, IsSortedByKey}
+use Rattle.std.specs.List.Sorted.{IsSortedByKey}
 use Rattle.std.specs.Ordering.{int_cmp}
 use Rattle.std.specs.declared.cmp.Ordering.TheVariants.{Less}
 use Rattle.sqval.specs.Database.{Database}
@@ -19,8 +19,8 @@ use Rattle.sqindex.specs.declared.walk.Found.{Found}
 use Rattle.sqindex.specs.Stored.{Stored}
 use Rattle.sqindex.specs.Keys.{values_of, has_rowid, IsKeyed}
 use Rattle.sqindex.specs.Rules.{width, IsSameKey, AreFormed, Ascend, AreApart, HasEntries}
-use Rattle.sqindex.specs.Indexes.{EntryRefused, ReadRefused, NoEntries, cost_of, memory_of}
-use Rattle.sqindex.specs.internal.Held.{nothing, entry_in, held_by}
+use Rattle.sqindex.specs.Indexes.{ReadRefused, NoEntries, cost_of, memory_of}
+use Rattle.sqindex.specs.internal.Held.{nothing, entry_in}
 
 -- Why the entries aren't read.
 abbrev pub EntriesRefused : Database → (index limit longest : ℕ) → IndexError → Type 0

@@ -1,10 +1,9 @@
 -- Words of the functions that read the entries of a range of rowids (own). No public contract cites them.
-use Rattle.std.specs.Prelude.{◌≡◌, ◌≢◌, ◌⊎◌, ℕ, List, [], ◌++◌, ◌∷◌, None, ℤ}
+use Rattle.std.specs.Prelude.{◌≡◌, ◌≢◌, ℕ, List, [], ◌++◌, ◌∷◌, None, ℤ}
 use Rattle.std.specs.List.{All}
 use Rattle.sqval.specs.Database.{Database}
 use Rattle.sqlite_record.specs.Record.{decode}
 use Rattle.sqkeys.specs.declared.key.IndexKey.{IndexKey}
-use Rattle.sqindex.specs.declared.error.EntryError.{EntryError}
 use Rattle.sqindex.specs.declared.error.IndexError.{IndexError}
 use Rattle.sqindex.specs.declared.error.IndexError.TheVariants as errors
 use Rattle.sqindex.specs.declared.error.ReadError.TheVariants.{OtherKind}

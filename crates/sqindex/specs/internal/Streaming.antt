@@ -1,5 +1,5 @@
 -- Words of the function that takes the entries of an index one after another (own). No public contract cites them.
-use Rattle.std.specs.Prelude.{◌≡◌, ◌⊎◌, ℕ, true, List, length, slice_get, Option, Some, None, Result, MatchOption, MatchResult, ℤ}
+use Rattle.std.specs.Prelude.{◌≡◌, ◌⊎◌, ℕ, List, slice_get, Option, Some, None, Result, MatchOption, MatchResult, ℤ, if◌then◌else◌}
 use Rattle.sqval.specs.Database.{Database}
 use Rattle.sqlite_record.specs.Record.{decode}
 use Rattle.sqkeys.specs.declared.key.IndexKey.{IndexKey}
@@ -8,16 +8,23 @@ use Rattle.sqindex.specs.declared.error.IndexError.{IndexError}
 use Rattle.sqindex.specs.declared.error.IndexError.TheVariants as errors
 use Rattle.sqindex.specs.declared.fault.IndexFault.{IndexFault}
 use Rattle.sqindex.specs.declared.fault.IndexFault.TheVariants as faults
+use Rattle.sqindex.specs.declared.fields.Ends.{Ends}
+use Rattle.sqindex.specs.declared.last.Last.{Last}
 use Rattle.sqindex.specs.declared.stream.Start.{Start}
 use Rattle.sqindex.specs.Stored.{Stored}
 use Rattle.sqindex.specs.Keys.{IsKeyed}
 use Rattle.sqindex.specs.Rules.{width, HasEntries}
 use Rattle.sqindex.specs.Indexes.{EntryRefused, ReadRefused, NoEntries}
+use Rattle.sqindex.specs.internal.Ends.{HasEnds}
 use Rattle.sqindex.specs.internal.Judging.{IsBehind, NotBehind, AreSoundEntries}
 
--- It is keyed by this rowid, or by none.
-abbrev pub HasRowid : IndexKey → (entry : List ℕ) → (rowid : Option ℤ) → Type 0
-HasRowid key entry rowid = MatchOption rowid ((r : ℤ) → ¬ IsKeyed (width key) r (decode entry)) (λ r. IsKeyed (width key) r (decode entry))
+-- It has these ends, or isn't keyed by a rowid.
+abbrev pub IsEnded : IndexKey → (entry : List ℕ) → (ends : Option Ends) → Type 0
+IsEnded key entry ends = MatchOption ends ((r : ℤ) → ¬ IsKeyed (width key) r (decode entry)) (HasEnds (width key) (decode entry))
+
+-- the payload that came last, where one did
+abbrev pub before_of : Last → Option (List ℕ)
+before_of last = if last.some then Some last.bytes.items else None
 
 -- An entry comes behind the one before it, where there is one.
 abbrev pub IsNext : IndexKey → (before : Option (List ℕ)) → (entry : List ℕ) → Type 0

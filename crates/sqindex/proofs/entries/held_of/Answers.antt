@@ -1,4 +1,4 @@
-use Rattle.std.proofs.Common.{◌≡◌, ◌∙◌, arith}
+use Rattle.std.proofs.Common.{◌∙◌, arith}
 use Rattle.sqindex.proofs.BodiesOfEntries.{start_back, size_back}
 use Rattle.sqindex.proofs.entries.held_of.Goals as goal
 

@@ -1,4 +1,4 @@
-use Rattle.std.proofs.Common.{◌≡◌, ◌∙◌, ◌≤◌, ℕ, List, length, take, drop, ap, arith, length-drop, w32}
+use Rattle.std.proofs.Common.{◌∙◌, ◌≤◌, ℕ, List, length, take, drop, ap, arith, length-drop, w32}
 use Rattle.std.specs.Int.{from_le_bytes}
 use Rattle.std.proofs.lemmas.List.{take_all}
 use Rattle.sqindex.proofs.BodiesOfEntries.{size_is}

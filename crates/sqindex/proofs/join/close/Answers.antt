@@ -1,6 +1,4 @@
-use Rattle.std.proofs.Common.{◌≡◌, inl, inr, refl, sym, subst}
-use Rattle.sqval.specs.Database.{Database}
-use Rattle.sqindex.specs.internal.Matching.{HasRowsInOrder}
+use Rattle.std.proofs.Common.{inl, inr, refl}
 use Rattle.sqindex.proofs.join.close.Goals as goal
 
 pub returns-in-Ok-clause-err : goal.returns-in-Ok-clause-err

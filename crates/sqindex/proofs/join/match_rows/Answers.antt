@@ -1,8 +1,7 @@
-use Rattle.std.proofs.Common.{◌≡◌, ◌++◌, ◌∷◌, [], ◌∙◌, ⊎_elim, ℕ, true, false, List, Option, Some, None, slice_get, subst, sym, ap, refl}
+use Rattle.std.proofs.Common.{◌≡◌, ◌++◌, ◌∷◌, [], ◌∙◌, ⊎_elim, ℕ, true, List, Option, Some, None, slice_get, subst, sym, ap, refl}
 use Rattle.std.specs.Prelude.{Result, Ok, Err, IfOk, IfErr}
 use Rattle.sqval.specs.Database.{Database}
 use Rattle.sqindex.specs.declared.error.IndexError.{IndexError}
-use Rattle.sqindex.specs.declared.rows.Ahead.{Ahead}
 use Rattle.sqindex.specs.declared.rows.Rows.{Rows}
 use Rattle.sqindex.specs.declared.walk.Found.{Found}
 use Rattle.sqindex.specs.Keys.{rowid_of}
@@ -13,7 +12,7 @@ use Rattle.sqval.specs.Record.{most_bytes}
 use Rattle.sqindex.specs.Indexes.{ReadRefused, NoRows}
 use Rattle.sqindex.specs.internal.Joining.{IsJoined}
 use Rattle.sqindex.specs.internal.Matching.{CloseRefused}
-use Rattle.sqindex.specs.internal.RowsGiven.{IsCursor, AreGiven, GivesTo}
+use Rattle.sqindex.specs.internal.RowsGiven.{IsCursor, GivesTo}
 use Rattle.sqindex.specs.internal.Spans.{up_to, in_span, rows_in}
 use Rattle.sqindex.proofs.ListsKept.{none_kept}
 use Rattle.sqindex.proofs.Places.{get_push}

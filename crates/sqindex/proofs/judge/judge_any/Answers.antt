@@ -1,4 +1,4 @@
-use Rattle.std.proofs.Common.{◌≡◌, ◌∙◌, ℕ, List, [], sym, subst}
+use Rattle.std.proofs.Common.{◌∙◌, ℕ, [], sym, subst}
 use Rattle.sqval.specs.Database.{Database}
 use Rattle.sqcheck.proofs.checks.ResultsOfCalls.{exits}
 use Rattle.sqindex.specs.Rules.{HasEntries}

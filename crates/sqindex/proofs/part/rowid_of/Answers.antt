@@ -24,9 +24,9 @@ returns-in-None-clause-err c =
 pub returns-in-Some-clause-ok : goal.returns-in-Some-clause-ok
 returns-in-Some-clause-ok c =
     let same : c.len.result ≡ length c.args.key.now.columns.items = grind (arith, common_steps) in
-    let fits : FitsSigned w64 c.in-Some.rowid = search rules in
-    let number : to_z w64 (of_z w64 c.in-Some.rowid) ≡ c.in-Some.rowid = to_z-of_z w64 c.in-Some.rowid fits in
-    let keyed = subst (λ (n : ℕ). IsKeyed n c.in-Some.rowid (decode c.args.entry.now)) same c.in-Some.ensures in (
+    let fits : FitsSigned w64 c.in-Some.ends.rowid = search rules in
+    let number : to_z w64 (of_z w64 c.in-Some.ends.rowid) ≡ c.in-Some.ends.rowid = to_z-of_z w64 c.in-Some.ends.rowid fits in
+    let keyed = subst (λ (n : ℕ). IsKeyed n c.in-Some.ends.rowid (decode c.args.entry.now)) same c.in-Some.ensures.keyed in (
       none_of c.args.found.rowid (sym c.is_some.ensures ∙ c.if-is_some.false),
       subst (λ (r : ℤ). IsKeyed (length c.args.key.now.columns.items) r (decode c.args.entry.now)) (sym number) keyed,
     )

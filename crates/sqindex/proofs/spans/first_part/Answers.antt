@@ -1,10 +1,8 @@
-use Rattle.std.proofs.Common.{◌≡◌, ◌∙◌, List, Option, None, ℤ, refl, sym, ap, subst}
+use Rattle.std.proofs.Common.{◌∙◌, Option, ℤ, refl, sym, ap, subst}
 use Rattle.std.specs.Prelude.{Result, Ok, Err, IfOk}
-use Rattle.sqval.specs.Database.{Database}
 use Rattle.sqindex.specs.declared.error.IndexError.{IndexError}
 use Rattle.sqindex.specs.declared.part.Part.{Part}
 use Rattle.sqindex.specs.declared.stream.Stage.{Stage}
-use Rattle.sqindex.specs.Stored.{Stored}
 use Rattle.sqindex.specs.internal.Matching.{IsFirstPart}
 use Rattle.sqindex.specs.internal.Spans.{passed, AreOfSpan}
 use Rattle.sqindex.specs.internal.Stepping.{IsStartOf}

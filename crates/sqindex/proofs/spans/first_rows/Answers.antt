@@ -1,4 +1,4 @@
-use Rattle.std.proofs.Common.{◌≡◌, ℕ, [], sym, subst}
+use Rattle.std.proofs.Common.{ℕ, [], sym, subst}
 use Rattle.std.specs.Prelude.{Result, Ok, Err, IfOk, IfErr}
 use Rattle.sqval.specs.Database.{Database}
 use Rattle.sqkeys.specs.declared.key.IndexKey.{IndexKey}

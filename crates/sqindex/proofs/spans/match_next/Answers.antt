@@ -1,4 +1,4 @@
-use Rattle.std.proofs.Common.{◌≡◌, ◌∙◌, refl, sym, subst}
+use Rattle.std.proofs.Common.{refl, sym, subst}
 use Rattle.std.specs.Prelude.{Result, Ok, Err, IfOk, IfErr, MatchResult}
 use Rattle.sqindex.specs.declared.error.IndexError.{IndexError}
 use Rattle.sqindex.specs.declared.rows.Rows.{Rows}

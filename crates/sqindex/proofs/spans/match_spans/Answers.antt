@@ -1,11 +1,9 @@
-use Rattle.std.proofs.Common.{◌≡◌, ◌∙◌, ℕ, ℤ, List, [], Option, Some, None, true, refl, sym, ap, subst}
+use Rattle.std.proofs.Common.{◌∙◌, ℤ, Option, sym, subst}
 use Rattle.std.specs.Prelude.{Result, Ok, Err, OnOk, IfOk, IfErr}
 use Rattle.sqval.specs.Database.{Database}
 use Rattle.sqindex.specs.declared.error.IndexError.{IndexError}
 use Rattle.sqindex.specs.declared.rows.Rows.{Rows}
 use Rattle.sqcheck.proofs.checks.ResultsOfCalls.{exits}
-use Rattle.sqindex.specs.Stored.{Stored}
-use Rattle.sqindex.specs.Rules.{HasEntries}
 use Rattle.sqindex.specs.Indexes.{IndexRefused}
 use Rattle.sqindex.specs.internal.Matching.{MatchesNext, AreMatchedTo, AreFirstRows}
 use Rattle.sqindex.specs.internal.Parts.{IsPart, PartRefused}

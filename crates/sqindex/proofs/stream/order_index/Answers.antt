@@ -1,4 +1,4 @@
-use Rattle.std.proofs.Common.{◌≡◌, ◌≢◌, ◌++◌, ◌∷◌, [], ◌∙◌, ◌+◌, ℕ, ℤ, List, Option, Some, None, Bool, cond, is_some, true, false, refl, subst, sym, ap, arith, length, length-append}
+use Rattle.std.proofs.Common.{◌≡◌, ◌≢◌, ◌++◌, ◌∷◌, [], ◌∙◌, ◌+◌, ℕ, ℤ, List, Option, Some, None, is_some, true, false, refl, subst, sym, ap, arith, length, length-append}
 use Rattle.std.specs.Prelude.{Result, Ok, Err, IfOk, IfErr, MatchOption}
 use Rattle.std.proofs.lemmas.Grind.{common_steps}
 use Rattle.sqlite_record.specs.Record.{decode}
@@ -9,7 +9,6 @@ use Rattle.sqrows.specs.Cursor.{IsOver}
 use Rattle.sqrows.specs.declared.cells.Cells.{Cells}
 use Rattle.sqindex.specs.declared.error.EntryError.{EntryError}
 use Rattle.sqindex.specs.declared.error.IndexError.{IndexError}
-use Rattle.sqindex.specs.declared.error.IndexError.TheVariants as errors
 use Rattle.sqindex.specs.declared.part.Part.{Part}
 use Rattle.sqindex.specs.declared.rows.Rows.{Rows}
 use Rattle.sqindex.specs.declared.room.Room.{Room}
@@ -20,14 +19,16 @@ use Rattle.sqindex.specs.Stored.{Stored}
 use Rattle.sqindex.specs.Rules.{HasEntries}
 use Rattle.sqindex.specs.Indexes.{ReadRefused, NoEntries}
 use Rattle.sqindex.specs.internal.Reading.{stored_of, WalkMoves, WalkRefused}
-use Rattle.sqindex.specs.internal.KeyedScanning.{IsBefore, ArePlain}
+use Rattle.sqindex.specs.internal.KeyedScanning.{ArePlain}
 use Rattle.sqindex.specs.internal.RowsGiven.{IsCursor}
 use Rattle.sqindex.specs.internal.Held.{plain}
 use Rattle.sqindex.specs.internal.Stepping.{IsStartOf, StartsIndex}
-use Rattle.sqindex.specs.internal.Streaming.{HasRowid, IsStream, StreamEnds, StreamRefused}
+use Rattle.sqindex.specs.internal.Ends.{HasEnds}
+use Rattle.sqindex.specs.declared.fields.Ends.{Ends}
+use Rattle.sqindex.specs.internal.Streaming.{IsEnded, IsStream, StreamEnds, StreamRefused}
 use Rattle.sqindex.proofs.CellsTaken.{none_taken, one_taken, unread}
 use Rattle.sqindex.proofs.EntriesRead.{stored_plain, other_kind}
-use Rattle.sqindex.proofs.EntriesStreamed.{none_streamed}
+use Rattle.sqindex.proofs.EntriesStreamed.{none_streamed, none_before, held_before}
 use Rattle.sqindex.proofs.RowsInStep.{none_in_step}
 use Rattle.sqindex.proofs.Places.{get_here}
 use Rattle.sqindex.proofs.KeyedScanned.{none_plain, one_plain, all_plain}
@@ -41,11 +42,11 @@ some_of : (o : Option ℤ) → is_some o ≡ true → o ≢ None
 some_of None e is = cc
 some_of (Some r) e is = cc
 
--- the entry that has a rowid, or has none
-keyed_as : (key : IndexKey) (n : ℕ) (rowid : Option ℤ) (entry same : List ℕ) → n ≡ length key.columns.items → entry ≡ same
-    → MatchOption rowid ((r : ℤ) → ¬ IsKeyed n r (decode entry)) (λ r. IsKeyed n r (decode entry)) → HasRowid key same rowid
-keyed_as key n rowid entry same many is h =
-    subst (λ (b : List ℕ). HasRowid key b rowid) is (subst (λ (n : ℕ). MatchOption rowid ((r : ℤ) → ¬ IsKeyed n r (decode entry)) (λ r. IsKeyed n r (decode entry))) many h)
+-- the entry that has ends, or has none
+ended_as : (key : IndexKey) (n : ℕ) (ends : Option Ends) (entry same : List ℕ) → n ≡ length key.columns.items → entry ≡ same
+    → MatchOption ends ((r : ℤ) → ¬ IsKeyed n r (decode entry)) (HasEnds n (decode entry)) → IsEnded key same ends
+ended_as key n ends entry same many is h =
+    subst (λ (b : List ℕ). IsEnded key b ends) is (subst (λ (n : ℕ). MatchOption ends ((r : ℤ) → ¬ IsKeyed n r (decode entry)) (HasEnds n (decode entry))) many h)
 
 -- what is told behind the last entry
 ended_ok : (d : Database) (table index : ℕ) (key : IndexKey) (xs : List Stored) (fault : Option EntryError) (old : Start) (many : ℕ) (result : Result Start IndexError) → HasEntries d index xs → IsStream key xs fault → length xs ≡ many
@@ -88,7 +89,7 @@ turns-init g c =
         [],
         none_plain d c.args.index c.in-Ok.walk.cells (none_taken d c.args.index c.in-Ok.walk.cells (e.ok gives).1),
         none_streamed c.args.key.now,
-        refl,
+        none_before c.none-last.result c.none-last.ensures,
         refl,
         λ table cursor. none_in_step d table c.args.key.now (record { entries = c.new-entries.result; span = c.all-span.result }) c.args.rows cursor c.new-entries.ensures c.all-span.ensures.0 c.all-span.ensures.1,
       );
@@ -144,7 +145,7 @@ returns-then-is_some-clause-err g c = λ gives.
 pub see-fault-requires : goal.see-fault-requires
 see-fault-requires g c =
     let many : c.len.result ≡ length c.args.key.now.columns.items = grind (arith, common_steps) in
-    keyed_as c.args.key.now c.len.result c.rowid_in-rowid.result c.deref.result.now c.deref-in-turns-2.result.now many (c.deref.ensures.value ∙ sym c.deref-in-turns-2.ensures.value) c.rowid_in-rowid.ensures
+    ended_as c.args.key.now c.len.result c.ends_in-ends.result c.deref.result.now c.deref-in-turns.result.now many (c.deref.ensures.value ∙ sym c.deref-in-turns.ensures.value) c.ends_in-ends.ensures
 
 pub take-requires-clause-sized : goal.take-requires-clause-sized
 take-requires-clause-sized g c = let i = c.turns.invariant in c.in-Ok-Some.ensures.keeps.same_size ∙ i.kept.same_size ∙ sym i.beside
@@ -152,7 +153,15 @@ take-requires-clause-sized g c = let i = c.turns.invariant in c.in-Ok-Some.ensur
 pub take-requires-clause-keyed : goal.take-requires-clause-keyed
 take-requires-clause-keyed g c =
     let many : c.len.result ≡ length c.args.key.now.columns.items = grind (arith, common_steps) in
-    keyed_as c.args.key.now c.len.result c.rowid_in-rowid.result c.deref.result.now c.deref-in-turns-3.result.now many (c.deref.ensures.value ∙ sym c.deref-in-turns-3.ensures.value) c.rowid_in-rowid.ensures
+    ended_as c.args.key.now c.len.result c.ends_in-ends.result c.deref.result.now c.deref-in-turns-2.result.now many (c.deref.ensures.value ∙ sym c.deref-in-turns-2.ensures.value) c.ends_in-ends.ensures
+
+pub moved_to-last-requires : goal.moved_to-last-requires
+moved_to-last-requires g c = λ n is.
+    let many : c.len.result ≡ length c.args.key.now.columns.items = grind (arith, common_steps) in
+    let walk = c.advance.new.self in
+    let ended = ended_as c.args.key.now c.len.result c.ends_in-ends.result c.deref.result.now walk.payload.items many c.deref.ensures.value c.ends_in-ends.ensures in
+    let first = c.first_of.ensures n is in
+    ((subst (IsEnded c.args.key.now walk.payload.items) first.1 ended).led n first.2).1
 
 pub turns-preserved : goal.turns-preserved
 turns-preserved g c =
@@ -162,7 +171,7 @@ turns-preserved g c =
     let found = c.in-Ok-Some.found in
     let walk = c.advance.new.self in
     let t = c.take.ensures in
-    let k = c.keep.ensures in
+    let k = c.moved_to-last.ensures in
     record {
       kept = record {
         still_right = λ right. t.keeps.still_right (e.keeps.still_right (i.kept.still_right right));
@@ -182,26 +191,24 @@ turns-preserved g c =
           let xs = seen.0 in
           let x = stored_of found walk.payload.items in
           let more = one_plain d c.args.index c.turns.walk.cells walk found xs seen.1 (subst (λ (d : Database). WalkMoves d c.turns.walk.cells (Some found) walk) i.kept.same_pages moves) (none_of found.rowid (sym c.is_some.ensures ∙ c.if-is_some.false)) in
-          let held : c.deref-in-turns.result.now ≡ c.turns.before.items = c.deref-in-turns.ensures.value in
-          let same : c.deref-in-turns-2.result.now ≡ walk.payload.items = c.deref-in-turns-2.ensures.value in
-          let same' : c.deref-in-turns-3.result.now ≡ walk.payload.items = c.deref-in-turns-3.ensures.value in
+          let same : c.deref-in-turns.result.now ≡ walk.payload.items = c.deref-in-turns.ensures.value in
+          let same' : c.deref-in-turns-2.result.now ≡ walk.payload.items = c.deref-in-turns-2.ensures.value in
           let plain' : stored_of found walk.payload.items ≡ plain found walk.payload.items = stored_plain found walk.payload.items (none_of found.rowid (sym c.is_some.ensures ∙ c.if-is_some.false)) in
           let pages = e.keeps.same_pages ∙ i.kept.same_pages in
           let new = c.take.new.start in
           let starts : (table : ℕ) → IsCursor d table c.args.rows [] → IsStartOf d table c.args.key.now new.stage new.part new.rows (xs ++ x ∷ []) = λ table cursor.
           let old = c.turns.start in
           let was = subst (λ (d : Database). IsStartOf d table c.args.key.now old.stage old.part old.rows xs) (sym pages) (seen.5 table cursor) in
-          let now = subst (λ (d : Database). IsStartOf d table c.args.key.now new.stage new.part new.rows (xs ++ plain found c.deref-in-turns-3.result.now ∷ [])) pages (t.starts (e.keeps.still_gives (i.kept.still_gives gives)) table xs was) in
+          let now = subst (λ (d : Database). IsStartOf d table c.args.key.now new.stage new.part new.rows (xs ++ plain found c.deref-in-turns-2.result.now ∷ [])) pages (t.starts (e.keeps.still_gives (i.kept.still_gives gives)) table xs was) in
           subst (λ (z : Stored). IsStartOf d table c.args.key.now new.stage new.part new.rows (xs ++ z ∷ [])) (sym plain')
           (subst (λ (b : List ℕ). IsStartOf d table c.args.key.now new.stage new.part new.rows (xs ++ plain found b ∷ [])) same' now) in
-          let before = subst (IsBefore xs) (sym (c.held.ensures ∙ ap (λ (b : List ℕ). cond c.turns.some (Some b) None) held)) seen.3 in
-          let streamed = c.see-fault.ensures xs before seen.2 in
+          let streamed = c.see-fault.ensures xs seen.3 seen.2 in
           let long = seen.4 in
           let grow : length (xs ++ x ∷ []) ≡ length xs + 1 = omega (arith, length-append xs (x ∷ [])) in (
             xs ++ x ∷ [],
             subst (λ (z : Cells). ArePlain d c.args.index z (xs ++ x ∷ [])) (sym k.same.0) more,
             subst (λ (b : List ℕ). IsStream c.args.key.now (xs ++ stored_of found b ∷ []) c.see-fault.result) same streamed,
-            (length xs, x, grow, get_here xs x [], sym k.held),
+            held_before (xs ++ x ∷ []) c.moved_to-last.result walk.payload.items k.held.0 k.held.1 (length xs, x, grow, get_here xs x [], refl),
             omega (arith, grow, long),
             starts,
           );

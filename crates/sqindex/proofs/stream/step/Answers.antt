@@ -1,5 +1,4 @@
-use Rattle.std.proofs.Common.{◌≡◌, ◌∙◌, ◌∷◌, [], ◌++◌, ℕ, ℤ, List, Option, Some, None, sym, ap, subst, w64, to_z, of_z}
-use Rattle.std.proofs.lemmas.Int.{to_z-of_z}
+use Rattle.std.proofs.Common.{◌≡◌, ◌∷◌, [], ◌++◌, ℕ, List, Option, sym, ap, subst}
 use Rattle.std.specs.declared.cmp.Ordering.TheVariants.{Equal}
 use Rattle.sqlite_record.specs.Record.{decode}
 use Rattle.sqlite_value.specs.Keys.{entry_cmp}
@@ -27,12 +26,11 @@ returns-clause-goes g c = λ gives table given w.
     let ahead = subst (λ (f : Option Found). LooksAt f rows.ahead) c.in-Ok-Some.field-0-is at.0 in
     let gave = given_ahead d table rows given at.1 found ahead in
     let its = c.is_of.ensures c.if-not-is_of.false in
-    let number : to_z w64 (of_z w64 c.args.rowid) ≡ c.args.rowid = to_z-of_z w64 c.args.rowid c.ranges.rowid in
     let same : c.deref.result.now ≡ rows.walk.payload.items = c.deref.ensures.value in
-    let own = subst (λ (b : List ℕ). entry_cmp c.args.key.now.order (entry_for c.args.key.now.columns.items (to_z w64 (of_z w64 c.args.rowid)) (decode b)) (decode c.args.entry.now) ≡ Equal) same its.1 in (
+    let own = subst (λ (b : List ℕ). entry_cmp c.args.key.now.order (entry_for c.args.key.now.columns.items c.args.ends.rowid (decode b)) (decode c.args.entry.now) ≡ Equal) same its.1 in (
       x,
       subst (λ (r : Rows). IsCursor d table r (given ++ x ∷ [])) (sym c.pass.ensures) gave.0,
       ap (λ (r : Rows). r.ahead) c.pass.ensures,
-      its.0 ∙ number,
-      subst (λ (r : ℤ). entry_cmp c.args.key.now.order (entry_for c.args.key.now.columns.items r (decode rows.walk.payload.items)) (decode c.args.entry.now) ≡ Equal) number own,
+      its.0,
+      own,
     )

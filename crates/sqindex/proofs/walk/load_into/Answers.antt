@@ -1,4 +1,4 @@
-use Rattle.std.proofs.Common.{◌≡◌, ◌∙◌, ◌++◌, ap}
+use Rattle.std.proofs.Common.{◌∙◌, ◌++◌, ap}
 use Rattle.std.specs.Prelude.{List, ℕ}
 use Rattle.sqindex.proofs.PayloadsWhole.{whole_payload}
 use Rattle.sqindex.proofs.walk.load_into.Goals as goal

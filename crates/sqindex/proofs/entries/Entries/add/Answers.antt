@@ -1,4 +1,4 @@
-use Rattle.std.proofs.Common.{◌≡◌, ◌<◌, ◌≤◌, ◌+◌, Bool, true, false, All, sym, subst, ◌++◌, ◌∷◌, [], ◌∙◌, ap, map, length, List, ℕ, None, w64, to_z, of_z, arith}
+use Rattle.std.proofs.Common.{◌≡◌, ◌<◌, ◌≤◌, ◌+◌, Bool, true, false, All, sym, subst, ◌++◌, ◌∷◌, [], ◌∙◌, ap, map, length, List, ℕ, None, w64, arith}
 use Rattle.std.specs.Prelude.{is_ok, if◌then◌else◌}
 use Rattle.std.proofs.lemmas.Grind.{common_steps}
 use Rattle.std.proofs.lemmas.Int.{to_z-of_z}

@@ -1,9 +1,8 @@
-use Rattle.std.proofs.Common.{◌∙◌, ◌∷◌, [], ◌++◌, Option, Some, None, refl, sym, subst}
+use Rattle.std.proofs.Common.{◌∙◌, Option, None, refl, sym, subst}
 use Rattle.sqval.specs.Database.{Database}
 use Rattle.sqval.specs.Record.{most_bytes}
 use Rattle.sqindex.specs.declared.walk.Found.{Found}
 use Rattle.sqindex.specs.Indexes.{ReadRefused, NoRows}
-use Rattle.sqindex.specs.internal.Reading.{stored_of}
 use Rattle.sqindex.specs.internal.RowsGiven.{IsCursor, Gives}
 use Rattle.sqindex.proofs.RowsGiven.{given_on}
 use Rattle.sqindex.proofs.rows.Rows.finish.Goals as goal

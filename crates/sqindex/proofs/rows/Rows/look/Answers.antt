@@ -1,4 +1,4 @@
-use Rattle.std.proofs.Common.{◌≡◌, ◌∷◌, [], ◌++◌, Option, Some, None, refl, subst}
+use Rattle.std.proofs.Common.{◌∷◌, [], ◌++◌, Option, refl, subst}
 use Rattle.sqindex.specs.declared.walk.Found.{Found}
 use Rattle.sqindex.specs.internal.Reading.{stored_of}
 use Rattle.sqindex.specs.internal.RowsGiven.{Gives}

@@ -1,4 +1,4 @@
-use Rattle.std.proofs.Common.{ℕ, Option, Some, None, sym, subst, ◌≡◌}
+use Rattle.std.proofs.Common.{ℕ, Option, sym, subst}
 use Rattle.sqval.specs.Record.{most_bytes}
 use Rattle.sqindex.specs.declared.walk.Found.{Found}
 use Rattle.sqindex.specs.Indexes.{ReadRefused, NoRows}

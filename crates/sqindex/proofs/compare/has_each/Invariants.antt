@@ -3,7 +3,7 @@ use Rattle.sqlite_record.specs.Record.{decode}
 use Rattle.sqlite_record.specs.Fields.{fields_left}
 use Rattle.sqlite_value.specs.Keys.{entry_cmp}
 use Rattle.sqindex.specs.Keys.{entry_for}
-use Rattle.sqindex.proofs.compare.has_columns.Given as goal
+use Rattle.sqindex.proofs.compare.has_each.Given as goal
 
 abbrev pub invariant-columns : goal.invariant-columns
 invariant-columns l = (drop l.column-index (decode l.entry) ≡ fields_left l.fields)
