@@ -12,7 +12,7 @@ ghost use Rattle.sqindex.specs.internal.Reading.{stored_of, WalkMoves, WalkRefus
 
 use sqpage::{Cell, CheckError, PageSource};
 use sqrows::{Cells, PayloadError, RowsError, payload_into};
-use std::alloc::Global;
+use std::alloc::{AllocError, Global};
 
 /// Where the cell stands that a walk came to, and its rowid in a table.
 #[derive(Clone, Copy, Debug)]
@@ -41,6 +41,38 @@ fn is_whole(cell: &Cell) -> bool
     cell.overflow == 0 && cell.payload == Some(cell.local.len() as u64)
 }
 
+/// Puts bytes in the place of what is there. As many are written over.
+#[inline(always)]
+fn put(bytes: &[u8], out: &mut Vec<u8>) -> Result<(), AllocError>
+    ensures { OnOk result (out.new.items ≡ bytes.now) }
+{
+    if out.len() == bytes.len() {
+        out.copy_from_slice(bytes);
+        return Ok(());
+    }
+    out.clear();
+    out.extend_from_slice(bytes)
+}
+
+/// Reads the payload of a cell of at most `limit` bytes into `out`, in the place of what is there, as `payload_into`.
+/// It isn't taken in line, so that the parts of a cell that lies whole in its page stay in registers.
+#[inline(never)]
+fn load_any<S: PageSource>(
+    alloc: Global,
+    source: &mut S,
+    cell: &Cell,
+    limit: u64,
+    out: &mut Vec<u8>,
+) -> Result<(), PayloadError>
+    requires payload { IsSome cell.now.payload × (length cell.now.local.now ≤ payload_size cell.now) }
+    requires usable { (480 ≤ cell.now.usable) × (cell.now.usable ≤ S.size source.old) }
+    ensures ok { S.gives_pages source.old → OnOk result (IsPayload (S.pages source.old) cell.now out.new.items) }
+    ensures err { S.gives_pages source.old → IfErr result (PayloadRefused (S.pages source.old) cell.now limit) }
+    ensures keeps { KeepsPages S.pages S.size S.reads_right S.gives_pages source.old source.new }
+{
+    payload_into(alloc, source, cell, limit, out)
+}
+
 /// Reads the payload of a cell of at most `limit` bytes into `out`, in the place of what is there, as `payload_into`.
 #[inline(always)]
 fn load_into<S: PageSource>(
@@ -57,15 +89,13 @@ fn load_into<S: PageSource>(
     ensures keeps { KeepsPages S.pages S.size S.reads_right S.gives_pages source.old source.new }
 {
     if is_whole(cell) && cell.local.len() as u64 <= limit {
-        out.clear();
-        match out.extend_from_slice(cell.local) {
+        match put(cell.local, out) {
             Ok(()) => return Ok(()),
             Err(_) => {}
         }
     }
-    // A copy, so that the parts of a cell that lies whole in its page stay in registers.
     let chained = *cell;
-    payload_into(alloc, source, &chained, limit, out)
+    load_any(alloc, source, &chained, limit, out)
 }
 
 impl Walk {

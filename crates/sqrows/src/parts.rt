@@ -18,6 +18,10 @@ fn local_part(kind: Kind, usable: u32, payload: u64) -> u64
     ensures all_at_most { result ≤ payload }
     ensures usable_at_most { result ≤ usable }
 {
+    // A payload of so few bytes lies whole in a page of any kind.
+    if payload <= u64::from(usable) / 4 - 26 {
+        return payload;
+    }
     if kind.has_payload() {
         split(kind, usable, payload).0
     } else {
