@@ -61,6 +61,7 @@ impl Rows {
     }
 
     /// Reads the next row. Refused as `advance`.
+    #[inline(always)]
     fn read<S: PageSource>(&mut self, source: &mut S) -> Result<Option<Found>, ReadError>
         requires sized { S.size source.old ≡ self.old.walk.cells.size }
         requires unread { self.old.ahead ≡ Unread }

@@ -1,5 +1,6 @@
 //! What the cells of a tree store, one after another (fileformat2, 1.6 and 1.7).
 ghost use Rattle.std.specs.Prelude.{◌≡◌, ◌≢◌, ◌≤◌, ◌↔◌, List, IfOk, IfErr, OnOk, IsSome, IsTrue, true, length};
+ghost use Rattle.sqval.specs.Database.{Database};
 ghost use Rattle.sqpage.specs.Chain.{payload_size, IsPayload};
 ghost use Rattle.sqpage.specs.Page.{has_payload};
 ghost use Rattle.sqpage.specs.Source.{KeepsPages};
@@ -29,7 +30,8 @@ pub(crate) struct Walk {
     pub(crate) cells: Cells,
     /// The most bytes of a payload.
     pub(crate) limit: u64,
-    /// The payload of the cell that it came to last.
+    /// Where the cell stands that it came to last, and its payload.
+    pub(crate) found: Found,
     pub(crate) payload: Vec<u8>,
 }
 
@@ -54,50 +56,6 @@ fn put(bytes: &[u8], out: &mut Vec<u8>) -> Result<(), AllocError>
     out.extend_from_slice(bytes)
 }
 
-/// Reads the payload of a cell of at most `limit` bytes into `out`, in the place of what is there, as `payload_into`.
-/// It isn't taken in line, so that the parts of a cell that lies whole in its page stay in registers.
-#[inline(never)]
-fn load_any<S: PageSource>(
-    alloc: Global,
-    source: &mut S,
-    cell: &Cell,
-    limit: u64,
-    out: &mut Vec<u8>,
-) -> Result<(), PayloadError>
-    requires payload { IsSome cell.now.payload × (length cell.now.local.now ≤ payload_size cell.now) }
-    requires usable { (480 ≤ cell.now.usable) × (cell.now.usable ≤ S.size source.old) }
-    ensures ok { S.gives_pages source.old → OnOk result (IsPayload (S.pages source.old) cell.now out.new.items) }
-    ensures err { S.gives_pages source.old → IfErr result (PayloadRefused (S.pages source.old) cell.now limit) }
-    ensures keeps { KeepsPages S.pages S.size S.reads_right S.gives_pages source.old source.new }
-{
-    payload_into(alloc, source, cell, limit, out)
-}
-
-/// Reads the payload of a cell of at most `limit` bytes into `out`, in the place of what is there, as `payload_into`.
-#[inline(always)]
-fn load_into<S: PageSource>(
-    alloc: Global,
-    source: &mut S,
-    cell: &Cell,
-    limit: u64,
-    out: &mut Vec<u8>,
-) -> Result<(), PayloadError>
-    requires payload { IsSome cell.now.payload × (length cell.now.local.now ≤ payload_size cell.now) }
-    requires usable { (480 ≤ cell.now.usable) × (cell.now.usable ≤ S.size source.old) }
-    ensures ok { S.gives_pages source.old → OnOk result (IsPayload (S.pages source.old) cell.now out.new.items) }
-    ensures err { S.gives_pages source.old → IfErr result (PayloadRefused (S.pages source.old) cell.now limit) }
-    ensures keeps { KeepsPages S.pages S.size S.reads_right S.gives_pages source.old source.new }
-{
-    if is_whole(cell) && cell.local.len() as u64 <= limit {
-        match put(cell.local, out) {
-            Ok(()) => return Ok(()),
-            Err(_) => {}
-        }
-    }
-    let chained = *cell;
-    load_any(alloc, source, &chained, limit, out)
-}
-
 impl Walk {
     /// Begins before the first cell of the tree whose root is page `root`. Refused as `Cells::new` does.
     pub(crate) fn new<S: PageSource>(
@@ -117,17 +75,47 @@ impl Walk {
             alloc,
             cells: Cells::new(alloc, source, root)?,
             limit,
+            found: Found {
+                page: 0,
+                cell: 0,
+                rowid: None,
+            },
             payload: Vec::new(alloc),
         })
     }
 
-    /// Reads the payload of the cell that the walk is at.
+    /// Reads the payload of the cell that the walk is at, where it lies whole in its page. False where it may not.
+    /// Where the cell stands is held, since a result that may be an error is written in parts and read as a whole.
     #[inline(always)]
-    fn load<S: PageSource>(&mut self, source: &mut S) -> Result<Found, RowsError>
+    fn load_whole(&mut self) -> bool
+        ensures yes { IsTrue result → (d : Database) → (e : Entry) × IsAt self.new.cells e
+            × IsStoredIn d e (stored_of self.new.found self.new.payload.items) }
+        ensures same { (self.new.cells ≡ self.old.cells) × (self.new.limit ≡ self.old.limit) }
+    {
+        let Ok(cell) = self.cells.cell() else {
+            return false;
+        };
+        if !is_whole(&cell) || cell.local.len() as u64 > self.limit {
+            return false;
+        }
+        self.found = Found {
+            page: cell.page,
+            cell: self.cells.index(),
+            rowid: cell.rowid,
+        };
+        match put(cell.local, &mut self.payload) {
+            Ok(()) => true,
+            Err(_) => false,
+        }
+    }
+
+    /// Reads the payload of the cell that the walk is at.
+    #[inline(never)]
+    fn load<S: PageSource>(&mut self, source: &mut S) -> Result<(), RowsError>
         requires sized { S.size source.old ≡ self.old.cells.size }
         requires own { has_payload self.old.cells.top.kind ≡ true }
-        ensures ok { S.gives_pages source.old → IfOk result (λ found. (e : Entry) × IsAt self.new.cells e
-            × IsStoredIn (S.pages source.old) e (stored_of found self.new.payload.items)) }
+        ensures ok { S.gives_pages source.old → OnOk result ((e : Entry) × IsAt self.new.cells e
+            × IsStoredIn (S.pages source.old) e (stored_of self.new.found self.new.payload.items)) }
         ensures err { S.gives_pages source.old → IfErr result (λ error. (e : Entry) → IsAt self.old.cells e
             → LoadRefused (S.pages source.old) self.old.limit e error) }
         ensures read { S.gives_pages source.old → IfErr result NotSource }
@@ -138,13 +126,13 @@ impl Walk {
             Ok(cell) => cell,
             Err(refusal) => return Err(RowsError::Tree(refusal)),
         };
-        let found = Found {
+        self.found = Found {
             page: cell.page,
             cell: self.cells.index(),
             rowid: cell.rowid,
         };
-        match load_into(self.alloc, source, &cell, self.limit, &mut self.payload) {
-            Ok(()) => Ok(found),
+        match payload_into(self.alloc, source, &cell, self.limit, &mut self.payload) {
+            Ok(()) => Ok(()),
             Err(refusal) => Err(RowsError::Payload(refusal)),
         }
     }
@@ -170,8 +158,11 @@ impl Walk {
             Ok(false) => return Ok(None),
             Err(refusal) => return Err(RowsError::Tree(refusal)),
         }
+        if self.load_whole() {
+            return Ok(Some(self.found));
+        }
         match self.load(source) {
-            Ok(found) => Ok(Some(found)),
+            Ok(()) => Ok(Some(self.found)),
             Err(refusal) => Err(refusal),
         }
     }

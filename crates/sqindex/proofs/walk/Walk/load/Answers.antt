@@ -11,11 +11,11 @@ returns-in-Err-clause-err g c = λ gives e at. absurd (c.in-Err.ensures.err.1 e 
 pub returns-in-Err-clause-read : goal.returns-in-Err-clause-read
 returns-in-Err-clause-read g c = λ gives. let outside = c.in-Err.ensures.err.0 in λ is. cc
 
-pub returns-in-Err-load_into-clause-read : goal.returns-in-Err-load_into-clause-read
-returns-in-Err-load_into-clause-read g c = λ gives. not_source (g.S.PageSource.pages c.args.source.now) c.in-Ok.cell c.args.self.now.limit c.in-Err-load_into.refusal (c.in-Err-load_into.ensures.err gives)
+pub returns-in-Err-payload_into-clause-read : goal.returns-in-Err-payload_into-clause-read
+returns-in-Err-payload_into-clause-read g c = λ gives. not_source (g.S.PageSource.pages c.args.source.now) c.in-Ok.cell c.args.self.now.limit c.in-Err-payload_into.refusal (c.in-Err-payload_into.ensures.err gives)
 
-pub returns-in-Ok-load_into-clause-ok : goal.returns-in-Ok-load_into-clause-ok
-returns-in-Ok-load_into-clause-ok g c = λ gives.
+pub returns-in-Ok-payload_into-clause-ok : goal.returns-in-Ok-payload_into-clause-ok
+returns-in-Ok-payload_into-clause-ok g c = λ gives.
     let cell = c.in-Ok.cell in
     let e : Entry = entry_of c.args.self.now.cells.at cell in (
       e,
@@ -24,12 +24,12 @@ returns-in-Ok-load_into-clause-ok g c = λ gives.
         page = refl;
         cell = c.index.ensures;
         rowid = refl;
-        payload = record { cell = cell; is = refl; payload = c.in-Ok-load_into.ensures.ok gives };
+        payload = record { cell = cell; is = refl; payload = c.in-Ok-payload_into.ensures.ok gives };
       },
     )
 
-pub returns-in-Err-load_into-clause-err : goal.returns-in-Err-load_into-clause-err
-returns-in-Err-load_into-clause-err g c = λ gives e at.
+pub returns-in-Err-payload_into-clause-err : goal.returns-in-Err-payload_into-clause-err
+returns-in-Err-payload_into-clause-err g c = λ gives e at.
     let d = g.S.PageSource.pages c.args.source.now in
     let is = (c.in-Ok.ensures.ok.1 e).0 at in
-    subst (λ (e : Entry). LoadRefused d c.args.self.now.limit e (Payload c.in-Err-load_into.refusal)) (sym is) (refused_load d c.args.self.now.cells.at c.in-Ok.cell c.args.self.now.limit c.in-Err-load_into.refusal (c.in-Err-load_into.ensures.err gives))
+    subst (λ (e : Entry). LoadRefused d c.args.self.now.limit e (Payload c.in-Err-payload_into.refusal)) (sym is) (refused_load d c.args.self.now.cells.at c.in-Ok.cell c.args.self.now.limit c.in-Err-payload_into.refusal (c.in-Err-payload_into.ensures.err gives))
