@@ -17,7 +17,7 @@ use Rattle.cli_row_text.specs.declared.form.Form.{Form}
 use Rattle.cli_show_deleted.specs.Cells.{StandsIn, IsCellIn, AreCellsOf, places_of}
 use Rattle.cli_show_deleted.specs.Lines.{IsCellText, AreLines}
 use Rattle.cli_show_deleted.specs.declared.mark.Mark.TheVariants.{Stands}
-use Rattle.cli_show_deleted.specs.Printed.{IsTextOf}
+use Rattle.cli_show_deleted.specs.Printed.{IsWholeText}
 use Rattle.cli_show_deleted.specs.internal.Walks.{AreTold}
 
 lines_more : (form : Form) (cells : List DeletedCell) (cell : DeletedCell) (t own : List ℕ) → AreLines form cells t → IsCellText Stands form cell own → AreLines form (cells ++ cell ∷ []) (t ++ own)
@@ -100,6 +100,6 @@ told_of role used number s told same used_is number_is are = record {
   each = subst (λ (n : ℕ). Every (IsCellIn used n) told) number_is (subst (λ (u : List ℕ). Every (IsCellIn u s.number) told) used_is are.1);
 }
 
-pub none_of : (role : Role) (used : List ℕ) (number : ℕ) (form : Form) → ((at : ℕ) (c : Parts) → ¬ StandsIn role used number at c) → IsTextOf form role used number []
+pub none_of : (role : Role) (used : List ℕ) (number : ℕ) (form : Form) → ((at : ℕ) (c : Parts) → ¬ StandsIn role used number at c) → IsWholeText form role used number []
 none_of role used number form none =
     ([], record { rise = tt; all = λ at. (λ there. absurd there, λ stands. absurd (none at stands.0 stands.1)); each = tt }, refl)

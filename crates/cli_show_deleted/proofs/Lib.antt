@@ -12,3 +12,5 @@ pub mod CellsCollected
 pub mod TurnsOfCells
 -- The pages of two databases, one more at the end.
 pub mod PagesBetween
+-- Cells of a page that lost their first four bytes, one more at the end.
+pub mod CutsTold

@@ -1,4 +1,6 @@
 pub mod Cells
+pub mod CutCells
+pub mod CutLines
 pub mod Changes
 pub mod Lines
 pub mod Printed

@@ -11,6 +11,7 @@ use Rattle.sqcheck.specs.declared.role.Role.{Role}
 use Rattle.sqcheck.specs.declared.survey.Survey.{Survey}
 use Rattle.sqdeep.specs.Records.{encoding_of}
 use Rattle.sqdeleted.specs.declared.cell.DeletedCell.{DeletedCell}
+use Rattle.sqdeleted.specs.declared.cut.CutCell.{CutCell}
 use Rattle.cli_words.specs.declared.requests.Style.{Style}
 use Rattle.cli_words.specs.declared.requests.Style.TheVariants as styles
 use Rattle.cli_row_text.specs.declared.form.Form.{Form}
@@ -20,6 +21,8 @@ use Rattle.cli_row_text.specs.Lines.{form_of}
 use Rattle.cli_show_rows.specs.declared.stop.Stop.{Stop}
 use Rattle.cli_show_rows.specs.declared.stop.Stop.TheVariants.{Fault, Encoding, NoMemory, Write}
 use Rattle.cli_show_deleted.specs.Cells.{AreCellsOf}
+use Rattle.cli_show_deleted.specs.CutCells.{AreCutCellsOf}
+use Rattle.cli_show_deleted.specs.CutLines.{AreCutLines}
 use Rattle.cli_show_deleted.specs.Lines.{AreLines}
 
 -- the notation of values in lines, as those of `diff`, and in objects
@@ -27,9 +30,17 @@ abbrev pub notation_in : Style → Notation
 notation_in styles.Lines = Sql
 notation_in styles.Json = Json
 
--- The text of a page of this role, of which these bytes are used: the lines of its deleted cells.
+-- The lines of the deleted cells of a page of this role, of which these bytes are used, that stand whole.
+abbrev pub IsWholeText : Form → Role → (used : List ℕ) → (number : ℕ) → List ℕ → Type 0
+IsWholeText form role used number t = (cells : List DeletedCell) × AreCellsOf role used number cells × AreLines form cells t
+
+-- The lines of those that lost their first four bytes.
+abbrev pub IsTextOfCuts : Form → Role → (used : List ℕ) → (number : ℕ) → List ℕ → Type 0
+IsTextOfCuts form role used number t = (cells : List CutCell) × AreCutCellsOf role used number cells × AreCutLines form cells t
+
+-- The text of a page: those of its deleted cells that stand whole, and behind them those of the others.
 abbrev pub IsTextOf : Form → Role → (used : List ℕ) → (number : ℕ) → List ℕ → Type 0
-IsTextOf form role used number t = (cells : List DeletedCell) × AreCellsOf role used number cells × AreLines form cells t
+IsTextOf form role used number t = (own cut : List ℕ) × IsWholeText form role used number own × IsTextOfCuts form role used number cut × (t ≡ own ++ cut)
 
 -- The texts of the first pages, so many, one behind the other.
 abbrev pub AreTextsOf : Form → Database → List Role → (n : ℕ) → List ℕ → Type 0

@@ -17,7 +17,7 @@ use sqval::Value;
 use std::io::{self, Write};
 
 /// What stands before the page of a cell of this mark.
-fn write_opening<W: Write>(out: &mut W, mark: Mark, notation: Notation) -> io::Result<()>
+pub(crate) fn write_opening<W: Write>(out: &mut W, mark: Mark, notation: Notation) -> io::Result<()>
     ensures { OnOk result (Appends (W.contents out.old) (W.contents out.new) (opening_text mark notation)) }
 {
     match notation {
@@ -71,7 +71,7 @@ fn write_cut<W: Write>(out: &mut W, notation: Notation, overflow: u32) -> io::Re
 }
 
 /// The same where it doesn't.
-fn write_end<W: Write>(out: &mut W, notation: Notation) -> io::Result<()>
+pub(crate) fn write_end<W: Write>(out: &mut W, notation: Notation) -> io::Result<()>
     ensures { OnOk result (Appends (W.contents out.old) (W.contents out.new) (end_text notation)) }
 {
     match notation {

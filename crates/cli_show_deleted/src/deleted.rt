@@ -6,9 +6,9 @@ ghost use Rattle.sqpage.specs.Source.{KeepsPages};
 ghost use Rattle.sqcheck.specs.Places.{used_in};
 ghost use Rattle.cli_show_deleted.specs.Printed.{AreDeletedPrinted, AreDeletedStopped, AreTextsOf, IsRunOut, IsTextOf};
 
+use crate::cut_page::print_used;
 use crate::layout::Layout;
 use crate::opening::page_of;
-use crate::page::print_used;
 use crate::seen::role_of;
 use crate::surveyed::surveyed;
 use cli_show_rows::Stop;
@@ -67,7 +67,9 @@ fn print_pages<S: PageSource, W: Write>(
 /// Prints the cells of deleted rows that still stand whole in pages of a database, page by page, in the order of their
 /// places: a line each, or an object. Of a page of a tree those in its gaps, of one that is free or that nothing uses
 /// all that stand there. Where the payload goes on in other pages the values are printed that stand whole in its own,
-/// and the first one that is named: what that holds by now isn't known. A database without pages has none.
+/// and the first one that is named: what that holds by now isn't known. Behind those of each page come its cells that
+/// lost their first four bytes to a freeblock, and with them the rowid, where the rest of them can be read by itself. A
+/// database without pages has none.
 ///
 /// Refused by `Encoding` where the encoding of its texts isn't known, by Reserved at page 1 where fewer than 480 bytes
 /// of a page are usable, by the fault for which its pages can't be surveyed, by `NoMemory`, and by an error of the

@@ -4,6 +4,8 @@
 mod candidate;
 mod cell;
 mod changed;
+mod cut_line;
+mod cut_page;
 mod deleted;
 mod layout;
 mod mark;

@@ -1,4 +1,4 @@
-//! The deleted cells of a page.
+//! The deleted cells of a page that stand whole.
 ghost use Rattle.std.specs.Prelude.{◌≡◌, ◌↔◌, ◌≤◌, ℕ, List, length, IfSome, IsNone, OnOk, IfErr};
 ghost use Rattle.std.specs.Io.KnownBytes.{Appends};
 ghost use Rattle.sqpage.specs.declared.cell.Parts.{Parts};
@@ -6,7 +6,7 @@ ghost use Rattle.sqdeleted.specs.DeletedCursor.{IsLeft};
 ghost use Rattle.sqdeleted.specs.declared.cell.DeletedCell.{DeletedCell};
 ghost use Rattle.cli_show_deleted.specs.Cells.{StandsIn};
 ghost use Rattle.cli_show_deleted.specs.Lines.{AreLines};
-ghost use Rattle.cli_show_deleted.specs.Printed.{IsRunOut, IsTextOf};
+ghost use Rattle.cli_show_deleted.specs.Printed.{IsRunOut, IsWholeText};
 ghost use Rattle.cli_show_deleted.specs.internal.Walks.{AreTold};
 
 use crate::cell::print_cell;
@@ -52,8 +52,8 @@ fn print_cells<W: Write>(out: &mut W, layout: Layout, cells: DeletedCells<'_>) -
     Err(Stop::NoMemory)
 }
 
-/// Prints the deleted cells of page `number`, which has this role, and of which these bytes are used.
-pub(crate) fn print_used<W: Write>(
+/// Prints the deleted cells of page `number` that stand whole, which has this role, and of which these bytes are used.
+pub(crate) fn print_whole<W: Write>(
     out: &mut W,
     layout: Layout,
     used: &[u8],
@@ -61,7 +61,7 @@ pub(crate) fn print_used<W: Write>(
     number: u32,
 ) -> Result<(), Stop>
     requires { (480 ≤ length used.now) × (length used.now ≤ 65536) }
-    ensures ok { OnOk result ((t : List ℕ) × IsTextOf layout.form role used.now number t
+    ensures ok { OnOk result ((t : List ℕ) × IsWholeText layout.form role used.now number t
         × Appends (W.contents out.old) (W.contents out.new) t) }
     ensures err { IfErr result IsRunOut }
 {

@@ -35,12 +35,12 @@ nothing_leads [] not lead = not refl
 nothing_leads (serial ∷ types) not lead = nothing_begins serial lead.0 lead.1
 
 -- a varint takes as many bytes as the shortest one of its number at least
-size_least : (serial taken : ℕ) (bytes : List ℕ) → Begins serial taken bytes → varint_size serial ≤ taken
+pub size_least : (serial taken : ℕ) (bytes : List ℕ) → Begins serial taken bytes → varint_size serial ≤ taken
 size_least serial taken bytes begins =
     let least : varint_size serial ≤ length (take taken bytes) = varint_size_least serial (take taken bytes) begins.front in
     omega (arith, least, length-take taken bytes)
 
-lead_least : (serials bytes rest : List ℕ) → Lead serials bytes rest → sum_by varint_size serials + length rest ≤ length bytes
+pub lead_least : (serials bytes rest : List ℕ) → Lead serials bytes rest → sum_by varint_size serials + length rest ≤ length bytes
 lead_least [] bytes rest lead = omega (arith, ap length lead)
 lead_least (serial ∷ serials) bytes rest lead =
     let one : varint_size serial ≤ lead.0 = size_least serial lead.0 bytes lead.1 in

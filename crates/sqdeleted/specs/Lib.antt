@@ -1,3 +1,5 @@
 pub mod Deleted
 pub mod DeletedCursor
+pub mod Cut
+pub mod CutCursor
 pub mod internal

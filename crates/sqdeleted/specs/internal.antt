@@ -1,3 +1,4 @@
 -- What no public clause reaches.
 pub mod Steps
 pub mod Values
+pub mod Rests

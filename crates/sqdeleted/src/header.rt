@@ -35,7 +35,7 @@ pub(crate) fn types_of(bytes: &[u8]) -> Option<(&[u8], u64)>
 }
 
 /// How many bytes the shortest varint of the number takes.
-fn least_size(number: u64) -> usize
+pub(crate) fn least_size(number: u64) -> usize
     ensures { result ≡ varint_size number }
 {
     match number {

@@ -5,10 +5,19 @@
 mod bytes;
 mod cell;
 mod cursor;
+mod cut;
+mod cut_cursor;
+mod cut_walk;
 mod freeblock;
+mod freed;
 mod header;
+mod rest;
 mod values;
 mod walk;
+mod whole;
 
 pub use cell::DeletedCell;
 pub use cursor::DeletedCells;
+pub use cut::CutCell;
+pub use cut_cursor::CutCells;
+pub use whole::WholeCells;

@@ -33,7 +33,7 @@ fn value_of<'a>(serial: u64, body: &'a [u8]) -> Value<'a>
 }
 
 /// The values of the first of these serial types, as far as their bodies stand in these bytes.
-fn first_values<'a>(
+pub(crate) fn first_values<'a>(
     alloc: Global,
     types: &[u8],
     bodies: &'a [u8],

@@ -1,6 +1,6 @@
 //! What still stands of rows that were deleted, in pages of 512 bytes that sqlite3 3.40.1 wrote with secure_delete off:
 //! worked by hand.
-use sqdeleted::{DeletedCell, DeletedCells};
+use sqdeleted::{CutCell, CutCells, DeletedCell, DeletedCells, WholeCells};
 use sqpage::Kind;
 use sqsalvage::parts_at;
 use sqval::Value;
@@ -152,5 +152,70 @@ fn parts_of_a_cell(rt: HostRuntime) -> Result<(), Fail> {
         return Ok(());
     };
     assert_eq!(rt; (parts.body, parts.local, parts.end), (244, 197, 445));
+    Ok(())
+}
+
+/// A leaf without rows: in its one freeblock rows 200 'apple' and 17000 4660, which lost their first four bytes, and
+/// row 7 'grape', which was joined to it last. In each the first column is NULL.
+static CUT: [(usize, &[u8]); 2] = [
+    (0, &[13, 1, 144, 0, 0, 1, 144, 0]),
+    (
+        400,
+        &[
+            0, 0, 0, 30, 0, 23, 97, 112, 112, 108, 101, 0, 0, 0, 9, 3, 0, 2, 18, 52, 8, 7, 3, 0,
+            23, 103, 114, 97, 112, 101,
+        ],
+    ),
+];
+
+/// Where a cell began, and how many bytes it took; 0 where there is none.
+fn cut(cell: Option<CutCell<'_>>) -> (usize, usize) {
+    match cell {
+        Some(cell) => (cell.at, cell.size),
+        None => (0, 0),
+    }
+}
+
+#[test]
+fn without_their_first_bytes(rt: HostRuntime) -> Result<(), Fail> {
+    let page = page_of(rt.alloc(), &CUT)?;
+    assert_eq!(rt; page.len(), 512);
+    let Some(cells) = DeletedCells::of_page(&page, 2) else {
+        assert!(rt; false);
+        return Ok(());
+    };
+    let whole = WholeCells::of_cells(rt.alloc(), cells)?;
+    let Some(mut cuts) = CutCells::of_page(&page, 2, &whole) else {
+        assert!(rt; false);
+        return Ok(());
+    };
+    let Some(apple) = cuts.next_cell() else {
+        assert!(rt; false);
+        return Ok(());
+    };
+    assert_eq!(rt; apple.page, 2);
+    assert_eq!(rt; cut(Some(apple)), (400, 11));
+    let values = apple.values(rt.alloc())?;
+    assert_eq!(rt; values.len(), 2);
+    assert!(rt; matches!(values.get(1), Some(Value::Text(b"apple"))));
+    let Some(number) = cuts.next_cell() else {
+        assert!(rt; false);
+        return Ok(());
+    };
+    assert_eq!(rt; cut(Some(number)), (411, 9));
+    let values = number.values(rt.alloc())?;
+    assert!(rt; matches!(values.get(1), Some(Value::Int(4660))));
+    assert_eq!(rt; cut(cuts.next_cell()), (0, 0));
+    Ok(())
+}
+
+#[test]
+fn without_their_first_bytes_in_a_free_page(rt: HostRuntime) -> Result<(), Fail> {
+    let page = page_of(rt.alloc(), &CUT)?;
+    assert_eq!(rt; page.len(), 512);
+    let none = WholeCells::none(rt.alloc());
+    let mut cuts = CutCells::of_free_page(&page, 2, &none);
+    assert_eq!(rt; cut(cuts.next_cell()), (411, 9));
+    assert_eq!(rt; cut(cuts.next_cell()), (0, 0));
     Ok(())
 }

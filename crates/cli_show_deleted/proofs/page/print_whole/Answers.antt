@@ -2,7 +2,7 @@ use Rattle.std.proofs.Common.{[], refl}
 use Rattle.std.proofs.KnownBytes.{Appends-nil}
 use Rattle.std.proofs.lemmas.Result.{on_ok_weaker}
 use Rattle.cli_show_deleted.proofs.CellsTold.{told_of, none_of}
-use Rattle.cli_show_deleted.proofs.page.print_used.Goals as goal
+use Rattle.cli_show_deleted.proofs.page.print_whole.Goals as goal
 
 pub returns-in-Some-clause-ok : goal.returns-in-Some-clause-ok
 returns-in-Some-clause-ok g c =
