@@ -1,2 +1,3 @@
 -- What no public clause reaches.
 pub mod Logs
+pub mod Values

@@ -3,6 +3,7 @@ ghost use Rattle.std.specs.Prelude.{◌≡◌, ◌++◌, ℕ, OnOk};
 ghost use Rattle.std.specs.Io.KnownBytes.{Appends};
 ghost use Rattle.cli_text.specs.Facts.{between, closing, fact_text, facts_text, opening, separator};
 
+use crate::line::{ROOM, put_facts};
 use cli_words::Style;
 use std::fmt;
 use std::io::{self, Write};
@@ -71,13 +72,40 @@ impl fmt::Display for Styled<'_> {
 }
 
 /// What a line or an object begins with.
+pub(crate) fn opening_of(style: Style) -> &'static [u8]
+    ensures { result.now ≡ opening style }
+{
+    match style {
+        Style::Lines => b"",
+        Style::Json => b"{",
+    }
+}
+
+/// What stands between two facts.
+pub(crate) fn between_of(style: Style) -> &'static [u8]
+    ensures { result.now ≡ between style }
+{
+    match style {
+        Style::Lines => b" ",
+        Style::Json => b",",
+    }
+}
+
+/// What a line or an object ends with.
+pub(crate) fn closing_of(style: Style) -> &'static [u8]
+    ensures { result.now ≡ closing style }
+{
+    match style {
+        Style::Lines => b"\n",
+        Style::Json => b"}\n",
+    }
+}
+
+/// What a line or an object begins with.
 pub(crate) fn write_opening<W: Write>(out: &mut W, style: Style) -> io::Result<()>
     ensures { OnOk result (Appends (W.contents out.old) (W.contents out.new) (opening style)) }
 {
-    match style {
-        Style::Lines => Ok(()),
-        Style::Json => out.write_all(b"{"),
-    }
+    out.write_all(opening_of(style))
 }
 
 /// A fact of a line or an object, the first one or one behind others.
@@ -102,14 +130,11 @@ pub(crate) fn write_fact<W: Write>(
 pub(crate) fn write_end_of_facts<W: Write>(out: &mut W, style: Style) -> io::Result<()>
     ensures { OnOk result (Appends (W.contents out.old) (W.contents out.new) (closing style)) }
 {
-    match style {
-        Style::Lines => out.write_all(b"\n"),
-        Style::Json => out.write_all(b"}\n"),
-    }
+    out.write_all(closing_of(style))
 }
 
-/// Facts as a line, or as an object. An error of the writer.
-pub fn write_facts<W: Write>(out: &mut W, style: Style, facts: &[Fact<'_>]) -> io::Result<()>
+/// Facts one by one, as a line or as an object.
+fn write_each_fact<W: Write>(out: &mut W, style: Style, facts: &[Fact<'_>]) -> io::Result<()>
     ensures { OnOk result (Appends (W.contents out.old) (W.contents out.new) (facts_text style facts.now)) }
 {
     write_opening(out, style)?;
@@ -117,4 +142,15 @@ pub fn write_facts<W: Write>(out: &mut W, style: Style, facts: &[Fact<'_>]) -> i
         write_fact(out, style, i == 0, *fact)?;
     }
     write_end_of_facts(out, style)
+}
+
+/// Facts as a line, or as an object. An error of the writer.
+pub fn write_facts<W: Write>(out: &mut W, style: Style, facts: &[Fact<'_>]) -> io::Result<()>
+    ensures { OnOk result (Appends (W.contents out.old) (W.contents out.new) (facts_text style facts.now)) }
+{
+    let mut line = [0; ROOM];
+    match put_facts(&mut line, style, facts) {
+        Some(start) => out.write_all(&line[start..]),
+        None => write_each_fact(out, style, facts),
+    }
 }

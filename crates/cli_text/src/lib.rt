@@ -6,6 +6,7 @@ mod behind;
 mod fact;
 mod header;
 mod hex_lines;
+mod line;
 mod logs;
 mod pages;
 mod report;

@@ -1,7 +1,7 @@
 use Rattle.std.proofs.Common.{◌++◌, map, take}
 use Rattle.std.specs.Io.KnownBytes.{Appends}
 use Rattle.cli_text.specs.Facts.{opening, between, fact_text, joined}
-use Rattle.cli_text.proofs.fact.write_facts.Given as goal
+use Rattle.cli_text.proofs.fact.write_each_fact.Given as goal
 
 abbrev pub invariant-loop-i : goal.invariant-loop-i
 invariant-loop-i g l =
