@@ -1,3 +1,4 @@
+pub mod DiffsOfFiles
 pub mod PagesWhole
 pub mod ReportsOfFiles
 pub mod ScriptsOfFound

@@ -1,3 +1,4 @@
+pub mod Diffs
 pub mod Pages
 pub mod Reports
 pub mod Salvages

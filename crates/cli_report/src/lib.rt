@@ -1,12 +1,17 @@
-//! What is made of what was found: a page of HTML, a script of SQL, and what is told behind rows.
+//! What is made of what was found: a page of HTML, a script of SQL, what changed between two commits, and what is told
+//! behind rows.
 #![tactic(auto)]
 
+mod difference;
+mod diffs;
 mod pages;
 mod reports;
 mod rows;
 mod salvages;
 
+pub use difference::Difference;
+pub use diffs::print_diff;
 pub use pages::Template;
 pub use reports::{VERSION, report_to, write_report};
-pub use rows::write_printed;
+pub use rows::{KEPT, write_printed};
 pub use salvages::salvage_to;

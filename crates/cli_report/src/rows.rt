@@ -12,6 +12,10 @@ use cli_words::Style;
 use sqpage::{CheckError, Fault};
 use std::io::{self, ErrorKind, Write};
 
+/// How many bytes of lines are kept back, so that nothing is printed of files that changed: as many as a header and
+/// what a page itself holds come to.
+pub const KEPT: usize = 1 << 19;
+
 /// Writes what stopped rows, behind those that were printed before.
 pub fn write_printed<W: Write, E: Write>(
     out: &mut W,

@@ -1,4 +1,3 @@
 pub mod ComesOfFound
-pub mod DiffsOfFiles
 pub mod GreatestStatus
 pub mod WordsEnd

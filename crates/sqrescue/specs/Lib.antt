@@ -1,5 +1,4 @@
 pub mod Comes
-pub mod Diffs
 pub mod Each
 pub mod Locking
 pub mod Reads

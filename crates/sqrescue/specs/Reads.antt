@@ -8,8 +8,8 @@ use Rattle.cli_show.specs.Limits.{limits_named}
 use Rattle.cli_show.specs.declared.error.ShowError.{ShowError}
 use Rattle.cli_show.specs.declared.views.Asked.{Asked}
 use Rattle.sqrescue.specs.Comes.{Comes}
-use Rattle.sqrescue.specs.Diffs.{DiffsTo}
 use Rattle.cli_recover.specs.Copies.{CopiesTo}
+use Rattle.cli_report.specs.Diffs.{DiffsTo}
 use Rattle.cli_report.specs.Reports.{ReportsTo}
 use Rattle.cli_report.specs.Salvages.{SalvagesTo}
 use Rattle.cli_job.specs.Sources.{IsAloneOf, IsSourceOf, IsUnsourced}
@@ -43,8 +43,7 @@ abbrev pub ReadsTo : {F : Type 0} → (bytes : OpenedFile F → List ℕ) → (g
 ReadsTo bytes gives (readings.Look look) source answer = Comes bytes gives source (command_of look source.options) answer
 ReadsTo bytes gives (readings.Copy to) source answer = (before after : Option (List ℕ)) × CopiesTo bytes gives source to.now answer before after
 ReadsTo bytes gives (readings.Report to changes) source answer = ReportsTo bytes gives source answer
-ReadsTo bytes gives (readings.Diff compared) source answer = DiffsTo bytes gives source compared answer
-ReadsTo bytes gives (readings.DeletedDiff between) source answer = Unit {0}
+ReadsTo bytes gives (readings.Diff difference) source answer = DiffsTo bytes gives source difference answer
 ReadsTo bytes gives (readings.Salvage to places) source answer = SalvagesTo bytes gives source places answer
 
 -- all of a log is read

@@ -18,6 +18,7 @@ use Rattle.cli_words.specs.declared.requests.Request.{Request}
 use Rattle.cli_words.specs.declared.requests.Request.TheVariants as requests
 use Rattle.cli_job.specs.Answers.{Tells, status_named}
 use Rattle.cli_recover.specs.Recovers.{RecoversTo}
+use Rattle.cli_report.specs.declared.difference.Difference.TheVariants as differences
 use Rattle.sqrescue.specs.Locking.{refusal_of}
 use Rattle.sqrescue.specs.Reads.{IsRead}
 use Rattle.cli_job.specs.declared.answers.Answer.{Answer}
@@ -29,7 +30,7 @@ use Rattle.sqrescue.specs.declared.readings.Read.{Read}
 use Rattle.sqrescue.specs.declared.readings.Task.{Task}
 use Rattle.sqrescue.specs.declared.readings.Task.TheVariants as tasks
 use Rattle.sqrescue.specs.declared.readings.Reading.{Reading}
-use Rattle.sqrescue.specs.declared.readings.Reading.TheVariants.{Look, Diff, DeletedDiff, Copy, Report, Salvage}
+use Rattle.sqrescue.specs.declared.readings.Reading.TheVariants.{Look, Diff, Copy, Report, Salvage}
 
 -- a reading of this file
 abbrev pub read_named : Reading → (file : Bor (List ℕ)) → Options → Read
@@ -42,8 +43,8 @@ task_of (requests.Check file deep options) = tasks.Read (read_named (Look (Damag
 task_of (requests.Rows file table form options) = tasks.Read (read_named (Look (Rows (record { table = table; form = form }))) file options)
 task_of (requests.Cells file (cells.Places table) options) = tasks.Read (read_named (Look (Places table)) file options)
 task_of (requests.Cells file cells.Deleted options) = tasks.Read (read_named (Look Deleted) file options)
-task_of (requests.Diff file compared options) = tasks.Read (read_named (Diff compared) file (record options { at = compared.to }))
-task_of (requests.DeletedDiff file between options) = tasks.Read (read_named (DeletedDiff between) file (record options { at = between.to }))
+task_of (requests.Diff file compared options) = tasks.Read (read_named (Diff (differences.Rows compared)) file (record options { at = compared.to }))
+task_of (requests.DeletedDiff file between options) = tasks.Read (read_named (Diff (differences.Deleted between)) file (record options { at = between.to }))
 task_of (requests.Recover file (Some to) force options) = tasks.Read (read_named (Copy to) file options)
 task_of (requests.Recover file None force options) = tasks.Recover file force options
 task_of (requests.Report file to changes options) = tasks.Read (read_named (Report to changes) file options)

@@ -10,7 +10,7 @@ use crate::pages::write_surveyed;
 use cli_facts::{Front, Notes, Refusal, SystemFile};
 use cli_files::{Count, Paths};
 use cli_job::{Answer, Command, Finding, Job};
-use cli_report::write_printed;
+use cli_report::{KEPT, write_printed};
 use cli_show::ShowError;
 use cli_words::Style;
 use sqview::FileBytes;
@@ -18,10 +18,6 @@ use std::alloc::Global;
 use std::io::{BufWriter, Write};
 use std::rt::Files;
 use std::time::Clock;
-
-/// How many bytes of lines are kept back, so that nothing is printed of files that changed: as many as a header and
-/// what a page itself holds come to.
-pub(crate) const KEPT: usize = 1 << 19;
 
 /// Carries out a command that reads the files of a database, and prints what it finds. No file is opened for writing,
 /// and none is made. Refused by `FileChanged` where a file changed meanwhile; of a part that is shown and of rows,

@@ -8,8 +8,6 @@ ghost use Rattle.sqrescue.specs.Each.{EndsWords};
 
 mod answers;
 mod checking;
-mod deleted_diffs;
-mod diffs;
 mod each;
 mod hints;
 mod locking;

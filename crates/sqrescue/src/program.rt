@@ -7,8 +7,6 @@ ghost use Rattle.sqrescue.specs.Reads.{IsRead, ReadsTo};
 ghost use Rattle.sqrescue.specs.Runs.{AsksHelp, ComesBy, ComesUnder, Ends, EndsUnasked, MayAskHelp};
 
 use crate::answers::answered;
-use crate::deleted_diffs::print_deleted_diff;
-use crate::diffs::print_diff;
 use crate::hints::{next_step, step_after_damage, step_after_rows};
 use crate::readings::{Read, Reading, Task, task_of};
 use cli_args::{LineError, request};
@@ -17,7 +15,7 @@ use cli_files::Progress;
 use cli_held::Locks;
 use cli_job::{Answer, Begun, Job, Source, Until, Watch, alone, source_of};
 use cli_recover::{recover, recover_to};
-use cli_report::{VERSION, report_to, salvage_to};
+use cli_report::{VERSION, print_diff, report_to, salvage_to};
 use cli_show::ShowError;
 use cli_words::{Options, Request, Style};
 use std::fmt::Display;
@@ -206,8 +204,7 @@ where
     };
     match reading {
         Reading::Look(look) => answered(&job, &look.command(source.options), out, notes),
-        Reading::Diff(compared) => print_diff(&job, compared, out, notes),
-        Reading::DeletedDiff(between) => print_deleted_diff(&job, between, out, notes),
+        Reading::Diff(difference) => print_diff(&job, difference, out, notes),
         Reading::Copy(to) => recover_to(&job, to, out, notes),
         Reading::Report { to, changes } => report_to(&job, (to, changes), out, notes),
         Reading::Salvage { to, places } => salvage_to(&job, (to, places), out, notes),

@@ -5,8 +5,9 @@ ghost use Rattle.sqrescue.specs.Runs.{read_named, task_of};
 
 use cli_dump::Wanted;
 use cli_job::Command;
+use cli_report::Difference;
 use cli_show::{Asked, limits_of};
-use cli_words::{Between, Cells, Compared, Options, Part, Request};
+use cli_words::{Cells, Options, Part, Request};
 use sqcheck::Options as Maps;
 
 /// What is looked for in the files.
@@ -26,8 +27,7 @@ pub(crate) enum Look<'a> {
 #[derive(Clone, Copy)]
 pub(crate) enum Reading<'a> {
     Look(Look<'a>),
-    Diff(Compared<'a>),
-    DeletedDiff(Between),
+    Diff(Difference<'a>),
     /// A file of this name is made.
     Copy(&'a str),
     /// changes: with those of each commit.
@@ -96,7 +96,6 @@ impl<'a> Reading<'a> {
                 false
             }
             Reading::Diff(_)
-            | Reading::DeletedDiff(_)
             | Reading::Copy(_)
             | Reading::Report { .. }
             | Reading::Salvage { .. } => { false }
@@ -152,7 +151,7 @@ pub(crate) fn task_of<'a>(request: Request<'a>) -> Task<'a>
             options,
         } => {
             let at = compared.to;
-            Reading::Diff(compared).of(file, Options { at, ..options })
+            Reading::Diff(Difference::Rows(compared)).of(file, Options { at, ..options })
         }
         Request::DeletedDiff {
             file,
@@ -160,7 +159,7 @@ pub(crate) fn task_of<'a>(request: Request<'a>) -> Task<'a>
             options,
         } => {
             let at = between.to;
-            Reading::DeletedDiff(between).of(file, Options { at, ..options })
+            Reading::Diff(Difference::Deleted(between)).of(file, Options { at, ..options })
         }
         Request::Recover {
             file,

@@ -2,38 +2,43 @@
 ghost use Rattle.std.specs.Prelude.{◌≡◌, IfErr, IfOk, true};
 ghost use Rattle.cli_files.specs.Files.{opened_bytes};
 ghost use Rattle.cli_job.specs.Opened.{GivesBytes, IsUnopened};
-ghost use Rattle.sqrescue.specs.Diffs.{AreNew, AreOpenedAt, Diffs, DiffsTo, compared_to, files_ahead};
+ghost use Rattle.cli_show.specs.Contents.{AreGiven, contents_of};
+ghost use Rattle.cli_report.specs.Diffs.{AreOpenedAt, Diffs, DiffsTo, ShowsBetween, up_to};
+ghost use Rattle.cli_report.specs.internal.Diffs.{AreNew, Compares, files_ahead};
 
-use crate::answers::KEPT;
-use cli_dump::{Printed, show_changes, show_history};
+use crate::difference::Difference;
+use crate::rows::{KEPT, write_printed};
+use cli_dump::{Printed, show_changes, show_deleted_changes, show_history};
 use cli_facts::{Notes, Refusal, SystemFile};
 use cli_files::{Count, OpenedFile};
 use cli_history::Files as Lent;
 use cli_job::{Answer, Job, Wants, open_all};
-use cli_report::write_printed;
 use cli_show::{Contents, ShowError, read_ahead};
-use cli_words::Compared;
-use sqview::ReadAhead;
+use cli_words::{Compared, Options};
+use sqview::{FileBytes, ReadAhead};
+use std::alloc::Global;
 use std::io::{BufWriter, Write};
 use std::rt::Files;
 use std::time::Clock;
 
-/// Prints which rows of a database file changed between two commits of its log, or what each of those between changed
-/// against the one before it. No file is opened for writing, and none is made. Refused by `FileChanged` where a file
-/// changed meanwhile; lines may have been printed then.
-pub(crate) fn print_diff<R: Files + AllocGlobal + Clock, M: Count, O: Write, E: Write>(
+/// Prints what changed in a database file between two commits of its log: which rows, or what each commit between those
+/// changed of them against the one before it, or which cells of deleted rows went and came. No file is opened for
+/// writing, and none is made. Refused by `FileChanged` where a file changed meanwhile; lines may have been printed
+/// then.
+pub fn print_diff<R: Files + AllocGlobal + Clock, M: Count, O: Write, E: Write>(
     job: &Job<'_, R, M>,
-    compared: Compared<'_>,
+    difference: Difference<'_>,
     out: &mut O,
     notes: &mut Notes<'_, E>,
 ) -> Result<Answer, ShowError>
 where
     R::File: SystemFile,
     ensures { DiffsTo (opened_bytes R.File.bytes)
-        (GivesBytes R.File.bytes R.File.keeps_word R.File.never_fails) job.entry.now.source.now compared.entry result }
+        (GivesBytes R.File.bytes R.File.keeps_word R.File.never_fails) job.entry.now.source.now
+        difference.entry result }
 {
     match BufWriter::with_capacity(job.rt.alloc(), KEPT, out) {
-        Ok(mut lines) => match changes_standing(job, compared, &mut lines, notes) {
+        Ok(mut lines) => match changes_standing(job, difference, &mut lines, notes) {
             Ok(printed) => write_printed(
                 &mut lines,
                 job.source.options.style,
@@ -53,7 +58,7 @@ where
 /// source.
 fn changes_standing<R: Files + AllocGlobal + Clock, M: Count, W: Write, E: Write>(
     job: &Job<'_, R, M>,
-    compared: Compared<'_>,
+    difference: Difference<'_>,
     out: &mut W,
     notes: &mut Notes<'_, E>,
 ) -> Result<Printed, Refusal>
@@ -61,11 +66,11 @@ where
     R::File: SystemFile,
     ensures { Diffs (opened_bytes R.File.bytes)
         (GivesBytes R.File.bytes R.File.keeps_word R.File.never_fails) job.entry.now.source.now
-        (compared_to job.entry.now.source.now compared.entry) result }
+        (up_to difference.entry job.entry.now.source.now.options.at) result }
 {
-    let to = job.source.options.at;
     let before = job.before(false, notes)?;
-    let printed = changes_now(job, Compared { to, ..compared }, out, notes);
+    let meant = difference.up_to(job.source.options.at);
+    let printed = changes_now(job, meant, out, notes);
     let front = match &printed {
         Ok(printed) => printed.front,
         Err(_) => None,
@@ -73,25 +78,74 @@ where
     job.standing(&before, (false, front), printed, notes)
 }
 
-/// The same of files that are opened for each of both commits.
+/// The same of files that are opened for it.
 fn changes_now<R: Files + AllocGlobal + Clock, M: Count, W: Write, E: Write>(
     job: &Job<'_, R, M>,
-    compared: Compared<'_>,
+    difference: Difference<'_>,
     out: &mut W,
     notes: &mut Notes<'_, E>,
 ) -> Result<Printed, Refusal>
 where
     R::File: SystemFile,
     ensures { Diffs (opened_bytes R.File.bytes)
-        (GivesBytes R.File.bytes R.File.keeps_word R.File.never_fails) job.entry.now.source.now compared.entry result }
+        (GivesBytes R.File.bytes R.File.keeps_word R.File.never_fails) job.entry.now.source.now
+        difference.entry result }
 {
-    if compared.commits {
-        return history_now(job, compared, out, notes);
+    match difference {
+        Difference::Rows(compared) => {
+            if compared.commits {
+                return history_now(job, compared, out, notes);
+            }
+            between_now(job, difference, out, notes)
+        }
+        Difference::Deleted(_) => between_now(job, difference, out, notes),
     }
-    let from = opened_at(job, Some(compared.from), notes)?;
-    match opened_at(job, compared.to, notes) {
-        Ok(to) => show_changes(job.rt.alloc(), from, to, job.source.options, compared, out),
+}
+
+/// What came of printing what changed between both commits, of files that are opened for each of them.
+fn between_now<R: Files + AllocGlobal + Clock, M: Count, W: Write, E: Write>(
+    job: &Job<'_, R, M>,
+    difference: Difference<'_>,
+    out: &mut W,
+    notes: &mut Notes<'_, E>,
+) -> Result<Printed, Refusal>
+where
+    R::File: SystemFile,
+    ensures { Compares (opened_bytes R.File.bytes)
+        (GivesBytes R.File.bytes R.File.keeps_word R.File.never_fails) job.entry.now.source.now
+        difference.entry result }
+{
+    let from = opened_at(job, Some(difference.first()), notes)?;
+    match opened_at(job, difference.last(), notes) {
+        Ok(to) => show_between(
+            job.rt.alloc(),
+            from,
+            to,
+            job.source.options,
+            difference,
+            out,
+        ),
         Err(refusal) => Err(refusal),
+    }
+}
+
+/// What came of printing it of files that were opened for both.
+fn show_between<F: FileBytes + Drop, W: Write>(
+    alloc: Global,
+    from: Contents<F>,
+    to: Contents<F>,
+    options: Options,
+    difference: Difference<'_>,
+    out: &mut W,
+) -> Result<Printed, Refusal>
+    ensures { AreGiven F.gives_bytes from → AreGiven F.gives_bytes to → ShowsBetween options difference.entry
+        (contents_of F.bytes from) (contents_of F.bytes to) result }
+{
+    match difference {
+        Difference::Rows(compared) => show_changes(alloc, from, to, options, compared, out),
+        Difference::Deleted(between) => show_deleted_changes(
+            alloc, from, to, options, between, out,
+        ),
     }
 }
 
@@ -106,7 +160,7 @@ where
     R::File: SystemFile,
     ensures { compared.entry.commits ≡ true → Diffs (opened_bytes R.File.bytes)
         (GivesBytes R.File.bytes R.File.keeps_word R.File.never_fails) job.entry.now.source.now
-        compared.entry result }
+        (Difference.Rows compared.entry) result }
 {
     let (paths, options) = (&job.source.paths, job.source.options);
     match open_all(job.rt, paths, options.super_journal, compared.to, notes) {
@@ -123,7 +177,7 @@ where
 }
 
 /// The files, opened for a commit of the log.
-pub(crate) fn opened_at<'a, R: Files + AllocGlobal, M, E: Write>(
+fn opened_at<'a, R: Files + AllocGlobal, M, E: Write>(
     job: &Job<'a, R, M>,
     at: Option<u32>,
     notes: &mut Notes<'_, E>,

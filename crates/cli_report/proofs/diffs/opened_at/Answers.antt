@@ -1,7 +1,6 @@
 use Rattle.std.proofs.Common.{inl, inr}
-use Rattle.sqrescue.proofs.DiffsOfFiles.{if_err, new_ahead, opened_ahead}
-use Rattle.sqrescue.proofs.WordsEnd.{if_ok}
-use Rattle.sqrescue.proofs.diffs.opened_at.Goals as goal
+use Rattle.cli_report.proofs.DiffsOfFiles.{if_err, if_ok, new_ahead, opened_ahead}
+use Rattle.cli_report.proofs.diffs.opened_at.Goals as goal
 
 pub returns-in-Ok-clause-opened : goal.returns-in-Ok-clause-opened
 returns-in-Ok-clause-opened g c = if_ok c.read_ahead.result (λ ahead unread. opened_ahead c.args.job.now.source.now c.args.at c.in-Ok.files ahead unread c.in-Ok.ensures.opened)

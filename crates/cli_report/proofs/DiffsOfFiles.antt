@@ -1,7 +1,9 @@
 -- What a diff comes to, by what was shown of the files that were opened for it.
-use Rattle.std.proofs.Common.{◌≡◌, ◌⊎◌, inl, inr, ⊎_elim, ℕ, Bool, true, false, List, Option, Some, refl, sym, subst}
+use Rattle.std.proofs.Common.{◌≡◌, ◌⊎◌, inl, inr, ⊎_elim, ℕ, Bool, true, false, List, Option, Some, sym, subst}
 use Rattle.std.specs.Prelude.{Result, Ok, Err, IfErr, IfOk, IsErrAnd}
+use Rattle.cli_words.specs.declared.requests.Between.{Between}
 use Rattle.cli_words.specs.declared.requests.Compared.{Compared}
+use Rattle.cli_words.specs.declared.requests.Options.{Options}
 use Rattle.cli_facts.specs.declared.outcome.Refusal.{Refusal}
 use Rattle.sqview.specs.declared.read_ahead.ReadAhead.{ReadAhead}
 use Rattle.sqview.specs.internal.Laid.{HoldsPart}
@@ -12,10 +14,19 @@ use Rattle.cli_show.specs.Contents.{AreGiven, AreUnread, contents_of}
 use Rattle.cli_show.specs.Limits.{limits_named}
 use Rattle.cli_show.specs.declared.contents.Contents.{Contents}
 use Rattle.cli_dump.specs.Changes.{AreChangesShown, IsUncompared}
+use Rattle.cli_dump.specs.DeletedChanges.{AreDeletedChangesShown, IsUnbetween}
 use Rattle.cli_dump.specs.History.{IsHistoryRefused, IsHistoryShown}
 use Rattle.cli_dump.specs.declared.rows.Printed.{Printed}
 use Rattle.cli_job.specs.declared.sources.Source.{Source}
-use Rattle.sqrescue.specs.Diffs.{AreNew, AreOpenedAt, ComparesOpened, Diffs, DiffsOpened, FollowsOpened, ShowsChanges, ShowsHistory, files_ahead, lent_bytes}
+use Rattle.cli_report.specs.Diffs.{AreOpenedAt, ComparesOpened, Diffs, FollowsOpened, RowsOpened, ShowsBetween, ShowsChanges, ShowsDeleted, ShowsHistory, first_of, last_of, lent_bytes}
+use Rattle.cli_report.specs.internal.Diffs.{AreNew, Compares, files_ahead}
+use Rattle.cli_report.specs.declared.difference.Difference.{Difference}
+use Rattle.cli_report.specs.declared.difference.Difference.TheVariants.{Rows}
+
+-- what holds of an answer, for what follows from that
+pub if_ok : {A E : Type 0} {P Q : A → Type 0} (answer : Result A E) → ((value : A) → P value → Q value) → IfOk answer P → IfOk answer Q
+if_ok (Ok value) so is = so value is
+if_ok (Err error) so is = tt
 
 -- what holds of a refusal, for what follows from that
 pub if_err : {A E : Type 0} {P Q : E → Type 0} (answer : Result A E) → ((error : E) → P error → Q error) → IfErr answer P → IfErr answer Q
@@ -43,24 +54,38 @@ new_gives bytes gives files new given = (
   (given.2, holds_nothing (bytes files.journal.file) files.journal.from files.journal.held files.journal.piece.items new.2),
 )
 
-module _ {F : Type 0} (bytes : OpenedFile F → List ℕ) (gives : OpenedFile F → Type 0) (source : Source) (compared : Compared) where
+-- the changes of rows, and those of deleted cells
+module _ (options : Options) (from to : Contents (List ℕ)) (before after : Option (List ℕ)) where
+  pub rows_shown : (compared : Compared) (found : Result Printed Refusal) → IfOk found (λ printed. AreChangesShown compared from to before after printed.ended)
+      → IfErr found (IsUncompared options compared from to) → ShowsChanges options compared from to found
+  rows_shown compared (Ok printed) is _ = (before, after, is)
+  rows_shown compared (Err refusal) _ is = is
+
+  pub deleted_shown : (between : Between) (found : Result Printed Refusal)
+      → IfOk found (λ printed. AreDeletedChangesShown options.style between from to before after printed.ended)
+      → IfErr found (IsUnbetween options between from to) → ShowsDeleted options between from to found
+  deleted_shown between (Ok printed) is _ = (before, after, is)
+  deleted_shown between (Err refusal) _ is = is
+
+module _ {F : Type 0} (bytes : OpenedFile F → List ℕ) (gives : OpenedFile F → Type 0) (source : Source) where
   -- what was shown stands, or the watch refuses it
-  pub diffs_stand : (found answer : Result Printed Refusal) → Diffs bytes gives source compared found → (answer ≡ found) ⊎ IsErrAnd answer IsFromWatch
-      → Diffs bytes gives source compared answer
-  diffs_stand found answer diffs = ⊎_elim (λ e. subst (λ (r : Result Printed Refusal). Diffs bytes gives source compared r) (sym e) diffs) (watched answer)
+  pub diffs_stand : (difference : Difference) (found answer : Result Printed Refusal) → Diffs bytes gives source difference found
+      → (answer ≡ found) ⊎ IsErrAnd answer IsFromWatch → Diffs bytes gives source difference answer
+  diffs_stand difference found answer diffs =
+      ⊎_elim (λ e. subst (λ (r : Result Printed Refusal). Diffs bytes gives source difference r) (sym e) diffs) (watched answer)
     where
-      watched : (answer : Result Printed Refusal) → IsErrAnd answer IsFromWatch → Diffs bytes gives source compared answer
+      watched : (answer : Result Printed Refusal) → IsErrAnd answer IsFromWatch → Diffs bytes gives source difference answer
       watched (Ok printed) is = absurd is
       watched (Err refusal) is = inr (inr (inr is))
 
   -- the changes of each commit
-  pub follows : (files : Contents (OpenedFile F)) (found : Result Printed Refusal) (before after : Option (List ℕ)) → AreOpenedAt source compared.to files
+  pub follows : (compared : Compared) (files : Contents (OpenedFile F)) (found : Result Printed Refusal) (before after : Option (List ℕ)) → AreOpenedAt source compared.to files
       → (AreGiven gives files → IfOk found (λ printed. IsHistoryShown (limits_named source.options.large) (lent_bytes (contents_of bytes files)) compared before after printed.ended))
       → (AreGiven gives files → IfErr found (IsHistoryRefused source.options (lent_bytes (contents_of bytes files)) compared before after))
-      → compared.commits ≡ true → Diffs bytes gives source compared found
-  follows files found before after opened shown refused asked =
+      → compared.commits ≡ true → Diffs bytes gives source (Rows compared) found
+  follows compared files found before after opened shown refused asked =
       let is : FollowsOpened bytes gives source compared found = record { files = files; opened = opened; shows = λ given. shows found (shown given) (refused given) } in
-      inl (subst (λ (commits : Bool). DiffsOpened bytes gives commits source compared found) (sym asked) is)
+      inl (subst (λ (commits : Bool). RowsOpened bytes gives commits source compared found) (sym asked) is)
     where
       shows : (found : Result Printed Refusal)
           → IfOk found (λ printed. IsHistoryShown (limits_named source.options.large) (lent_bytes (contents_of bytes files)) compared before after printed.ended)
@@ -70,31 +95,23 @@ module _ {F : Type 0} (bytes : OpenedFile F → List ℕ) (gives : OpenedFile F 
       shows (Err refusal) _ is = (before, after, is)
 
   -- those between both
-  pub compares : (old new : Contents (ReadAhead (OpenedFile F))) (found : Result Printed Refusal) (before after : Option (List ℕ))
-      → AreOpenedAt source (Some compared.from) (files_ahead old) → AreNew old → AreOpenedAt source compared.to (files_ahead new) → AreNew new
+  pub compares : (difference : Difference) (first : ℕ) (last : Option ℕ) (old new : Contents (ReadAhead (OpenedFile F))) (found : Result Printed Refusal)
+      → first ≡ first_of difference → last ≡ last_of difference
+      → AreOpenedAt source (Some first) (files_ahead old) → AreNew old → AreOpenedAt source last (files_ahead new) → AreNew new
       → (AreGiven (λ (a : ReadAhead (OpenedFile F)). gives a.file × HoldsPart (bytes a.file) a.from a.held a.piece.items) old
       → AreGiven (λ (a : ReadAhead (OpenedFile F)). gives a.file × HoldsPart (bytes a.file) a.from a.held a.piece.items) new
-      → IfOk found (λ printed. AreChangesShown compared (contents_of bytes (files_ahead old)) (contents_of bytes (files_ahead new)) before after printed.ended))
-      → (AreGiven (λ (a : ReadAhead (OpenedFile F)). gives a.file × HoldsPart (bytes a.file) a.from a.held a.piece.items) old
-      → AreGiven (λ (a : ReadAhead (OpenedFile F)). gives a.file × HoldsPart (bytes a.file) a.from a.held a.piece.items) new
-      → IfErr found (IsUncompared source.options compared (contents_of bytes (files_ahead old)) (contents_of bytes (files_ahead new))))
-      → compared.commits ≡ false → Diffs bytes gives source compared found
-  compares old new found before after old_opened old_new new_opened new_new shown refused asked =
-      let is : ComparesOpened bytes gives source compared found = record {
-        old = files_ahead old;
-        new = files_ahead new;
-        old_opened = old_opened;
-        new_opened = new_opened;
-        shows = λ given also.
-            let first = new_gives bytes gives old old_new given in
-            let second = new_gives bytes gives new new_new also in
-            shows found (shown first second) (refused first second);
-      } in
-      inl (subst (λ (commits : Bool). DiffsOpened bytes gives commits source compared found) (sym asked) is)
-    where
-      shows : (found : Result Printed Refusal)
-          → IfOk found (λ printed. AreChangesShown compared (contents_of bytes (files_ahead old)) (contents_of bytes (files_ahead new)) before after printed.ended)
-          → IfErr found (IsUncompared source.options compared (contents_of bytes (files_ahead old)) (contents_of bytes (files_ahead new)))
-          → ShowsChanges source.options compared (contents_of bytes (files_ahead old)) (contents_of bytes (files_ahead new)) found
-      shows (Ok printed) is _ = (before, after, is)
-      shows (Err refusal) _ is = is
+      → ShowsBetween source.options difference (contents_of bytes (files_ahead old)) (contents_of bytes (files_ahead new)) found)
+      → ComparesOpened bytes gives source difference found
+  compares difference first last old new found is_first is_last old_opened old_new new_opened new_new shows = record {
+    old = files_ahead old;
+    new = files_ahead new;
+    old_opened = subst (λ (n : ℕ). AreOpenedAt source (Some n) (files_ahead old)) is_first old_opened;
+    new_opened = subst (λ (at : Option ℕ). AreOpenedAt source at (files_ahead new)) is_last new_opened;
+    shows = λ given also. shows (new_gives bytes gives old old_new given) (new_gives bytes gives new new_new also);
+  }
+
+  -- of rows they are what is printed where each commit's aren't asked for
+  pub rows_compared : (compared : Compared) (found : Result Printed Refusal) → Compares bytes gives source (Rows compared) found → compared.commits ≡ false
+      → Diffs bytes gives source (Rows compared) found
+  rows_compared compared found is asked =
+      ⊎_elim (λ shown. inl (subst (λ (commits : Bool). RowsOpened bytes gives commits source compared found) (sym asked) shown)) (λ refused. inr refused) is

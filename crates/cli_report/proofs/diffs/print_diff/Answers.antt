@@ -1,7 +1,7 @@
 use Rattle.std.proofs.Common.{inl, inr, refl}
 use Rattle.std.specs.Prelude.{Ok, Err}
 use Rattle.cli_facts.specs.declared.outcome.Refusal.TheVariants.{NoMemory}
-use Rattle.sqrescue.proofs.diffs.print_diff.Goals as goal
+use Rattle.cli_report.proofs.diffs.print_diff.Goals as goal
 
 pub returns-in-Ok-changes_standing : goal.returns-in-Ok-changes_standing
 returns-in-Ok-changes_standing g c = (Ok c.in-Ok-changes_standing.printed, c.in-Ok-changes_standing.ensures, c.write_printed.ensures)

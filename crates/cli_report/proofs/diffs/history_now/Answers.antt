@@ -1,8 +1,8 @@
 use Rattle.std.proofs.Common.{inl, inr}
 use Rattle.cli_files.specs.Files.{opened_bytes}
 use Rattle.cli_job.specs.Opened.{GivesBytes}
-use Rattle.sqrescue.proofs.DiffsOfFiles.{follows}
-use Rattle.sqrescue.proofs.diffs.history_now.Goals as goal
+use Rattle.cli_report.proofs.DiffsOfFiles.{follows}
+use Rattle.cli_report.proofs.diffs.history_now.Goals as goal
 
 pub returns-in-Ok : goal.returns-in-Ok
 returns-in-Ok g c =
