@@ -301,6 +301,13 @@ pub(crate) fn deleted_arg<'a>(alloc: Global) -> Made<Arg<'a>> {
     without(without(arg, "places"), "table")
 }
 
+/// Whether all that stands of deleted rows is printed.
+pub(crate) fn all_deleted_arg<'a>(alloc: Global) -> Made<Arg<'a>> {
+    let help =
+        "Prints behind them those in frames of the log that aren't shown: later ones, and ones written over";
+    only_with(flag(alloc, "all", help), "deleted")
+}
+
 /// Whether the changes of deleted rows' cells are printed.
 pub(crate) fn deleted_changes_arg<'a>(alloc: Global) -> Made<Arg<'a>> {
     let help =

@@ -1,11 +1,12 @@
 //! The commands and their options. Each function takes and gives a `Result`, and none exits early: a command that is
 //! half made has much to let go.
 use crate::arguments::{
-    Made, all_arg, at_arg, cells_arg, changed_table_arg, changes_arg, commits_arg, copy_arg,
-    csv_arg, deep_arg, deleted_arg, deleted_changes_arg, each_commit_arg, file_arg, files_arg,
-    force_arg, from_arg, json_arg, large_arg, log_arg, no_lock_arg, only_with, page_arg, pages_arg,
-    places_arg, pointer_maps_arg, report_arg, script_arg, script_file_arg, shown_maps_arg, sql_arg,
-    super_journal_arg, table_arg, until_arg, verbose_arg, version_arg, wait_arg,
+    Made, all_arg, all_deleted_arg, at_arg, cells_arg, changed_table_arg, changes_arg, commits_arg,
+    copy_arg, csv_arg, deep_arg, deleted_arg, deleted_changes_arg, each_commit_arg, file_arg,
+    files_arg, force_arg, from_arg, json_arg, large_arg, log_arg, no_lock_arg, only_with, page_arg,
+    pages_arg, places_arg, pointer_maps_arg, report_arg, script_arg, script_file_arg,
+    shown_maps_arg, sql_arg, super_journal_arg, table_arg, until_arg, verbose_arg, version_arg,
+    wait_arg,
 };
 use crate::texts::{ALL, CHECK, DIFF, RECOVER, REPORT, ROWS, SALVAGE, SHOW};
 use clap::{Arg, Command};
@@ -89,7 +90,8 @@ fn rows_command<'a>(alloc: Global) -> Made<Command<'a>> {
     let command = with_arg(command, csv_arg(alloc));
     let command = with_arg(command, sql_arg(alloc));
     let command = with_arg(command, cells_arg(alloc));
-    with_arg(command, deleted_arg(alloc))
+    let command = with_arg(command, deleted_arg(alloc));
+    with_arg(command, all_deleted_arg(alloc))
 }
 
 fn diff_command<'a>(alloc: Global) -> Made<Command<'a>> {

@@ -1,2 +1,3 @@
 mod CommitsKept
 pub mod PlacesShown
+pub mod DeletedShown

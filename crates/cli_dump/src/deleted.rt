@@ -1,39 +1,70 @@
 //! What still stands of deleted rows of a database as its log has it.
-ghost use Rattle.std.specs.Prelude.{IfErr, IfOk};
+ghost use Rattle.std.specs.Prelude.{IfErr, IfOk, OnOk};
+ghost use Rattle.sqview.specs.LogView.{pages_of};
 ghost use Rattle.cli_show.specs.Contents.{AreGiven};
 ghost use Rattle.cli_show.specs.Fronts.{IsAskedFront};
 ghost use Rattle.cli_show.specs.Views.{IsUnasked};
-ghost use Rattle.cli_dump.specs.Deleted.{AreDeletedShown};
+ghost use Rattle.cli_show_frames.specs.Frames.{IsFramed};
+ghost use Rattle.cli_dump.specs.Deleted.{AreCellsPrinted, AreCellsStopped, AreDeletedShown};
 
 use crate::rows::Printed;
 use cli_facts::{Front, Refusal};
 use cli_show::{Contents, limits_of, view_of};
 use cli_show_deleted::print_deleted;
-use cli_words::Options;
-use sqview::FileBytes;
+use cli_show_frames::print_all_deleted;
+use cli_show_rows::Stop;
+use cli_words::{Options, Style};
+use sqview::{FileBytes, View};
 use std::alloc::Global;
 use std::io::Write;
 
-/// Prints the cells of deleted rows that still stand in the pages of a database as its log has it. Refused as the view
-/// is; where they aren't printed to their end, those before stand.
+/// Prints the cells of deleted rows that still stand in the pages of a view; all: also those in the frames of its log
+/// that it doesn't show.
+fn print_cells<F: FileBytes + Drop, W: Write>(
+    alloc: Global,
+    view: View<F>,
+    style: Style,
+    all: bool,
+    out: &mut W,
+) -> Result<(), Stop>
+    ensures ok { F.gives_bytes view.db × F.gives_bytes view.log → IsFramed F.bytes view
+        → OnOk result (AreCellsPrinted all view.page_size (F.bytes view.log) view.front (pages_of F.bytes view)
+        style (W.contents out.old) (W.contents out.new)) }
+    ensures err { F.gives_bytes view.db × F.gives_bytes view.log → IfErr result (λ stop. AreCellsStopped all
+        view.page_size (pages_of F.bytes view) style stop (W.contents out.old) (W.contents out.new)) }
+{
+    match all {
+        true => print_all_deleted(alloc, view, style, out),
+        false => {
+            let mut view = view;
+            print_deleted(alloc, &mut view, style, out)
+        }
+    }
+}
+
+/// Prints the cells of deleted rows that still stand in the pages of a database as its log has it; all: also those in
+/// the frames of the log that it doesn't show then. Refused as the view is; where they aren't printed to their end,
+/// those before stand.
 pub fn show_deleted<F: FileBytes + Drop, W: Write>(
     alloc: Global,
     files: Contents<F>,
     options: Options,
+    all: bool,
     out: &mut W,
 ) -> Result<Printed, Refusal>
     ensures front { AreGiven F.gives_bytes files → IfOk result (λ printed.
         IsAskedFront options.at (F.bytes files.wal) (F.bytes files.journal) printed.front) }
-    ensures shown { AreGiven F.gives_bytes files → IfOk result (λ printed. AreDeletedShown options (F.bytes files.db)
-        (F.bytes files.wal) (F.bytes files.journal) (W.contents out.old) (W.contents out.new) printed.ended) }
+    ensures shown { AreGiven F.gives_bytes files → IfOk result (λ printed. AreDeletedShown options all
+        (F.bytes files.db) (F.bytes files.wal) (F.bytes files.journal) (W.contents out.old) (W.contents out.new)
+        printed.ended) }
     ensures refused { AreGiven F.gives_bytes files → IfErr result
         (IsUnasked options (F.bytes files.db) (F.bytes files.wal) (F.bytes files.journal)) }
 {
     let Contents { db, wal, journal } = files;
     match view_of(alloc, limits_of(options), db, wal, journal, options.at) {
-        Ok(mut view) => {
+        Ok(view) => {
             let front = Front::of_view(&view);
-            let ended = print_deleted(alloc, &mut view, options.style, out);
+            let ended = print_cells(alloc, view, options.style, all, out);
             Ok(Printed { front, ended })
         }
         Err(error) => Err(Refusal::from(error)),

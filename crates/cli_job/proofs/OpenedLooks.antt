@@ -34,10 +34,10 @@ damage_prints_nothing bytes gives (Places table) options files (Checked found) b
 damage_prints_nothing bytes gives (Places table) options files (Surveyed found) before after finds damage = absurd finds
 damage_prints_nothing bytes gives (Places table) options files (Shown shown) before after finds damage = absurd damage
 damage_prints_nothing bytes gives (Places table) options files (Printed printed) before after finds damage = absurd damage
-damage_prints_nothing bytes gives Deleted options files (Checked found) before after finds damage = absurd finds
-damage_prints_nothing bytes gives Deleted options files (Surveyed found) before after finds damage = absurd finds
-damage_prints_nothing bytes gives Deleted options files (Shown shown) before after finds damage = absurd damage
-damage_prints_nothing bytes gives Deleted options files (Printed printed) before after finds damage = absurd damage
+damage_prints_nothing bytes gives (Deleted all) options files (Checked found) before after finds damage = absurd finds
+damage_prints_nothing bytes gives (Deleted all) options files (Surveyed found) before after finds damage = absurd finds
+damage_prints_nothing bytes gives (Deleted all) options files (Shown shown) before after finds damage = absurd damage
+damage_prints_nothing bytes gives (Deleted all) options files (Printed printed) before after finds damage = absurd damage
 
 module _ {F : Type 0} (bytes : F → List ℕ) (gives given : F → Type 0) (files : Contents F) (give : AreGiven given files → AreGiven gives files) where
   checks : (command : Command) (options : Options) (answer : Result (Finding F) Refusal) (before after : Option (List ℕ))
@@ -67,11 +67,11 @@ module _ {F : Type 0} (bytes : F → List ℕ) (gives given : F → Type 0) (fil
   checks (Places table) options (Ok (Shown found)) before after finds = finds
   checks (Places table) options (Ok (Printed found)) before after finds = λ g. finds (give g)
   checks (Places table) options (Err refusal) before after finds = λ g. finds (give g)
-  checks Deleted options (Ok (Checked found)) before after finds = finds
-  checks Deleted options (Ok (Surveyed found)) before after finds = finds
-  checks Deleted options (Ok (Shown found)) before after finds = finds
-  checks Deleted options (Ok (Printed found)) before after finds = λ g. finds (give g)
-  checks Deleted options (Err refusal) before after finds = λ g. finds (give g)
+  checks (Deleted all) options (Ok (Checked found)) before after finds = finds
+  checks (Deleted all) options (Ok (Surveyed found)) before after finds = finds
+  checks (Deleted all) options (Ok (Shown found)) before after finds = finds
+  checks (Deleted all) options (Ok (Printed found)) before after finds = λ g. finds (give g)
+  checks (Deleted all) options (Err refusal) before after finds = λ g. finds (give g)
 
 -- what is found of files that give their bytes while nothing else is asked of them than that the opened ones do
 pub found_of_given : {F : Type 0} (bytes : F → List ℕ) (gives given : F → Type 0) (files : Contents F) → (AreGiven given files → AreGiven gives files)

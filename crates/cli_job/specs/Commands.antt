@@ -90,13 +90,13 @@ PrintsPlaces bytes gives table options files (Ok _) before after = ⊥
 PrintsPlaces bytes gives table options files (Err refusal) before after = AreGiven gives files
     → IsUnasked options (bytes files.db) (bytes files.wal) (bytes files.journal) refusal
 
--- what was printed of deleted rows, or why of none
-abbrev pub PrintsDeleted : {F : Type 0} → (bytes : F → List ℕ) → (gives : F → Type 0) → Options → Contents F → Result (Finding F) Refusal
+-- what was printed of deleted rows, all of it where that is asked for, or why of none
+abbrev pub PrintsDeleted : {F : Type 0} → (bytes : F → List ℕ) → (gives : F → Type 0) → (all : Bool) → Options → Contents F → Result (Finding F) Refusal
     → (before after : Option (List ℕ)) → Type 0
-PrintsDeleted bytes gives options files (Ok (Printed printed)) before after = AreGiven gives files
-    → AreDeletedShown options (bytes files.db) (bytes files.wal) (bytes files.journal) before after printed.ended
-PrintsDeleted bytes gives options files (Ok _) before after = ⊥
-PrintsDeleted bytes gives options files (Err refusal) before after = AreGiven gives files
+PrintsDeleted bytes gives all options files (Ok (Printed printed)) before after = AreGiven gives files
+    → AreDeletedShown options all (bytes files.db) (bytes files.wal) (bytes files.journal) before after printed.ended
+PrintsDeleted bytes gives all options files (Ok _) before after = ⊥
+PrintsDeleted bytes gives all options files (Err refusal) before after = AreGiven gives files
     → IsUnasked options (bytes files.db) (bytes files.wal) (bytes files.journal) refusal
 
 -- What a command finds of files, and prints meanwhile; a check and a survey print nothing.
@@ -107,7 +107,7 @@ Finds bytes gives (Pages asked) options files answer before after = SurveysFiles
 Finds bytes gives (Show part) options files answer before after = ShowsPart bytes gives part options files answer before after
 Finds bytes gives (Rows wanted) options files answer before after = PrintsRows bytes gives wanted options files answer before after
 Finds bytes gives (Places table) options files answer before after = PrintsPlaces bytes gives table options files answer before after
-Finds bytes gives Deleted options files answer before after = PrintsDeleted bytes gives options files answer before after
+Finds bytes gives (Deleted all) options files answer before after = PrintsDeleted bytes gives all options files answer before after
 
 -- damage that a further look may find to be none
 abbrev pub IsDamage : {F : Type 0} → Finding F → Type 0
@@ -121,7 +121,7 @@ abbrev pub prints_meanwhile : Command → Bool
 prints_meanwhile (Show part) = true
 prints_meanwhile (Rows wanted) = true
 prints_meanwhile (Places table) = true
-prints_meanwhile Deleted = true
+prints_meanwhile (Deleted all) = true
 prints_meanwhile _ = false
 
 -- the front of the log at which a command found this, none where a part isn't shown

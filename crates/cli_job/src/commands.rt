@@ -33,8 +33,8 @@ pub enum Command<'a> {
     Rows(Wanted<'a>),
     /// Where rows stand: those of the table of this name. None: of each table.
     Places(Option<&'a str>),
-    /// What still stands of deleted rows.
-    Deleted,
+    /// What still stands of deleted rows; all: also in the frames of the log that aren't shown.
+    Deleted { all: bool },
 }
 
 /// How files are read for a command.
@@ -85,7 +85,7 @@ impl Command<'_> {
                 is_counted: false,
             },
             Command::Rows(_) | Command::Places(_) => Wants::UNCOUNTED,
-            Command::Deleted => Wants::PAGES,
+            Command::Deleted { .. } => Wants::PAGES,
         }
     }
 
@@ -96,7 +96,7 @@ impl Command<'_> {
     {
         matches!(
             self,
-            Command::Show(_) | Command::Rows(_) | Command::Places(_) | Command::Deleted
+            Command::Show(_) | Command::Rows(_) | Command::Places(_) | Command::Deleted { .. }
         )
     }
 }
@@ -144,7 +144,7 @@ pub(crate) fn find<F: FileBytes + Drop, W: Write>(
         Command::Show(part) => Ok(Finding::Shown(shown(alloc, *part, options, files, out))),
         Command::Rows(wanted) => printed(alloc, *wanted, options, files, out),
         Command::Places(table) => placed(alloc, *table, options, files, out),
-        Command::Deleted => deleted(alloc, options, files, out),
+        Command::Deleted { all } => deleted(alloc, *all, options, files, out),
     }
 }
 
@@ -242,13 +242,14 @@ fn placed<F: FileBytes + Drop, W: Write>(
 /// Prints what still stands of deleted rows.
 fn deleted<F: FileBytes + Drop, W: Write>(
     alloc: Global,
+    all: bool,
     options: Options,
     files: Contents<F>,
     out: &mut W,
 ) -> Result<Finding<F>, Refusal>
-    ensures { PrintsDeleted F.bytes F.gives_bytes options files result (W.contents out.old) (W.contents out.new) }
+    ensures { PrintsDeleted F.bytes F.gives_bytes all options files result (W.contents out.old) (W.contents out.new) }
 {
-    match show_deleted(alloc, files, options, out) {
+    match show_deleted(alloc, files, options, all, out) {
         Ok(printed) => Ok(Finding::Printed(printed)),
         Err(refusal) => Err(refusal),
     }

@@ -1,5 +1,6 @@
 -- The view that is asked for, and what is found there.
 use Rattle.std.specs.Prelude.{◌≡◌, Option, None, Some, ℕ, Bool, List, Result}
+use Rattle.sqjournal.specs.Journal.{IsHot}
 use Rattle.sqval.specs.Limits.{Bounds}
 use Rattle.sqval.specs.Database.{Database}
 use Rattle.sqview.specs.At.{ViewsAt, AtRefusedWithin, AtAnswerWithin}
@@ -21,6 +22,11 @@ abbrev pub AskedAnswer : {F : Type 0} → (limits : Bounds) (bytes : F → List 
     → Result (View F) ViewError → Type 0
 AskedAnswer limits bytes None db wal journal answer = ViewAnswerWithin limits bytes db wal journal answer
 AskedAnswer limits bytes (Some m) db wal journal answer = AtAnswerWithin limits bytes m db wal journal answer
+
+-- whose bytes it reads a log's pages from: where no commit is named a hot journal's, otherwise the write-ahead log's
+abbrev pub ReadsLog : (at : Option ℕ) → (wal journal log : List ℕ) → Type 0
+ReadsLog None wal journal log = (IsHot journal → log ≡ journal) × ((¬ IsHot journal) → log ≡ wal)
+ReadsLog (Some m) wal journal log = log ≡ wal
 
 -- and what is found there, with pointer maps or without
 abbrev pub IsFound : (maps : Bool) → (limits : Bounds) → (at : Option ℕ) → (db wal journal : List ℕ) → Verdict → Type 0

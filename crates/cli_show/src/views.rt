@@ -3,7 +3,7 @@ ghost use Rattle.std.specs.Prelude.{◌≡◌, ◌⊎◌, Err, IfErr, IfOk, None
 ghost use Rattle.cli_facts.specs.internal.Refusals.{refusal_of_judge};
 ghost use Rattle.sqview.specs.declared.judge_error.JudgeError.{JudgeError};
 ghost use Rattle.cli_show.specs.Fronts.{IsAskedFront};
-ghost use Rattle.cli_show.specs.Views.{AskedAnswer, IsFound, IsHeadless, IsNotFound};
+ghost use Rattle.cli_show.specs.Views.{AskedAnswer, IsFound, IsHeadless, IsNotFound, ReadsLog};
 
 use cli_facts::{Front, Refusal};
 use sqcheck::Options as Maps;
@@ -24,6 +24,8 @@ pub fn view_of<F: FileBytes + Drop>(
         → AskedAnswer limits F.bytes at (F.bytes db) (F.bytes wal) (F.bytes journal) result }
     ensures still_gives { F.gives_bytes db × F.gives_bytes wal × F.gives_bytes journal
         → IfOk result (λ view. F.gives_bytes view.db × F.gives_bytes view.log) }
+    ensures reads { F.gives_bytes db × F.gives_bytes wal × F.gives_bytes journal
+        → IfOk result (λ view. ReadsLog at (F.bytes wal) (F.bytes journal) (F.bytes view.log)) }
 {
     match at {
         Some(frame) => View::at_within(alloc, limits, db, wal, journal, frame),

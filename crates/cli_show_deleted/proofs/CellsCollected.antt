@@ -89,7 +89,7 @@ none_without role used number empty at c stands =
     let within : c.end ≤ length used = has.within in
     omega (arith, cell_takes used at c has, within, empty)
 
-every_in : {A : Type 0} (P : A → Type 0) (xs : List A) (x : A) → Every P xs → In x xs → P x
+pub every_in : {A : Type 0} (P : A → Type 0) (xs : List A) (x : A) → Every P xs → In x xs → P x
 every_in P [] x all i = absurd i
 every_in P (y ∷ ys) x all (inl e) = subst P (sym e) all.0
 every_in P (y ∷ ys) x all (inr i) = every_in P ys x all.1 i

@@ -14,3 +14,5 @@ pub mod TurnsOfCells
 pub mod PagesBetween
 -- Cells of a page that lost their first four bytes, one more at the end.
 pub mod CutsTold
+-- The cells of an image, one more at the end, and those of them that are told.
+pub mod ImagesTold

@@ -12,7 +12,7 @@ use Rattle.cli_row_text.specs.declared.form.Form.{Form}
 use Rattle.cli_show_rows.specs.declared.stop.Stop.{Stop}
 use Rattle.cli_show_rows.specs.declared.stop.Stop.TheVariants.{Fault, Encoding, NoMemory}
 use Rattle.cli_show_deleted.specs.Printed.{AreTextsOf, IsRunOut, IsSurveyOf, IsTextOf, IsUnfit}
-use Rattle.cli_show_deleted.specs.internal.Opening.{IsUnlaid}
+use Rattle.cli_show_deleted.specs.Opening.{IsUnlaid}
 
 -- the first pages were printed
 abbrev pub AreDone : Form → Database → List Role → (n : ℕ) → (before after : Option (List ℕ)) → Type 0

@@ -2,6 +2,8 @@ pub mod Cells
 pub mod CutCells
 pub mod CutLines
 pub mod Changes
+pub mod Images
 pub mod Lines
+pub mod Opening
 pub mod Printed
 pub mod internal

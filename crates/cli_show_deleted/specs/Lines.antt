@@ -9,9 +9,9 @@ use Rattle.cli_row_text.specs.Lines.{AreTexts, integer_text}
 use Rattle.sqdeleted.specs.Deleted.{StandWhole}
 use Rattle.sqdeleted.specs.declared.cell.DeletedCell.{DeletedCell}
 use Rattle.cli_show_deleted.specs.declared.mark.Mark.{Mark}
-use Rattle.cli_show_deleted.specs.declared.mark.Mark.TheVariants.{Stands, Went, Came}
+use Rattle.cli_show_deleted.specs.declared.mark.Mark.TheVariants.{Stands, Went, Came, InFrame}
 
--- what stands before the page of a cell: that it went, or came, where changes are told
+-- what stands before the page of a cell: that it went, or came, where changes are told, or the frame that has its page
 abbrev pub opening_text : Mark → Notation → List ℕ
 opening_text Stands Json = codes "{"
 opening_text Stands _ = []
@@ -19,6 +19,8 @@ opening_text Went Json = codes "{\"change\":\"delete\","
 opening_text Went _ = codes "- "
 opening_text Came Json = codes "{\"change\":\"insert\","
 opening_text Came _ = codes "+ "
+opening_text (InFrame frame) Json = codes "{\"frame\":" ++ (decimal frame ++ codes ",")
+opening_text (InFrame frame) _ = codes "frame " ++ (decimal frame ++ codes " ")
 
 -- the page of a cell and its place there, before its rowid
 abbrev pub place_text : Notation → DeletedCell → List ℕ

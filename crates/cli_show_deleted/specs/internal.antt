@@ -1,5 +1,5 @@
 -- What no public clause reaches.
 pub mod Walks
-pub mod Opening
 pub mod Candidates
+pub mod Images
 pub mod Surveys

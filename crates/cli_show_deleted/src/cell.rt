@@ -25,11 +25,13 @@ pub(crate) fn write_opening<W: Write>(out: &mut W, mark: Mark, notation: Notatio
             Mark::Stands => out.write_all(b"{"),
             Mark::Went => out.write_all(b"{\"change\":\"delete\","),
             Mark::Came => out.write_all(b"{\"change\":\"insert\","),
+            Mark::InFrame(frame) => write!(out, "{{\"frame\":{frame},"),
         },
         Notation::Csv | Notation::Sql => match mark {
             Mark::Stands => out.write_all(b""),
             Mark::Went => out.write_all(b"- "),
             Mark::Came => out.write_all(b"+ "),
+            Mark::InFrame(frame) => write!(out, "frame {frame} "),
         },
     }
 }

@@ -6,10 +6,12 @@ use std::alloc::Global;
 
 /// How many bytes of each page are used, and how values are written.
 #[derive(Clone, Copy)]
-pub(crate) struct Layout {
-    pub(crate) alloc: Global,
-    pub(crate) usable: usize,
-    pub(crate) form: Form,
+pub struct Layout {
+    pub alloc: Global,
+    /// How many bytes of each page are used.
+    pub usable: usize,
+    /// How values are written.
+    pub form: Form,
     ghost least: { 480 ≤ usable },
     ghost most: { usable ≤ 65536 },
 }

@@ -7,6 +7,7 @@ mod changed;
 mod cut_line;
 mod cut_page;
 mod deleted;
+mod image;
 mod layout;
 mod mark;
 mod opening;
@@ -17,3 +18,7 @@ mod turn;
 
 pub use changed::print_deleted_changes;
 pub use deleted::print_deleted;
+pub use image::{Image, print_image};
+pub use layout::Layout;
+pub use opening::layout_in;
+pub use surveyed::notation_in;

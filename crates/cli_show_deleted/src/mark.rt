@@ -9,4 +9,6 @@ pub(crate) enum Mark {
     Went,
     /// That it stands there in a new database, and didn't in an old one.
     Came,
+    /// That it stands there in the image of its page that this frame of a log has.
+    InFrame(u64),
 }

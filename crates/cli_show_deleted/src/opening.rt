@@ -4,7 +4,7 @@ ghost use Rattle.sqval.specs.Database.{page};
 ghost use Rattle.sqpage.specs.Freelist.{IsPage};
 ghost use Rattle.sqpage.specs.Source.{KeepsPages};
 ghost use Rattle.cli_show_deleted.specs.Printed.{IsRunOut};
-ghost use Rattle.cli_show_deleted.specs.internal.Opening.{IsLayoutIn, IsUnlaid};
+ghost use Rattle.cli_show_deleted.specs.Opening.{IsLayoutIn, IsUnlaid};
 
 use crate::layout::Layout;
 use byteorder::{BigEndian, ByteOrder};
@@ -17,8 +17,9 @@ use std::alloc::Global;
 /// The least usable size of a page.
 pub(crate) const LEAST_USABLE: usize = 480;
 
-/// What the bytes of page 1 say.
-fn layout_in(alloc: Global, bytes: &[u8], notation: Notation) -> Result<Layout, Stop>
+/// What the bytes of page 1 say. Refused by Reserved at page 1 where fewer than 480 bytes of a page are usable, and by
+/// `Encoding` where the encoding of texts isn't known.
+pub fn layout_in(alloc: Global, bytes: &[u8], notation: Notation) -> Result<Layout, Stop>
     requires { (512 ≤ length bytes.now) × (length bytes.now ≤ 65536) }
     ensures ok { IfOk result (IsLayoutIn notation bytes.now) }
     ensures err { IfErr result (IsUnlaid bytes.now) }

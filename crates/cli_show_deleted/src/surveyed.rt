@@ -25,7 +25,7 @@ pub(crate) struct Pages {
 }
 
 /// The notation of values.
-fn notation_in(style: Style) -> Notation
+pub fn notation_in(style: Style) -> Notation
     ensures { result ≡ notation_in style }
 {
     match style {

@@ -114,7 +114,7 @@ IsOwn Checks word = word ≡ codes "--deep"
 IsOwn Recovers word = (word ≡ codes "--force") ⊎ IsNamed (codes "--to") word
 IsOwn Reports word = (word ≡ codes "--changes") ⊎ IsNamed (codes "--to") word
 IsOwn Prints word = (word ≡ codes "--csv") ⊎ (word ≡ codes "--sql") ⊎ (word ≡ codes "--places") ⊎ (word ≡ codes "--deleted")
-    ⊎ IsNamed (codes "--table") word
+    ⊎ (word ≡ codes "--all") ⊎ IsNamed (codes "--table") word
 IsOwn Salvages word = (word ≡ codes "--places") ⊎ IsNamed (codes "--to") word
 IsOwn Compares word = (word ≡ codes "--sql") ⊎ (word ≡ codes "--commits") ⊎ (word ≡ codes "--deleted") ⊎ IsNamed (codes "--table") word
     ⊎ IsNamed (codes "--from") word ⊎ IsNamed (codes "--to") word
@@ -195,22 +195,27 @@ AsksNoForm options = (Contains options (codes "--json") × Contains options (cod
 
 -- they ask for no places of cells
 abbrev pub AsksNoPlaces : (options : List (List ℕ)) → Type 0
-AsksNoPlaces options = (¬ Contains options (codes "--places")) × (¬ Contains options (codes "--deleted"))
+AsksNoPlaces options =
+    (¬ Contains options (codes "--places")) × (¬ Contains options (codes "--deleted")) × (¬ Contains options (codes "--all"))
 
 -- which cells they ask for the places of
 abbrev pub AsksCells : (options : List (List ℕ)) → Cells → Type 0
 AsksCells options (Places table) = Contains options (codes "--places") × (¬ Contains options (codes "--deleted"))
+    × (¬ Contains options (codes "--all"))
     × (¬ Contains options (codes "--csv")) × (¬ Contains options (codes "--sql")) × AsksText (codes "--table") options table
-AsksCells options Deleted = (¬ Contains options (codes "--places")) × Contains options (codes "--deleted")
+AsksCells options (Deleted all) = (¬ Contains options (codes "--places")) × Contains options (codes "--deleted")
+    × (IsTrue all ↔ Contains options (codes "--all"))
     × (¬ Contains options (codes "--csv")) × (¬ Contains options (codes "--sql")) × HasNoText (codes "--table") options
 
--- they ask for places, and in another form than lines and objects, or for those of deleted cells and of others, or of a table
+-- they ask for places, and in another form than lines and objects, or for those of deleted cells and of others, or of a table; or
+-- for all of what isn't those of deleted cells
 abbrev pub AsksNoCells : (options : List (List ℕ)) → Type 0
 AsksNoCells options =
     ((Contains options (codes "--places") ⊎ Contains options (codes "--deleted"))
     × (Contains options (codes "--csv") ⊎ Contains options (codes "--sql")))
     ⊎ (Contains options (codes "--deleted")
     × (Contains options (codes "--places") ⊎ ((text : List ℕ) × HasText (codes "--table") options text)))
+    ⊎ (Contains options (codes "--all") × ¬ Contains options (codes "--deleted"))
 
 -- they can't be those of `rows`: another one is among them, or pointer maps, or two forms, or places of no cells
 abbrev pub AreNoRows : (options : List (List ℕ)) → Type 0

@@ -50,8 +50,9 @@ pub enum RowForm {
 pub enum Cells<'a> {
     /// Those of the rows of the table of this name. None: of each table.
     Places(Option<&'a str>),
-    /// Those of deleted rows, as far as they still stand in the pages.
-    Deleted,
+    /// Those of deleted rows, as far as they still stand in the pages; all: also in the frames of the log that aren't
+    /// shown.
+    Deleted { all: bool },
 }
 
 /// How changes of rows are printed.

@@ -118,6 +118,7 @@ fn is_own(word: &str, own: Own) -> bool
                 || word == "--sql"
                 || word == "--places"
                 || word == "--deleted"
+                || word == "--all"
                 || is_named(word, "--table")
         }
         Own::Salvages => word == "--places" || is_named(word, "--to"),
@@ -444,11 +445,12 @@ fn formed<'a>(given: &'a [&'a str], file: &'a str, options: Options) -> Option<R
     })
 }
 
-/// Which cells they ask for the places of, where they ask for places; deleted: of deleted ones. None where they ask for
-/// no such places.
-fn cells_of<'a>(given: &'a [&'a str], places: bool, deleted: bool) -> Option<Cells<'a>>
+/// Which cells they ask for the places of, where they ask for places; deleted: of deleted ones; all: of these also in
+/// frames that aren't shown. None where they ask for no such places.
+fn cells_of<'a>(given: &'a [&'a str], places: bool, deleted: bool, all: bool) -> Option<Cells<'a>>
     requires places { IsTrue places ↔ Contains (map (λ w. w.now) given.now) (codes "--places") }
     requires deleted { IsTrue deleted ↔ Contains (map (λ w. w.now) given.now) (codes "--deleted") }
+    requires all { IsTrue all ↔ Contains (map (λ w. w.now) given.now) (codes "--all") }
     requires some { IsTrue places ⊎ IsTrue deleted }
     ensures { MatchOption result (AsksNoCells (map (λ w. w.now) given.entry.now))
         (AsksCells (map (λ w. w.now) given.entry.now)) }
@@ -460,6 +462,9 @@ fn cells_of<'a>(given: &'a [&'a str], places: bool, deleted: bool) -> Option<Cel
         return None;
     }
     if !deleted {
+        if all {
+            return None;
+        }
         return Some(Cells::Places(text_of(given, "--table")));
     }
     if places {
@@ -467,7 +472,7 @@ fn cells_of<'a>(given: &'a [&'a str], places: bool, deleted: bool) -> Option<Cel
     }
     match text_of(given, "--table") {
         Some(_) => None,
-        None => Some(Cells::Deleted),
+        None => Some(Cells::Deleted { all }),
     }
 }
 
@@ -480,10 +485,14 @@ fn rows_or_cells<'a>(given: &'a [&'a str], file: &'a str, options: Options) -> O
 {
     let places = stands_in(given, "--places");
     let deleted = stands_in(given, "--deleted");
+    let all = stands_in(given, "--all");
     if !places && !deleted {
+        if all {
+            return None;
+        }
         return formed(given, file, options);
     }
-    match cells_of(given, places, deleted) {
+    match cells_of(given, places, deleted, all) {
         Some(cells) => Some(Request::Cells {
             file,
             cells,

@@ -46,10 +46,10 @@ module _ {F : Type 0} (bytes : F → List ℕ) (gives : F → Type 0) (options :
   answers_found (Places table) (Surveyed found) finds given = absurd finds
   answers_found (Places table) (Shown found) finds given = absurd finds
   answers_found (Places table) (Printed found) finds given = inl (found.ended, (before, after, finds given), inl refl)
-  answers_found Deleted (Checked found) finds given = absurd finds
-  answers_found Deleted (Surveyed found) finds given = absurd finds
-  answers_found Deleted (Shown found) finds given = absurd finds
-  answers_found Deleted (Printed found) finds given = inl (found.ended, (before, after, finds given), inl refl)
+  answers_found (Deleted all) (Checked found) finds given = absurd finds
+  answers_found (Deleted all) (Surveyed found) finds given = absurd finds
+  answers_found (Deleted all) (Shown found) finds given = absurd finds
+  answers_found (Deleted all) (Printed found) finds given = inl (found.ended, (before, after, finds given), inl refl)
 
   answers_refused : (command : Command) (refusal : Refusal) → Finds bytes gives command options files (Err refusal) before after → AreGiven gives files
       → Answers command options (contents_of bytes files) (Err (Refused refusal))
@@ -58,7 +58,7 @@ module _ {F : Type 0} (bytes : F → List ℕ) (gives : F → Type 0) (options :
   answers_refused (Show part) refusal finds given = absurd finds
   answers_refused (Rows wanted) refusal finds given = inr (finds given)
   answers_refused (Places table) refusal finds given = inr (finds given)
-  answers_refused Deleted refusal finds given = inr (finds given)
+  answers_refused (Deleted all) refusal finds given = inr (finds given)
 
 -- a line couldn't be written
 untold : {F : Type 0} (bytes : OpenedFile F → List ℕ) (gives : OpenedFile F → Type 0) (source : Source) (command : Command) (answer : Result Answer ShowError)

@@ -64,10 +64,10 @@ AnswersPlaces table options files answer =
     × Tells (answer_of_rows ended) answer)
     ⊎ IsErrAnd answer (λ error. IfRefused (IsUnasked options files.db files.wal files.journal) error)
 
--- and what prints deleted ones
-abbrev pub AnswersDeleted : Options → (files : Contents (List ℕ)) → Result Answer ShowError → Type 0
-AnswersDeleted options files answer =
-    ((ended : Result (Unit {0}) Stop) × ((before after : Option (List ℕ)) × AreDeletedShown options files.db files.wal files.journal before after ended)
+-- and what prints deleted ones, all of them where that is asked for
+abbrev pub AnswersDeleted : (all : Bool) → Options → (files : Contents (List ℕ)) → Result Answer ShowError → Type 0
+AnswersDeleted all options files answer =
+    ((ended : Result (Unit {0}) Stop) × ((before after : Option (List ℕ)) × AreDeletedShown options all files.db files.wal files.journal before after ended)
     × Tells (answer_of_rows ended) answer)
     ⊎ IsErrAnd answer (λ error. IfRefused (IsUnasked options files.db files.wal files.journal) error)
 
@@ -78,7 +78,7 @@ Answers (Pages asked) options files answer = AnswersSurvey asked files answer
 Answers (Show part) options files answer = AnswersPart part options files answer
 Answers (Rows wanted) options files answer = AnswersRows wanted options files answer
 Answers (Places table) options files answer = AnswersPlaces table options files answer
-Answers Deleted options files answer = AnswersDeleted options files answer
+Answers (Deleted all) options files answer = AnswersDeleted all options files answer
 
 -- It answers so of files that were opened for its source, once they give their bytes.
 pub record AnswersOpened {F : Type 0} (bytes : OpenedFile F → List ℕ) (gives : OpenedFile F → Type 0) (source : Source) (command : Command)

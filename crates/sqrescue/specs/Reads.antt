@@ -35,7 +35,7 @@ command_of (looks.Part part) options = Show part
 command_of (looks.Damage deep) options = Check (asked_named options deep) deep
 command_of (looks.Rows wanted) options = Rows wanted
 command_of (looks.Places table) options = Places table
-command_of looks.Deleted options = Deleted
+command_of (looks.Deleted all) options = Deleted all
 
 -- What a reading of these files comes to: a look as its command does, a diff as its changes were printed, a report by the
 -- survey of its pages, a salvage as its script ended, and a copy as what is planned of the files.

@@ -42,7 +42,7 @@ task_of (requests.Show file part options) = tasks.Read (read_named (Look (Part p
 task_of (requests.Check file deep options) = tasks.Read (read_named (Look (Damage deep)) file options)
 task_of (requests.Rows file table form options) = tasks.Read (read_named (Look (Rows (record { table = table; form = form }))) file options)
 task_of (requests.Cells file (cells.Places table) options) = tasks.Read (read_named (Look (Places table)) file options)
-task_of (requests.Cells file cells.Deleted options) = tasks.Read (read_named (Look Deleted) file options)
+task_of (requests.Cells file (cells.Deleted all) options) = tasks.Read (read_named (Look (Deleted all)) file options)
 task_of (requests.Diff file compared options) = tasks.Read (read_named (Diff (differences.Rows compared)) file (record options { at = compared.to }))
 task_of (requests.DeletedDiff file between options) = tasks.Read (read_named (Diff (differences.Deleted between)) file (record options { at = between.to }))
 task_of (requests.Recover file (Some to) force options) = tasks.Read (read_named (Copy to) file options)

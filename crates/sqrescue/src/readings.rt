@@ -19,8 +19,8 @@ pub(crate) enum Look<'a> {
     Rows(Wanted<'a>),
     /// Where they stand.
     Places(Option<&'a str>),
-    /// What still stands of deleted ones.
-    Deleted,
+    /// What still stands of deleted ones; all: also in the frames of the log that aren't shown.
+    Deleted { all: bool },
 }
 
 /// What is done with them.
@@ -80,7 +80,7 @@ impl<'a> Look<'a> {
             },
             Look::Rows(wanted) => Command::Rows(wanted),
             Look::Places(table) => Command::Places(table),
-            Look::Deleted => Command::Deleted,
+            Look::Deleted { all } => Command::Deleted { all },
         }
     }
 }
@@ -92,9 +92,9 @@ impl<'a> Reading<'a> {
     {
         match self {
             Reading::Look(Look::Part(part)) => matches!(part, Part::Log { .. } | Part::Commits),
-            Reading::Look(Look::Damage(_) | Look::Rows(_) | Look::Places(_) | Look::Deleted) => {
-                false
-            }
+            Reading::Look(
+                Look::Damage(_) | Look::Rows(_) | Look::Places(_) | Look::Deleted { .. },
+            ) => false,
             Reading::Diff(_)
             | Reading::Copy(_)
             | Reading::Report { .. }
@@ -142,9 +142,9 @@ pub(crate) fn task_of<'a>(request: Request<'a>) -> Task<'a>
         } => Reading::Look(Look::Places(table)).of(file, options),
         Request::Cells {
             file,
-            cells: Cells::Deleted,
+            cells: Cells::Deleted { all },
             options,
-        } => Reading::Look(Look::Deleted).of(file, options),
+        } => Reading::Look(Look::Deleted { all }).of(file, options),
         Request::Diff {
             file,
             compared,

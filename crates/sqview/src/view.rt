@@ -2,7 +2,7 @@
 ghost use Rattle.std.specs.Prelude.{◌≡◌, ◌<◌, length, IsOk, OnOk};
 ghost use Rattle.sqval.specs.Database.{page};
 ghost use Rattle.sqpage.specs.Freelist.{IsPage};
-ghost use Rattle.sqview.specs.Laid.{place_of, laid};
+ghost use Rattle.sqview.specs.Laid.{part_or_zeros, place_of, laid};
 ghost use Rattle.sqview.specs.LogView.{pages_of};
 ghost use Rattle.sqview.specs.Shapes.{shape_of};
 
@@ -90,6 +90,21 @@ impl<F: FileBytes> View<F> {
             return self.db.read_at(u64::from(p - 1) * size, out);
         }
         self.log.read_at(at, out)
+    }
+
+    /// Reads the log that counts from a place on, in bytes, with zeros past its end, and changes nothing of the view
+    /// but the state of its files (own). Refused as `read_at` of the log is.
+    pub fn read_log(&mut self, from: u64, out: &mut [u8]) -> Result<(), SourceError>
+        ensures read { F.reads_right self.old.db × F.reads_right self.old.log
+            → OnOk result (out.new ≡ part_or_zeros (length out.old) from (F.bytes self.old.log)) }
+        ensures never_fails { F.gives_bytes self.old.db × F.gives_bytes self.old.log → IsOk result }
+        ensures still_right { F.reads_right self.old.db × F.reads_right self.old.log
+            → F.reads_right self.new.db × F.reads_right self.new.log }
+        ensures still_gives { F.gives_bytes self.old.db × F.gives_bytes self.old.log
+            → F.gives_bytes self.new.db × F.gives_bytes self.new.log }
+        ensures same { shape_of F.bytes self.new ≡ shape_of F.bytes self.old }
+    {
+        self.log.read_at(from, out)
     }
 }
 

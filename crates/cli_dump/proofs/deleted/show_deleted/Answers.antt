@@ -1,16 +1,13 @@
-use Rattle.std.proofs.Common.{OnOk, Result, Ok, Err, subst}
-use Rattle.std.specs.Prelude.{IfErr, MatchResult}
+use Rattle.std.proofs.Common.{subst}
 use Rattle.sqval.specs.Limits.{Bounds}
 use Rattle.sqview.specs.LogView.{pages_of}
 use Rattle.cli_show.specs.Views.{AskedRefused}
 use Rattle.cli_show.proofs.AskedFronts.{front_asked, shows_asked}
 use Rattle.cli_show.proofs.ShownFiles.{refused_asked}
-use Rattle.cli_show_deleted.specs.Printed.{AreDeletedPrinted, AreDeletedStopped}
+use Rattle.cli_dump.specs.Deleted.{AreCellsPrinted, AreCellsStopped}
+use Rattle.cli_dump.proofs.DeletedShown.{both, cells_as, framed_as, log_asked}
+use Rattle.cli_dump.proofs.PlacesShown.{stands_asked}
 use Rattle.cli_dump.proofs.deleted.show_deleted.Goals as goal
-
-both : {T E : Type 0} (r : Result T E) (P : Type 0) (R : E → Type 0) → OnOk r P → IfErr r R → MatchResult r (λ _. P) R
-both (Ok _) P R ok err = ok
-both (Err _) P R ok err = err
 
 pub returns-in-Ok-clause-front : goal.returns-in-Ok-clause-front
 returns-in-Ok-clause-front g c = λ given.
@@ -21,16 +18,28 @@ returns-in-Ok-clause-front g c = λ given.
 pub returns-in-Ok-clause-shown : goal.returns-in-Ok-clause-shown
 returns-in-Ok-clause-shown g c = λ given.
     let bytes = g.F.FileBytes.bytes in
+    let db = bytes c.args.files.db in
+    let wal = bytes c.args.files.wal in
+    let journal = bytes c.args.files.journal in
     let v = c.in-Ok.view in
     let d = pages_of bytes v in
+    let at = c.args.options.at in
+    let style = c.args.options.style in
     let before = g.W.Write.contents c.args.out.now in
-    let after = g.W.Write.contents c.print_deleted-ended.new.out in
-    let gives = c.in-Ok.ensures.still_gives given in (
+    let after = g.W.Write.contents c.print_cells-ended.new.out in
+    let gives = c.in-Ok.ensures.still_gives given in
+    let answer = c.in-Ok.ensures.answer given in
+    let reads = c.in-Ok.ensures.reads given in
+    let of = log_asked c.limits_of.result bytes at db wal journal v answer reads in
+    let framed = framed_as c.limits_of.result bytes at db wal journal v answer reads in (
       v.page_size,
+      v.front,
       d,
-      shows_asked c.limits_of.result bytes (bytes c.args.files.db) (bytes c.args.files.wal) (bytes c.args.files.journal) v c.args.options.at (c.in-Ok.ensures.answer given),
-      both c.print_deleted-ended.result (AreDeletedPrinted d v.page_size c.args.options.style before after)
-          (λ stop. AreDeletedStopped d v.page_size stop before after) (c.print_deleted-ended.ensures.ok gives) (c.print_deleted-ended.ensures.err gives),
+      shows_asked c.limits_of.result bytes db wal journal v at answer,
+      stands_asked c.limits_of.result bytes at db wal journal v answer,
+      both c.print_cells-ended.result (AreCellsPrinted c.args.all v.page_size (bytes v.log) v.front d style before after) (AreCellsPrinted c.args.all v.page_size wal v.front d style before after)
+          (λ stop. AreCellsStopped c.args.all v.page_size d style stop before after) (cells_as c.args.all v.page_size v.front d style before after wal journal (bytes v.log) of)
+          (c.print_cells-ended.ensures.ok gives framed) (c.print_cells-ended.ensures.err gives),
     )
 
 pub returns-in-Err-clause-refused : goal.returns-in-Err-clause-refused
