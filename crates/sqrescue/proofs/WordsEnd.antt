@@ -12,6 +12,8 @@ use Rattle.cli_each.specs.declared.apart.Apart.{Apart}
 use Rattle.cli_files.specs.declared.opened_file.OpenedFile.{OpenedFile}
 use Rattle.sqrescue.specs.Each.{EndsApart, EndsOne, EndsSeveral, EndsWords, IsLineFor, IsMeant, with_starter}
 use Rattle.sqrescue.specs.Runs.{EndsLine, EndsUnasked}
+use Rattle.sqrescue.specs.Meant.{AreMeant}
+use Rattle.sqrescue.specs.declared.each.Meant.TheVariants.{Line, One, Each}
 
 -- what holds of an answer, for what follows from that
 pub if_ok : {A E : Type 0} {P Q : A → Type 0} (answer : Result A E) → ((value : A) → P value → Q value) → IfOk answer P → IfOk answer Q
@@ -23,30 +25,40 @@ module _ {F : Type 0} (bytes : OpenedFile F → List ℕ) (gives : OpenedFile F 
   are_files : AreFiles (texts apart.words.items) places
   are_files = subst (λ (l : List (Bor (List ℕ))). AreFiles (texts l) places) same files
 
-  ended : {E : Type 0} (one : Option ℕ) (answer : Result ℕ E) → apart.one ≡ one → IfOk answer (λ code. EndsApart bytes gives one words apart places code before after)
+  ended : {E : Type 0} (answer : Result ℕ E) → IfOk answer (λ code. EndsApart bytes gives apart.one words apart places code before after)
       → IfOk answer (λ code. EndsWords bytes gives words code before after)
-  ended one answer is =
-      if_ok answer (λ code ends. (apart, is_apart, (places, are_files, subst (λ (o : Option ℕ). EndsApart bytes gives o words apart places code before after) (sym is) ends)))
+  ended answer = if_ok answer (λ code ends. (apart, is_apart, (places, are_files, ends)))
+
+  -- as it stands
+  as_line : (one : Option ℕ) (code : ℕ) → AreMeant one places Line → EndsLine bytes gives words code before after → EndsApart bytes gives one words apart places code before after
+  as_line (Some number) code none ends = inr (none, ends)
+  as_line None code few ends = inl (few, ends)
+
+  pub ends_line : {E : Type 0} (answer : Result ℕ E) → AreMeant apart.one places Line → IfOk answer (λ code. EndsLine bytes gives words code before after)
+      → IfOk answer (λ code. EndsWords bytes gives words code before after)
+  ends_line answer meant ends = ended answer (if_ok answer (λ code line. as_line apart.one code meant line) ends)
 
   -- with the file that is meant
-  pub ends_one : {E : Type 0} (number place : ℕ) (answer : Result ℕ E) → apart.one ≡ Some number → IsMeant number places place → IfOk answer (EndsOne bytes gives apart place)
-      → IfOk answer (λ code. EndsWords bytes gives words code before after)
-  ends_one number place answer is meant ends = ended (Some number) answer is (if_ok answer (λ code one. inl (place, meant, one)) ends)
+  with_one : (one : Option ℕ) (place code : ℕ) → AreMeant one places (One place) → EndsOne bytes gives apart place code → EndsApart bytes gives one words apart places code before after
+  with_one (Some number) place code meant ends = inl (place, meant, ends)
+  with_one None place code none ends = absurd none
 
-  -- as it stands, where none of that number is there
-  pub ends_unmeant : {E : Type 0} (number : ℕ) (answer : Result ℕ E) → apart.one ≡ Some number → ((place : ℕ) → ¬ IsMeant number places place)
-      → IfOk answer (λ code. EndsLine bytes gives words code before after) → IfOk answer (λ code. EndsWords bytes gives words code before after)
-  ends_unmeant number answer is none ends = ended (Some number) answer is (if_ok answer (λ code line. inr (none, line)) ends)
-
-  -- or where there aren't several
-  pub ends_alone : {E : Type 0} (answer : Result ℕ E) → apart.one ≡ None → length places < 2 → IfOk answer (λ code. EndsLine bytes gives words code before after)
+  pub ends_one : {E : Type 0} (place : ℕ) (answer : Result ℕ E) → AreMeant apart.one places (One place) → IfOk answer (EndsOne bytes gives apart place)
       → IfOk answer (λ code. EndsWords bytes gives words code before after)
-  ends_alone answer is few ends = ended None answer is (if_ok answer (λ code line. inl (few, line)) ends)
+  ends_one place answer meant ends = ended answer (if_ok answer (λ code one. with_one apart.one place code meant one) ends)
 
   -- with each of several
-  pub ends_several : {E : Type 0} (answer : Result ℕ E) → apart.one ≡ None → 2 ≤ length places → IfOk answer (EndsSeveral bytes gives apart places)
+  with_each : (one : Option ℕ) (code : ℕ) → AreMeant one places Each → EndsSeveral bytes gives apart places code → EndsApart bytes gives one words apart places code before after
+  with_each (Some number) code none ends = absurd none
+  with_each None code many ends = inr (many, ends)
+
+  pub ends_several : {E : Type 0} (answer : Result ℕ E) → AreMeant apart.one places Each → IfOk answer (EndsSeveral bytes gives apart places)
       → IfOk answer (λ code. EndsWords bytes gives words code before after)
-  ends_several answer is many ends = ended None answer is (if_ok answer (λ code several. inr (many, several)) ends)
+  ends_several answer meant ends = ended answer (if_ok answer (λ code several. with_each apart.one code meant several) ends)
+
+pub many_meant : (one : Option ℕ) (places : List ℕ) → AreMeant one places Each → 2 ≤ length places
+many_meant (Some number) places none = absurd none
+many_meant None places many = many
 
 -- the file that is meant, and that none is
 pub is_meant : (number place : ℕ) (places : List ℕ) → 1 ≤ number → number - 1 < length places → place ≡ get_or places (number - 1) place → IsMeant number places place

@@ -5,6 +5,7 @@ ghost use Rattle.cli_files.specs.Files.{opened_bytes};
 ghost use Rattle.cli_job.specs.Opened.{GivesBytes};
 ghost use Rattle.sqrescue.specs.Each.{AsksLocks, EndsEach, EndsOne, EndsSeveral, EndsWords, IsLineFor};
 ghost use Rattle.sqrescue.specs.Each.{IsMeant, with_starter};
+ghost use Rattle.sqrescue.specs.Meant.{AreMeant, EndsMore};
 
 use crate::locking;
 use crate::prefixed::Prefixed;
@@ -34,13 +35,35 @@ where
 {
     let apart = taken_apart(rt.alloc(), words)?;
     let files = files_of(rt.alloc(), apart.words.as_slice())?;
-    match apart.one {
-        Some(number) => match place_of(files.as_slice(), number) {
-            Some(place) => one_of(rt, &apart, place, out, err),
-            None => locking::answered(rt, words, out, err),
+    match meant_of(apart.one, files.as_slice()) {
+        Meant::Line => locking::answered(rt, words, out, err),
+        Meant::One(place) => one_of(rt, &apart, place, out, err),
+        Meant::Each => several(rt, &apart, files.as_slice(), out, err),
+    }
+}
+
+/// With which of its files a line is carried out.
+#[derive(Clone, Copy)]
+enum Meant {
+    /// With those that it names, as it stands.
+    Line,
+    /// With the one at this place alone.
+    One(usize),
+    /// With each by itself.
+    Each,
+}
+
+/// With which a line is carried out that has files at these places: with the one of this number, if that is asked for.
+fn meant_of(one: Option<usize>, files: &[usize]) -> Meant
+    ensures { AreMeant one files.now result }
+{
+    match one {
+        Some(number) => match place_of(files, number) {
+            Some(place) => Meant::One(place),
+            None => Meant::Line,
         },
-        None if files.len() < 2 => locking::answered(rt, words, out, err),
-        None => several(rt, &apart, files.as_slice(), out, err),
+        None if files.len() < 2 => Meant::Line,
+        None => Meant::Each,
     }
 }
 
@@ -192,8 +215,27 @@ where
 {
     let mut greatest = 0;
     for place in places {
-        let status = one_of(rt, apart, *place, out, err)?;
-        greatest = status.max(greatest);
+        greatest = one_more(rt, apart, (*place, greatest), out, err)?;
     }
     Ok(greatest)
+}
+
+/// Carries out the line with one more of its files, at this place, and answers the greatest status with that of those
+/// before.
+fn one_more<R: Files + AllocGlobal + Clock, O: Write, E: Write + IsTerminal>(
+    rt: &R,
+    apart: &Apart<'_>,
+    more: (usize, u8),
+    out: &mut O,
+    err: &mut E,
+) -> io::Result<u8>
+where
+    R::File: SystemFile,
+    ensures ends { IfOk result (EndsMore (opened_bytes R.File.bytes)
+        (GivesBytes R.File.bytes R.File.keeps_word R.File.never_fails) apart.entry.now more.0 more.1) }
+    ensures least { more.1 ≤ 3 → IfOk result (λ status. status ≤ 3) }
+{
+    let (place, greatest) = more;
+    let status = one_of(rt, apart, place, out, err)?;
+    Ok(status.max(greatest))
 }

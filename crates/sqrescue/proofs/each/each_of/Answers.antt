@@ -1,6 +1,5 @@
-use Rattle.std.proofs.Common.{◌≤◌, ◌<◌, ◌⊎◌, ◌≡◌, get_or, inl, inr, ⊎_elim, arith}
+use Rattle.std.proofs.Common.{◌≤◌, ◌<◌, get_or, arith}
 use Rattle.std.proofs.lemmas.List.{get_or_default}
-use Rattle.std.proofs.lemmas.Bool.{cases_lt}
 use Rattle.cli_files.specs.Files.{opened_bytes}
 use Rattle.cli_job.specs.Opened.{GivesBytes}
 use Rattle.sqrescue.specs.Each.{EndsOne}
@@ -18,14 +17,11 @@ loop-place-preserved g c =
     let bytes = opened_bytes g.R.File.SystemFile.bytes in
     let gives = GivesBytes g.R.File.SystemFile.bytes g.R.File.SystemFile.keeps_word g.R.File.SystemFile.never_fails in
     let place = get_or c.args.places.now c.loop-place.place-index 0 in
-    let status = c.in_ok-status.status in
-    let greatest = c.loop-place.greatest in
-    let which : (c.max-greatest.result ≡ status) ⊎ (c.max-greatest.result ≡ greatest) =
-    ⊎_elim (λ (h : status < greatest). inr (omega (arith, h))) (λ (h : greatest ≤ status). inl (omega (arith, h))) (cases_lt status greatest) in
+    let more = c.in_ok-greatest.ensures.ends in
     record {
-      least = omega (arith, c.in_ok-status.ensures.least);
-      first = first_more (EndsOne bytes gives c.args.apart.now) c.args.places.now c.loop-place.place-index place c.in_ok-status.status c.loop-place.greatest c.max-greatest.result
-          c.loop-place-test.true (get_or_default c.args.places.now c.loop-place.place-index 0 place c.loop-place-test.true) (omega arith) (omega arith) which c.loop-place.invariant.first c.in_ok-status.ensures.ends;
+      least = c.in_ok-greatest.ensures.least c.loop-place.invariant.least;
+      first = first_more (EndsOne bytes gives c.args.apart.now) c.args.places.now c.loop-place.place-index place more.0 c.loop-place.greatest c.in_ok-greatest.greatest
+          c.loop-place-test.true (get_or_default c.args.places.now c.loop-place.place-index 0 place c.loop-place-test.true) more.2 more.3 more.4 c.loop-place.invariant.first more.1;
     }
 
 pub returns-clause-ends : goal.returns-clause-ends

@@ -1,0 +1,21 @@
+-- With which of its files a line is carried out, and how it ends with one more (own).
+use Rattle.std.specs.Prelude.{◌≡◌, ◌⊎◌, ℕ, ◌<◌, ◌≤◌, List, length, Option, None, Some}
+use Rattle.cli_each.specs.declared.apart.Apart.{Apart}
+use Rattle.cli_files.specs.declared.opened_file.OpenedFile.{OpenedFile}
+use Rattle.sqrescue.specs.Each.{EndsOne, IsMeant}
+use Rattle.sqrescue.specs.declared.each.Meant.{Meant}
+use Rattle.sqrescue.specs.declared.each.Meant.TheVariants.{Line, One, Each}
+
+-- with the file of this number, or as it stands where there is none; without a number with each of several
+abbrev pub AreMeant : (one : Option ℕ) → (places : List ℕ) → Meant → Type 0
+AreMeant (Some number) places Line = (place : ℕ) → ¬ IsMeant number places place
+AreMeant (Some number) places (One place) = IsMeant number places place
+AreMeant (Some number) places Each = ⊥
+AreMeant None places Line = length places < 2
+AreMeant None places (One place) = ⊥
+AreMeant None places Each = 2 ≤ length places
+
+-- The line with the file at this place ends with a number, and the greater one of that and of the greatest before is this.
+abbrev pub EndsMore : {F : Type 0} → (bytes : OpenedFile F → List ℕ) → (gives : OpenedFile F → Type 0) → Apart → (place before greatest : ℕ) → Type 0
+EndsMore bytes gives apart place before greatest =
+    (code : ℕ) × EndsOne bytes gives apart place code × (code ≤ greatest) × (before ≤ greatest) × ((greatest ≡ code) ⊎ (greatest ≡ before))
