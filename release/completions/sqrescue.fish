@@ -46,6 +46,7 @@ complete -c sqrescue -n '__fish_seen_subcommand_from rows' -l csv -d 'Prints com
 complete -c sqrescue -n '__fish_seen_subcommand_from rows' -l sql -d 'Prints SQL that makes the same rows'
 complete -c sqrescue -n '__fish_seen_subcommand_from rows' -l places -d 'Prints where each row stands: its page, its cell there, and the log\'s frame with that page'
 complete -c sqrescue -n '__fish_seen_subcommand_from rows' -l deleted -d 'Prints what still stands of deleted rows, page by page'
+complete -c sqrescue -n '__fish_seen_subcommand_from rows' -l all -d 'Prints behind them those in frames of the log that aren\'t shown: later ones, and ones written over'
 complete -c sqrescue -n '__fish_seen_subcommand_from rows' -s h -l help -d 'Print help'
 complete -c sqrescue -n '__fish_seen_subcommand_from diff' -s v -l verbose -d 'Says on standard error which files are read, which log counts, and why a command is refused'
 complete -c sqrescue -n '__fish_seen_subcommand_from diff' -l json -d 'Prints a JSON object a line'
