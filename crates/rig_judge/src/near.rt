@@ -1,5 +1,5 @@
 //! Which pages of a database file are known to be as a commit has them (own).
-ghost use Rattle.std.specs.Prelude.{◌≡◌, ◌↔◌, ◌+◌, ℕ, List, true, false, get_or, OnOk, IfErr, IsTrue};
+ghost use Rattle.std.specs.Prelude.{◌≡◌, ◌↔◌, ◌+◌, ◌<◌, ℕ, List, true, false, get_or, length, OnOk, IfErr, IsTrue};
 ghost use Rattle.sqval.specs.Database.{page, file_page};
 ghost use Rattle.sqview.specs.Laid.{place_of};
 ghost use Rattle.rig_judge.specs.declared.error.SnapshotError.TheVariants.{NoMemory};
@@ -61,6 +61,8 @@ impl Near {
     pub(crate) fn fit(&mut self, alloc: Global, size: u32, count: u32) -> Result<(), SnapshotError>
         ensures near { (c : Commit) (db : List ℕ) → IsNear c db self.old → IsNear c db self.new }
         ensures size { OnOk result (self.new.size ≡ size) }
+        ensures room { OnOk result (length self.new.same.items ≡ count) }
+        ensures kept { self.old.size ≡ size → length self.old.same.items ≡ count → self.new ≡ self.old }
         ensures memory { IfErr result (λ e. e ≡ NoMemory) }
     {
         if self.size == size && self.same.len() == count as usize {
@@ -74,7 +76,7 @@ impl Near {
     /// Whether page number i of a view, counted from 0, is the database file's own and is known to be. The places are
     /// those of the view's pages in its log.
     pub(crate) fn knows(&self, places: &[u64], i: u32) -> bool
-        ensures { IsTrue result → (place_of places.now (i + 1) ≡ 0) × (get_or self.now.same.items i false ≡ true) }
+        ensures { IsTrue result ↔ ((place_of places.now (i + 1) ≡ 0) × (get_or self.now.same.items i false ≡ true)) }
     {
         is_own(places, i) && has(&self.same, i)
     }
@@ -85,6 +87,11 @@ impl Near {
             → (IsTrue same → place_of places.now (i + 1) ≡ 0
             → file_page self.old.size db (i + 1) ≡ page c.pages (i + 1)) → IsNear c db self.new }
         ensures size { self.new.size ≡ self.old.size }
+        ensures room { length self.new.same.items ≡ length self.old.same.items }
+        ensures known { IsTrue same → place_of places.now (i + 1) ≡ 0 → i < length self.old.same.items
+            → get_or self.new.same.items i false ≡ true }
+        ensures kept { (k : ℕ) → get_or self.old.same.items k false ≡ true
+            → get_or self.new.same.items k false ≡ true }
     {
         if !same || !is_own(places, i) || i as usize >= self.same.len() {
             return;

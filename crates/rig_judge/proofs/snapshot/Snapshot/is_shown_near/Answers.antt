@@ -34,7 +34,7 @@ loop-i-preserved-then-knows g c =
     let was = c.loop-i.invariant in
     let commit = commit_of c.args.self.now in
     let less : n < v.count = omega (arith, c.loop-i-test.true, c.count-count.ensures, length_laid v.page_size v.count (bytes v.db) (bytes v.log) v.places.items) in
-    let known = c.knows.ensures c.if-knows.true in
+    let known = c.knows.ensures.0 c.if-knows.true in
     let own = subst (λ (l : List ℕ). place_of l (n + 1) ≡ 0) (c.places.ensures ∙ ap (λ (s : Shape). s.places) was.0) known.0 in (
       was.0,
       was.1,
