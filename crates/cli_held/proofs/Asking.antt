@@ -1,15 +1,21 @@
 -- Words that ask as a part of a command line does ask as that does.
 use Rattle.std.proofs.Common.{◌≡◌, ◌⊎◌, inl, inr, ⊎_elim, ◌∙◌, refl, sym, ap, subst, ℕ, List, [], ◌∷◌, ◌++◌, Bor, Option, None, Some, Result, Ok, Err}
-use Rattle.std.specs.Prelude.{codes, slice_get, IfOk}
+use Rattle.std.specs.Prelude.{codes, IfOk, MatchOption}
 use Rattle.std.specs.List.{Contains}
 use Rattle.std.proofs.lemmas.List.{map-append}
 use Rattle.std.proofs.lemmas.List.Elements.{Contains-push_cases}
+use Rattle.sqlocks.specs.declared.plan.Want.{Want}
+use Rattle.cli_held.specs.Held.{IsTold, TellsSo}
+use Rattle.cli_held.specs.declared.fdinfo.Held.{Held}
+use Rattle.cli_held.specs.declared.fdinfo.Held.TheVariants as holds
 use Rattle.cli_held.specs.declared.line.Hidden.{Hidden}
 use Rattle.cli_held.specs.declared.line.Hidden.TheVariants as hidden
 use Rattle.cli_held.specs.declared.todo.Todo.{Todo}
 use Rattle.cli_held.specs.declared.todo.Todo.TheVariants.{Run, Tell, Refuse}
-use Rattle.cli_held.specs.Todo.{AreLeft, AreSome, IsHidden, IsBare, IsPrepared, SaysNothing, texts}
-use Rattle.cli_held.specs.internal.Asking.{AreAs, IsRefused, IsUnheld, KeepsAsking}
+use Rattle.cli_held.specs.Todo.{AreLeft, AreSome, AreUnder, IsHidden, IsBare, IsPrepared, SaysNothing, texts}
+use Rattle.cli_held.specs.declared.todo.Locks.{Locks}
+use Rattle.cli_held.specs.declared.todo.Locks.TheVariants as locks
+use Rattle.cli_held.specs.internal.Asking.{AreAs, IsUnder, IsUnheld, KeepsAsking}
 
 pub when_ok : {T E : Type 0} (P Q : T → Type 0) → ((x : T) → P x → Q x) → (r : Result T E) → IfOk r P → IfOk r Q
 when_ok P Q more (Ok x) is = more x is
@@ -50,11 +56,22 @@ module _ (words left : List (List ℕ)) (only : (word : List ℕ) → Contains l
       exact None none is = is
       exact (Some h) none is = absurd (cc none)
 
-  pub kept_prepared : (said ≡ None → SaysNothing words → left ≡ words) → (todo : Todo) → KeepsAsking (IsRefused said) said left todo → IsPrepared words todo
-  kept_prepared plain (Run done under wait) asks =
-      (λ forced. ⊎_elim (λ said. inl (only _ said)) (λ held. inr (inr held)) (asks.0.0 forced), asks.0.1, left_as plain (texts done.items) asks.1)
+  under_as : (under : Locks) → IsUnder said under → AreUnder words under
+  under_as locks.None is = tt
+  under_as locks.NotThere is = let told = subst (IsHidden words) is.1 stands in (told.0, told.1 ∙ ap Some is.2)
+  under_as (locks.Held h) is = ((subst (IsHidden words) is.1 stands).0, is.2)
+
+  pub kept_prepared : (said ≡ None → SaysNothing words → left ≡ words) → (todo : Todo) → KeepsAsking said left todo → IsPrepared words todo
+  kept_prepared plain (Run done under wait) asks = (
+    λ forced. ⊎_elim (λ said. inl (only _ said)) (λ held. inr (inr held)) (asks.0.0 forced),
+    asks.0.1,
+    left_as plain (texts done.items) asks.1,
+    under_as under asks.2,
+  )
   kept_prepared plain (Tell line) asks = absurd asks
-  kept_prepared plain (Refuse done why) asks = ((subst (IsHidden words) asks.0.1 stands).0, left_as plain (texts done.items) asks.1)
+  kept_prepared plain (Refuse done why) asks =
+      let told = subst (IsHidden words) asks.1.1 stands in
+      (told.0, left_as plain (texts done.items) asks.0, (asks.1.0.now, told.1, asks.1.2))
 
   -- words that are carried out without locks
   pub unheld_prepared : Contains words (codes "--no-lock") → (said ≡ None → SaysNothing words → ⊥) → (todo : Todo) → IsUnheld left todo → IsPrepared words todo
@@ -62,6 +79,12 @@ module _ (words left : List (List ℕ)) (only : (word : List ℕ) → Contains l
     λ forced. inr (inl unlocked),
     λ held. absurd (cc (is.0, held)),
     record { only = some_of_words (texts done.items) is.1; plain = λ bare nothing. absurd (never (not_hidden words said bare stands) nothing) },
+    subst (AreUnder words) (sym is.0) tt,
   )
   unheld_prepared unlocked never (Tell line) is = absurd is
   unheld_prepared unlocked never (Refuse done why) is = absurd is
+
+-- locks that are held are told of
+pub told_want : (want : Option Want) (under : Held) → MatchOption want (under ≡ holds.Nothing) (λ w. IsTold w under) → (under ≡ holds.Nothing → ⊥) → (w : Want) × TellsSo w under
+told_want None under is some = absurd (some is)
+told_want (Some w) under is some = (w, ⊎_elim (λ none. absurd (some none)) (λ tells. tells) is)

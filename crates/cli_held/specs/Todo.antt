@@ -1,9 +1,10 @@
 -- What is to be done with a command line (own).
-use Rattle.std.specs.Prelude.{◌≡◌, ◌≢◌, ◌⊎◌, ℕ, Bool, true, false, IsTrue, List, map, codes, slice_get, Option, Some, None, suc, ◌++◌}
+use Rattle.std.specs.Prelude.{◌≡◌, ◌≢◌, ◌⊎◌, ℕ, false, List, map, codes, slice_get, Option, Some, None}
 use Rattle.std.specs.Borrow.{Bor}
 use Rattle.std.specs.List.{Contains}
-use Rattle.cli_words.specs.Line.{IsNamed, IsNumber}
-use Rattle.cli_held.specs.declared.fdinfo.Held.{Held}
+use Rattle.cli_words.specs.Line.{IsNamed}
+use Rattle.sqlocks.specs.declared.plan.Want.{Want}
+use Rattle.cli_held.specs.Held.{TellsSo}
 use Rattle.cli_held.specs.declared.fdinfo.Held.TheVariants as held
 use Rattle.cli_held.specs.declared.line.Hidden.{Hidden}
 use Rattle.cli_held.specs.declared.line.Hidden.TheVariants as hidden
@@ -12,6 +13,8 @@ use Rattle.cli_held.specs.declared.todo.Locks.{Locks}
 use Rattle.cli_held.specs.declared.todo.Locks.TheVariants as locks
 use Rattle.cli_held.specs.declared.todo.Todo.{Todo}
 use Rattle.cli_held.specs.declared.todo.Todo.TheVariants.{Run, Tell, Refuse}
+use Rattle.cli_held.specs.declared.todo.Why.{Why}
+use Rattle.cli_held.specs.declared.todo.Why.TheVariants as whys
 
 abbrev pub texts : List (Bor (List ℕ)) → List (List ℕ)
 texts words = map (λ w. w.now) words
@@ -49,9 +52,26 @@ pub record AreLeft (words done : List (List ℕ)) : Type 0 where
   pub only : AreSome words done
   pub plain : IsBare words → SaysNothing words → done ≡ words
 
+-- Locks are held only where whoever starts the program says so and a text of the system tells so; there are none where the file is
+-- only where that was said.
+abbrev pub AreUnder : (words : List (List ℕ)) → Locks → Type 0
+AreUnder words locks.None = Unit {0}
+AreUnder words locks.NotThere = (slice_get words 1 ≡ Some (codes "--refused")) × (slice_get words 2 ≡ Some (codes "no-locks"))
+AreUnder words (locks.Held held) = (slice_get words 1 ≡ Some (codes "--held")) × ((want : Want) × TellsSo want held)
+
+-- why locks can't be had, by the word that says it
+abbrev pub IsReason : (word : List ℕ) → Why → Type 0
+IsReason word whys.NoLocks = word ≡ codes "no-locks"
+IsReason word whys.FileFailed = word ≡ codes "file-failed"
+IsReason word whys.InUse = (word ≢ codes "no-locks") × (word ≢ codes "file-failed")
+
+-- that was said before the command
+abbrev pub IsSaidWhy : (words : List (List ℕ)) → Why → Type 0
+IsSaidWhy words why = (word : List ℕ) × (slice_get words 2 ≡ Some word) × IsReason word why
+
 -- These are carried out, as words that ask nobody only where they may be; locks are held only where some are.
 abbrev pub IsPrepared : (words : List (List ℕ)) → Todo → Type 0
 IsPrepared words (Run done under wait) = (Contains (texts done.items) (codes "--force") → MayAskNobody words under) × (under ≢ locks.Held held.Nothing)
-    × AreLeft words (texts done.items)
+    × AreLeft words (texts done.items) × AreUnder words under
 IsPrepared words (Tell line) = slice_get words 1 ≡ Some (codes "--locks")
-IsPrepared words (Refuse done why) = (slice_get words 1 ≡ Some (codes "--refused")) × AreLeft words (texts done.items)
+IsPrepared words (Refuse done why) = (slice_get words 1 ≡ Some (codes "--refused")) × AreLeft words (texts done.items) × IsSaidWhy words why

@@ -1,5 +1,5 @@
 -- What a request wants SQLite's locks for (own).
-use Rattle.std.specs.Prelude.{◌≡◌, Bool, true, false, Option, Some, None, List, ℕ}
+use Rattle.std.specs.Prelude.{◌≡◌, true, false, Some, None, List, ℕ}
 use Rattle.std.specs.Borrow.{Bor}
 use Rattle.sqlocks.specs.declared.plan.Want.{Want}
 use Rattle.sqlocks.specs.declared.plan.Want.TheVariants.{Read, Recover as ToRecover}

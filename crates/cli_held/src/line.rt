@@ -1,9 +1,11 @@
 //! The words that say how SQLite's locks are taken.
-ghost use Rattle.std.specs.Prelude.{◌≡◌, ◌<◌, ◌≤◌, ◌+◌, ℕ, List, Some, IfOk, IfSome, IsTrue, codes, length};
+ghost use Rattle.std.specs.Prelude.{◌≡◌, ◌<◌, ◌≤◌, ◌+◌, ◌++◌, ℕ, List, Some, IfOk, IsTrue, MatchOption, codes};
+ghost use Rattle.std.specs.Prelude.{false, length, slice_get, true};
 ghost use Rattle.std.specs.List.{Contains};
-ghost use Rattle.cli_words.specs.Line.{IsNamed};
+ghost use Rattle.cli_words.specs.Line.{TakesValue};
+ghost use Rattle.cli_held.specs.Saying.{AreSeconds, GivesBehind, IsOpen, IsTakenApart};
 ghost use Rattle.cli_held.specs.Todo.{IsHidden, IsPlainLine, texts};
-ghost use Rattle.cli_held.specs.internal.Words.{IsRest, IsSaid};
+ghost use Rattle.cli_held.specs.internal.Words.{IsRest, IsSaid, IsSaidAt, IsSoFar, MayTell};
 
 use std::alloc::{AllocError, Global};
 
@@ -46,20 +48,56 @@ fn hidden_of<'a>(words: &'a [&'a str]) -> Option<Hidden<'a>>
 }
 
 /// Whether a word is the value of the option before it.
-fn is_value(before: &str) -> bool {
-    matches!(before, "--to" | "--at" | "--page" | "--table" | "--from")
+fn is_value(before: &str) -> bool
+    ensures yes { IsTrue result → TakesValue before.now }
+    ensures not { result ≡ false → ¬ TakesValue before.now }
+{
+    before == "--page"
+        || before == "--to"
+        || before == "--at"
+        || before == "--table"
+        || before == "--from"
+}
+
+/// The seconds that a text is.
+fn seconds_in(text: &str) -> Option<u32>
+    ensures { MatchOption result ((n : ℕ) → ¬ AreSeconds text.now n) (AreSeconds text.now) }
+{
+    text.parse::<u32>().ok()
 }
 
 /// The seconds that a word gives by itself.
 fn joined_wait(word: &str) -> Option<u32>
-    ensures { IfSome result (λ seconds. IsNamed (codes "--wait") word.now) }
+    ensures { MatchOption result ((text : List ℕ) (n : ℕ) → word.now ≡ codes "--wait=" ++ text → ¬ AreSeconds text n)
+        (λ n. (text : List ℕ) × (word.now ≡ codes "--wait=" ++ text) × AreSeconds text n) }
 {
-    word.strip_prefix("--wait=")?.parse::<u32>().ok()
+    match word.strip_prefix("--wait=") {
+        Some(text) => seconds_in(text),
+        None => None,
+    }
 }
 
 /// The seconds that the word at a place gives, if there is one.
-fn seconds_at(words: &[&str], i: usize) -> Option<u32> {
-    words.get(i)?.parse::<u32>().ok()
+fn seconds_at(words: &[&str], i: usize) -> Option<u32>
+    ensures { MatchOption result
+        ((text : List ℕ) (n : ℕ) → slice_get (texts words.now) i ≡ Some text → ¬ AreSeconds text n)
+        (λ n. (text : List ℕ) × (slice_get (texts words.now) i ≡ Some text) × AreSeconds text n) }
+{
+    match words.get(i) {
+        Some(word) => seconds_in(word),
+        None => None,
+    }
+}
+
+/// The seconds that a `--wait` at a place gives, by the word behind it.
+fn seconds_behind(words: &[&str], i: usize) -> Option<u32>
+    requires { i < length words.now }
+    ensures { MatchOption result ((n : ℕ) → ¬ GivesBehind (texts words.now) i n) (GivesBehind (texts words.now) i) }
+{
+    if words[i] == "--wait" {
+        return seconds_at(words, i + 1);
+    }
+    None
 }
 
 /// What a word of a command line says of locks.
@@ -77,21 +115,20 @@ enum Said {
 /// What the word at a place says, which is none behind `--`, nor the value of another option.
 fn said_at(words: &[&str], i: usize) -> Said
     requires { i < length words.now }
-    ensures { IsSaid (texts words.now) result }
+    ensures said { IsSaid (texts words.now) result }
+    ensures exactly { IsSaidAt (texts words.now) i result }
 {
     let word = words[i];
     if word == "--no-lock" {
         return Said::Unlocked;
     }
-    if let Some(seconds) = joined_wait(word) {
-        return Said::Wait(seconds);
+    match joined_wait(word) {
+        Some(seconds) => Said::Wait(seconds),
+        None => match seconds_behind(words, i) {
+            Some(seconds) => Said::WaitBehind(seconds),
+            None => Said::Nothing,
+        },
     }
-    if word == "--wait" {
-        if let Some(seconds) = seconds_at(words, i + 1) {
-            return Said::WaitBehind(seconds);
-        }
-    }
-    Said::Nothing
 }
 
 /// What of a command line is left without the words that say how locks are taken, and what these say.
@@ -107,6 +144,29 @@ struct Rest<'a> {
     is_taken: bool,
 }
 
+/// Whether a word may say how locks are taken, where it is known whether a `--` was seen.
+fn may_say(words: &[&str], i: usize, from: usize, is_over: bool) -> bool
+    requires { i < length words.now }
+    ensures yes { IsTrue result → IsOpen (texts words.now) from i × (is_over ≡ false) }
+    ensures not { result ≡ false → IsOpen (texts words.now) from i → is_over ≡ true }
+{
+    if is_over || i <= from {
+        return false;
+    }
+    if is_value(words[i - 1]) {
+        return false;
+    }
+    true
+}
+
+/// Whether a word stands between the program's name and the command.
+fn is_between(i: usize, from: usize) -> bool
+    ensures yes { IsTrue result → (0 < i) × (i < from) }
+    ensures not { result ≡ false → 0 < i → from ≤ i }
+{
+    0 < i && i < from
+}
+
 /// Takes in the word at a place, which may say how locks are taken.
 fn take_free<'a>(
     rest: &mut Rest<'a>,
@@ -117,7 +177,9 @@ fn take_free<'a>(
     requires place { i < length words.now }
     requires first { 1 ≤ from }
     requires before { IsRest (texts words.now) from i rest.old }
-    ensures { IfOk result (λ _. IsRest (texts words.entry.now) from (i + 1) rest.new) }
+    requires may { MayTell (texts words.now) from i rest.old }
+    ensures rest { IfOk result (λ _. IsRest (texts words.entry.now) from (i + 1) rest.new) }
+    ensures so_far { IfOk result (λ _. IsSoFar (texts words.entry.now) from (i + 1) rest.new) }
 {
     match said_at(words, i) {
         Said::Nothing => rest.words.push(words[i])?,
@@ -141,16 +203,18 @@ fn take<'a>(
     requires place { i < length words.now }
     requires first { 1 ≤ from }
     requires before { IsRest (texts words.now) from i rest.old }
-    ensures { IfOk result (λ _. IsRest (texts words.entry.now) from (i + 1) rest.new) }
+    requires so_far { IsSoFar (texts words.now) from i rest.old }
+    ensures rest { IfOk result (λ _. IsRest (texts words.entry.now) from (i + 1) rest.new) }
+    ensures so_far { IfOk result (λ _. IsSoFar (texts words.entry.now) from (i + 1) rest.new) }
 {
-    if i != 0 && i < from {
+    if is_between(i, from) {
         return Ok(());
     }
     if rest.is_taken {
         rest.is_taken = false;
         return Ok(());
     }
-    if i > from && !rest.is_over && !is_value(words[i - 1]) {
+    if may_say(words, i, from, rest.is_over) {
         rest.is_over = words[i] == "--";
         return take_free(rest, words, i, from);
     }
@@ -161,7 +225,8 @@ fn take<'a>(
 /// What is left of the words of a command line behind the first ones.
 fn rest_of<'a>(alloc: Global, words: &'a [&'a str], from: usize) -> Result<Rest<'a>, AllocError>
     requires { 1 ≤ from }
-    ensures { IfOk result (IsRest (texts words.entry.now) from (length words.entry.now)) }
+    ensures rest { IfOk result (IsRest (texts words.entry.now) from (length words.entry.now)) }
+    ensures so_far { IfOk result (IsSoFar (texts words.entry.now) from (length words.entry.now)) }
 {
     let mut rest = Rest {
         words: Vec::new(alloc),
@@ -185,6 +250,7 @@ pub fn line_of<'a>(alloc: Global, words: &'a [&'a str]) -> Result<Line<'a>, Allo
     ensures unlocked { IfOk result (λ line. IsTrue line.is_unlocked
         → Contains (texts words.entry.now) (codes "--no-lock")) }
     ensures plain { IfOk result (IsPlainLine (texts words.entry.now)) }
+    ensures apart { IfOk result (IsTakenApart (texts words.entry.now)) }
 {
     let hidden = hidden_of(words);
     let from = if hidden.is_some() { 3 } else { 1 };

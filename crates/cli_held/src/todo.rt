@@ -1,8 +1,8 @@
 //! What is to be done with a command line.
 ghost use Rattle.std.specs.Prelude.{◌≡◌, ◌≢◌, IfOk, IsTrue, MatchOption, Some};
 ghost use Rattle.cli_held.specs.Held.{IsTold};
-ghost use Rattle.cli_held.specs.Todo.{AreSome, IsPrepared, texts};
-ghost use Rattle.cli_held.specs.internal.Asking.{IsRefused, IsUnheld, KeepsAsking};
+ghost use Rattle.cli_held.specs.Todo.{AreSome, IsPrepared, IsReason, texts};
+ghost use Rattle.cli_held.specs.internal.Asking.{IsUnheld, KeepsAsking};
 
 use crate::fdinfo::{Held, held_by};
 use crate::line::{Hidden, Line, line_of};
@@ -162,7 +162,7 @@ fn to_run<'a, R: Files + AllocGlobal>(
     numbers: &str,
     wait: u32,
 ) -> io::Result<Todo<'a>>
-    ensures { IfOk result (KeepsAsking ⊥ (Some (Hidden.Held numbers.entry)) (texts words.entry.items)) }
+    ensures { IfOk result (KeepsAsking (Some (Hidden.Held numbers.entry)) (texts words.entry.items)) }
 {
     match held_for(rt, words.as_slice(), numbers) {
         Ok((want, held)) if held != Held::Nothing => Ok(Todo::Run {
@@ -178,24 +178,35 @@ fn to_run<'a, R: Files + AllocGlobal>(
     }
 }
 
+/// Why locks can't be had, by the word that says it.
+fn reason_of(word: &str) -> Why
+    ensures { IsReason word.now result }
+{
+    if word == "no-locks" {
+        return Why::NoLocks;
+    }
+    if word == "file-failed" {
+        return Why::FileFailed;
+    }
+    Why::InUse
+}
+
 /// What is to be done with words whose locks can't be had.
 fn without<'a>(alloc: Global, words: Vec<&'a str>, why: &str, wait: u32) -> Todo<'a>
-    ensures { KeepsAsking (Unit {0}) (Some (Hidden.Refused why.entry)) (texts words.entry.items) result }
+    ensures { KeepsAsking (Some (Hidden.Refused why.entry)) (texts words.entry.items) result }
 {
-    match (why, want_of(alloc, words.as_slice())) {
-        (_, None) => Todo::Run {
+    match (want_of(alloc, words.as_slice()), reason_of(why)) {
+        (None, _) => Todo::Run {
             words,
             locks: Locks::None,
             wait,
         },
-        ("no-locks", Some(Want::Read)) => Todo::Run {
+        (Some(Want::Read), Why::NoLocks) => Todo::Run {
             words,
             locks: Locks::NotThere,
             wait,
         },
-        ("no-locks", Some(Want::Recover)) => Todo::Refuse(words, Why::NoLocks),
-        ("file-failed", _) => Todo::Refuse(words, Why::FileFailed),
-        _ => Todo::Refuse(words, Why::InUse),
+        (Some(_), reason) => Todo::Refuse(words, reason),
     }
 }
 
@@ -218,7 +229,7 @@ fn ready<'a, R: Files + AllocGlobal>(
     words: Vec<&'a str>,
     wait: u32,
 ) -> io::Result<Todo<'a>>
-    ensures { IfOk result (KeepsAsking (IsRefused hidden.entry) hidden.entry (texts words.entry.items)) }
+    ensures { IfOk result (KeepsAsking hidden.entry (texts words.entry.items)) }
 {
     match hidden {
         Some(Hidden::Held(numbers)) => to_run(rt, words, numbers, wait),

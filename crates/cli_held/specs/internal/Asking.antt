@@ -4,12 +4,15 @@ use Rattle.std.specs.Borrow.{Bor}
 use Rattle.std.specs.List.{Contains}
 use Rattle.cli_held.specs.declared.fdinfo.Held.TheVariants as held
 use Rattle.cli_held.specs.declared.line.Hidden.{Hidden}
-use Rattle.cli_held.specs.declared.line.Hidden.TheVariants.{Refused}
+use Rattle.cli_held.specs.declared.line.Hidden.TheVariants.{Held, Refused}
 use Rattle.cli_held.specs.declared.todo.Locks.{Locks}
 use Rattle.cli_held.specs.declared.todo.Locks.TheVariants as locks
 use Rattle.cli_held.specs.declared.todo.Todo.{Todo}
 use Rattle.cli_held.specs.declared.todo.Todo.TheVariants.{Run, Tell, Refuse}
-use Rattle.cli_held.specs.Todo.{AreSome, texts}
+use Rattle.cli_held.specs.declared.todo.Why.{Why}
+use Rattle.sqlocks.specs.declared.plan.Want.{Want}
+use Rattle.cli_held.specs.Held.{TellsSo}
+use Rattle.cli_held.specs.Todo.{AreSome, IsReason, texts}
 
 -- they ask as these words do, or all others are kept off
 abbrev pub AsksAs : (words done : List (List ℕ)) → Locks → Type 0
@@ -20,15 +23,21 @@ abbrev pub AreAs : Option Hidden → (words done : List (List ℕ)) → Type 0
 AreAs None words done = done ≡ words
 AreAs (Some hidden) words done = AreSome words done
 
--- they are carried out so, or where they may be are refused
-abbrev pub KeepsAsking : (MayRefuse : Type 0) → Option Hidden → (words : List (List ℕ)) → Todo → Type 0
-KeepsAsking MayRefuse hidden words (Run done under wait) = AsksAs words (texts done.items) under × AreAs hidden words (texts done.items)
-KeepsAsking MayRefuse hidden words (Tell line) = ⊥
-KeepsAsking MayRefuse hidden words (Refuse done why) = MayRefuse × AreAs hidden words (texts done.items)
+-- locks are held, or aren't there, only where what stands before the command says so
+abbrev pub IsUnder : Option Hidden → Locks → Type 0
+IsUnder hidden locks.None = Unit {0}
+IsUnder hidden locks.NotThere = (why : Bor (List ℕ)) × (hidden ≡ Some (Refused why)) × (why.now ≡ codes "no-locks")
+IsUnder hidden (locks.Held held) = (numbers : Bor (List ℕ)) × (hidden ≡ Some (Held numbers)) × ((want : Want) × TellsSo want held)
 
--- what stands before the command says that the locks can't be had
-abbrev pub IsRefused : Option Hidden → Type 0
-IsRefused hidden = (why : Bor (List ℕ)) × (hidden ≡ Some (Refused why))
+-- it says why
+abbrev pub IsWhy : Option Hidden → Why → Type 0
+IsWhy hidden why = (word : Bor (List ℕ)) × (hidden ≡ Some (Refused word)) × IsReason word.now why
+
+-- they are carried out so, or are refused
+abbrev pub KeepsAsking : Option Hidden → (words : List (List ℕ)) → Todo → Type 0
+KeepsAsking hidden words (Run done under wait) = AsksAs words (texts done.items) under × AreAs hidden words (texts done.items) × IsUnder hidden under
+KeepsAsking hidden words (Tell line) = ⊥
+KeepsAsking hidden words (Refuse done why) = AreAs hidden words (texts done.items) × IsWhy hidden why
 
 -- some of these words are carried out while nothing is held
 abbrev pub IsUnheld : (words : List (List ℕ)) → Todo → Type 0

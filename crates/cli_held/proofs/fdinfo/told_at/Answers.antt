@@ -1,5 +1,4 @@
-use Rattle.std.proofs.Common.{rules, ◌⊎◌, inr}
-use Rattle.cli_held.specs.Held.{HeldBy, IsTold, TellsSo}
+use Rattle.std.proofs.Common.{inr}
 use Rattle.cli_held.proofs.fdinfo.told_at.Goals as goal
 
 -- src/fdinfo.rt:101:1

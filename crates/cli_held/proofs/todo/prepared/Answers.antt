@@ -1,12 +1,12 @@
 use Rattle.cli_held.specs.Todo.{IsPrepared, texts}
-use Rattle.cli_held.specs.internal.Asking.{IsRefused, IsUnheld, KeepsAsking}
+use Rattle.cli_held.specs.internal.Asking.{IsUnheld, KeepsAsking}
 use Rattle.cli_held.proofs.Asking.{kept_prepared, unheld_prepared, when_ok}
 use Rattle.cli_held.proofs.todo.prepared.Goals as goal
 
 pub returns : goal.returns
 returns g c =
     let line = c.in_ok-line.line in
-    when_ok (KeepsAsking (IsRefused line.hidden) line.hidden (texts line.words.items)) (IsPrepared (texts c.args.words.now))
+    when_ok (KeepsAsking line.hidden (texts line.words.items)) (IsPrepared (texts c.args.words.now))
     (kept_prepared (texts c.args.words.now) (texts line.words.items) c.in_ok-line.ensures.only line.hidden c.in_ok-line.ensures.hidden
     (λ none nothing. (c.in_ok-line.ensures.plain none nothing).0)) c.ready.result c.ready.ensures
 
