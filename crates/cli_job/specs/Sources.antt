@@ -12,6 +12,10 @@ use Rattle.cli_words.specs.declared.requests.Options.{Options}
 use Rattle.cli_files.specs.Files.{AreBeside, path_of}
 use Rattle.cli_files.specs.Refusals.{IsFromWatch}
 use Rattle.cli_files.specs.Watches.{longest_left, tick}
+use Rattle.cli_facts.specs.declared.readings.Readings.{Readings}
+use Rattle.cli_held.specs.declared.fdinfo.Held.TheVariants as held
+use Rattle.cli_held.specs.declared.todo.Locks.{Locks}
+use Rattle.cli_held.specs.declared.todo.Locks.TheVariants as locks
 use Rattle.cli_job.specs.declared.sources.Before.{Before}
 use Rattle.cli_job.specs.declared.sources.Before.TheVariants as readings
 use Rattle.cli_job.specs.declared.sources.Source.{Source}
@@ -67,3 +71,18 @@ IsUnsourced at refusal = IsFromWatch refusal ⊎ ((refusal ≡ InUse) ⊎ ((refu
 abbrev pub IsWaitFor : Option Before → (wait : ℕ) → Type 0
 IsWaitFor (Some (readings.Dated before)) wait = (now : Option Duration) × (wait ≡ option_map_or (λ d. longest_left (as_nanos d) before) now tick)
 IsWaitFor _ wait = wait ≡ 0
+
+-- Files are taken to stay as they are only under locks that keep writers off them, or off the log up to a front, and dates pass
+-- unseen only under those on FILE alone.
+abbrev pub IsWatchUnder : Locks → Watch → Type 0
+IsWatchUnder under Still = (under ≡ locks.Held held.Log) ⊎ (under ≡ locks.Held held.Everything) ⊎ (under ≡ locks.Held held.Front)
+IsWatchUnder under Undated = under ≡ locks.Held held.File
+IsWatchUnder under Dated = Unit {0}
+IsWatchUnder under (Indexed head) = Unit {0}
+
+-- what is known of files that are watched so before they are read: nothing is looked at of those that stay as they are
+abbrev pub IsBefore : Watch → Option Before → Type 0
+IsBefore Still before = before ≡ None
+IsBefore Dated before = (now : Readings) × (before ≡ Some (readings.Dated now))
+IsBefore Undated before = (now : Readings) × (before ≡ Some (readings.Undated now))
+IsBefore (Indexed head) before = before ≡ Some (readings.Indexed head)

@@ -4,6 +4,7 @@ ghost use Rattle.std.specs.Duration.{as_nanos};
 ghost use Rattle.cli_files.specs.Files.{opened_bytes};
 ghost use Rattle.cli_files.specs.Refusals.{IsFromSystem, IsFromWatch};
 ghost use Rattle.cli_job.specs.Opened.{AreFresh, AreOpenedFor, GivesBytes, IsUnopenedFor, Looks, Settles, all_opened};
+ghost use Rattle.cli_job.specs.Sources.{IsBefore};
 ghost use Rattle.cli_job.specs.internal.Jobs.{young_of};
 
 use crate::commands::{Command, Finding, Wants, find};
@@ -111,6 +112,7 @@ where
         only_logs: bool,
         notes: &mut Notes<'_, E>,
     ) -> Result<Option<Before>, Refusal>
+        ensures before { IfOk result (IsBefore self.now.source.now.watch) }
         ensures refused { IfErr result IsFromSystem }
     {
         let source = self.source;

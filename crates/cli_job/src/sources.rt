@@ -1,9 +1,9 @@
 //! The files of a database as a command reads them, and how it is seen that others change them meanwhile.
 ghost use Rattle.std.specs.Prelude.{◌≡◌, ◌⊎◌, ◌↔◌, IfErr, IfOk, IsSome, IsTrue, false, true};
 ghost use Rattle.cli_files.specs.Refusals.{IsFromSystem, IsFromWatch};
-ghost use Rattle.cli_job.specs.Sources.{AtFile, AtFront, IsAloneOf, IsFrontUnder, IsReadAt, IsSourceOf};
+ghost use Rattle.cli_job.specs.Sources.{AtFile, AtFront, IsAloneOf, IsBefore, IsFrontUnder, IsReadAt, IsSourceOf};
 ghost use Rattle.std.specs.Duration.{as_nanos};
-ghost use Rattle.cli_job.specs.Sources.{IsUnsourced, IsWaitFor};
+ghost use Rattle.cli_job.specs.Sources.{IsUnsourced, IsWaitFor, IsWatchUnder};
 ghost use Rattle.cli_job.specs.internal.Watches.{AreUndated, IsUndated, StandsYet};
 
 use cli_facts::{Front, Notes, Reading, Readings, Refusal, SystemFile, read_or_zeros, unchanged};
@@ -149,6 +149,7 @@ fn watch_under<R: Files + Clock, E: Write>(
 where
     R::File: SystemFile,
     ensures under { IfOk result (λ found. IsFrontUnder found.0 found.1) }
+    ensures watch { IfOk result (λ found. IsWatchUnder locks found.0) }
     ensures refused { IfErr result (λ refusal. (refusal ≡ Refusal.InUse) ⊎ IsFromSystem refusal) }
 {
     match locks {
@@ -185,6 +186,7 @@ fn read_at(
     ensures at { only_log ≡ false → IsFrontUnder of.0 of.1
         → IfOk result (λ found. IsReadAt asked found.0 found.1) }
     ensures of_log { only_log ≡ true → IfOk result (λ found. found.1 ≡ asked) }
+    ensures watch { IfOk result (λ found. (found.0 ≡ of.0) ⊎ (found.0 ≡ Watch.Dated)) }
     ensures refused { IfErr result (λ refusal. (refusal ≡ Refusal.NoSuchCommit) × IsSome asked) }
 {
     let (watch, front) = of;
@@ -214,6 +216,7 @@ where
     R::File: SystemFile,
     // Of all but the log alone, what is read is the commit at the front, or the one that is asked for.
     ensures source { IfOk result (IsSourceOf of.entry.0 of.entry.1 only_log) }
+    ensures watch { IfOk result (λ source. IsWatchUnder locks source.watch) }
     ensures refused { IfErr result (IsUnsourced of.entry.1.at) }
 {
     let (file, options) = of;
@@ -281,6 +284,7 @@ pub(crate) fn before_of<R: Files, E: Write>(
 ) -> Result<Option<Before>, Refusal>
 where
     R::File: SystemFile,
+    ensures before { IfOk result (IsBefore watch) }
     ensures refused { IfErr result IsFromSystem }
 {
     match watch {
