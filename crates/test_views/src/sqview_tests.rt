@@ -228,6 +228,31 @@ fn pages_come_from(rt: HostRuntime) -> Result<(), Fail> {
     Ok(())
 }
 
+/// Four bytes of a view's log, from a place on.
+fn bytes_of_log(alloc: Global, db: &[u8], wal: &[u8], from: u64) -> Result<[u8; 4], Fail> {
+    let mut view = View::new(alloc, db, wal, [].as_slice())?;
+    let mut out = [b'x'; 4];
+    view.read_log(from, &mut out)?;
+    Ok(out)
+}
+
+// The magic of a log whose words have the highest byte first, bytes of its page, and zeros past its end.
+#[test]
+fn reads_the_log_of_a_view(rt: HostRuntime) -> Result<(), Fail> {
+    let alloc = rt.alloc();
+    let file = [b'a'; 512];
+    let log = log(alloc, &[(1, 1)])?;
+    let (db, wal) = (file.as_slice(), log.as_slice());
+    same(
+        &rt,
+        bytes_of_log(alloc, db, wal, 0)?,
+        [0x37, 0x7f, 0x06, 0x83],
+    );
+    same(&rt, bytes_of_log(alloc, db, wal, 56)?, [b'b'; 4]);
+    same(&rt, bytes_of_log(alloc, db, wal, 1000)?, [0; 4]);
+    Ok(())
+}
+
 /// What a survey of the file finds, as a view of it.
 fn surveyed(alloc: Global, db: &[u8]) -> Result<Survey, Fail> {
     let mut view = View::new(alloc, db, [].as_slice(), [].as_slice())?;
