@@ -24,7 +24,7 @@ def _library():
     for path in filter(None, [os.environ.get("SQRESCUE_LIBRARY"), *below]):
         if os.path.exists(path):
             return path
-    raise FileNotFoundError(f"{LIBRARY} is neither in lib/ nor in release/lib/: call ./build-c")
+    raise FileNotFoundError(f"{LIBRARY} is neither in lib/ nor in release/lib/, nor what SQRESCUE_LIBRARY names")
 
 
 def _content(path):

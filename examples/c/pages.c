@@ -1,5 +1,6 @@
 /* pages FILE OUT: writes the database that FILE shows with its logs, page by page, to OUT; FILE is only read, and may
    have writers meanwhile. */
+#define _POSIX_C_SOURCE 200809L /* fileno, fsync */
 #include "sqrescue.h"
 
 #include <stdio.h>
