@@ -467,14 +467,15 @@ int remove(const char *path) {
     return answer != 0 && errno == EISDIR ? unlinkat(AT_FDCWD, path, AT_REMOVEDIR) : answer;
 }
 
-/* A file that comes from outside the set, or leaves it, can't be held. */
+/* A file that comes from outside the set, or leaves it, can't be held, nor two that are exchanged. Where the new name
+   has to be free, as mv has it, a call that was done did the same as any other. */
 int renameat2(int at, const char *path, int at_to, const char *to_path, unsigned flags) {
     const char *from = part_of(at, path), *to = part_of(at_to, to_path);
     if (!next_renameat2) start();
     if (!from && !to) return next_renameat2(at, path, at_to, to_path, flags);
     enter();
     int answer = next_renameat2(at, path, at_to, to_path, flags);
-    if (!from || !to || flags) put(NOT_HELD, 0, number_of(from ? from : to), LINK, 0, 0, NULL);
+    if (!from || !to || flags & ~RENAME_NOREPLACE) put(NOT_HELD, 0, number_of(from ? from : to), LINK, 0, 0, NULL);
     else if (strcmp(from, to)) {
         int name = number_of(from), place = number_of(to);
         put(RENAME, 0, name, told(answer), place, 0, NULL);

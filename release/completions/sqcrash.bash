@@ -4,7 +4,7 @@ _sqcrash() {
   [ "$word" != = ] || word=
   [ "$before" != = ] || before=${COMP_WORDS[COMP_CWORD - 2]}
   COMPREPLY=()
-  case $before in
+  case $command$before in
     --commits)
       COMPREPLY=($(compgen -W 'marks calls' -- "$word"))
       return

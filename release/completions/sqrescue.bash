@@ -12,32 +12,36 @@ _sqrescue() {
         ;;
     esac
   done
-  case $before in
-    --at)
+  case $command$before in
+    show--at | check--at | rows--at | salvage--at | recover--at | report--at)
       :
       return
       ;;
-    --from)
+    diff--from)
       :
       return
       ;;
-    --page)
+    show--page)
       :
       return
       ;;
-    --super-journal)
+    show--super-journal | check--super-journal | rows--super-journal | diff--super-journal | salvage--super-journal | recover--super-journal | report--super-journal)
       COMPREPLY=($(compgen -W 'present gone' -- "$word"))
       return
       ;;
-    --table)
+    rows--table | diff--table)
       :
       return
       ;;
-    --to)
+    diff--to)
+      :
+      return
+      ;;
+    salvage--to | recover--to | report--to)
       compopt -o default
       return
       ;;
-    --wait)
+    show--wait | check--wait | rows--wait | diff--wait | salvage--wait | recover--wait | report--wait)
       :
       return
       ;;
