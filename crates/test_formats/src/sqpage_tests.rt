@@ -545,6 +545,20 @@ fn fault_in(
     Ok(page.layout_in(parts, map).err())
 }
 
+/// The key of the first cell of a page 2 with these bytes, read into these parts.
+fn first_key(bytes: &[u8], usable: u32, parts: &mut [Parts]) -> Result<Option<i64>, Fault>
+    requires page { IsPageSize (length bytes.now) }
+    requires least { 480 ≤ usable }
+    requires most { usable ≤ length bytes.now }
+    requires parts { usable ≤ 2 * length parts.old }
+{
+    let page = BtreePage::parse(bytes, 2, usable, parts)?;
+    if page.len() == 0 || parts.is_empty() {
+        return Ok(None);
+    }
+    Ok(page.cell_with(0, &parts[0]).rowid)
+}
+
 // A page of one cell whose right child is page 3, without a fragment and with one. The marks hold anything before.
 #[test]
 fn an_interior_page(rt: HostRuntime) {
@@ -554,6 +568,7 @@ fn an_interior_page(rt: HostRuntime) {
     ]);
     same(&rt, shape_of(&bytes), Ok((Kind::TableInterior, 1, Some(3))));
     let mut parts = [Parts::NONE; 256];
+    same(&rt, first_key(&bytes, 512, &mut parts), Ok(Some(9)));
     let mut map = [u64::MAX; 9];
     let fault = fault_in(&bytes, 512, &mut parts, &mut map);
     same(&rt, fault, Ok(None));

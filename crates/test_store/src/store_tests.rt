@@ -85,10 +85,23 @@ fn drawn(rt: HostRuntime) -> Result<(), Fail> {
     let alloc = rt.alloc();
     let store = played(alloc)?;
     same(&rt, (store.names(), store.sector()), (2, 512));
+    same(&rt, store.meta(), Meta::Whole);
     let mut rng = Pcg32::new(1, 1);
     let whole = draw(alloc, &mut rng, &store)?;
     same(&rt, whole.files.len(), 2);
     let torn = draw_torn(alloc, &mut rng, &store)?;
     same(&rt, torn.files.len(), 2);
+    Ok(())
+}
+
+// The record of the first name.
+#[test]
+fn a_call(rt: HostRuntime) -> Result<(), Fail> {
+    let alloc = rt.alloc();
+    let bytes = trace(alloc)?;
+    let read = Trace::read(alloc, &bytes)?;
+    let call = read.calls.first().ok_or("no call")?;
+    same(&rt, (call.carried(), call.has_failed()), (3, false));
+    same(&rt, call.bytes(&bytes), b"log".as_slice());
     Ok(())
 }
