@@ -9,6 +9,7 @@ use cli_show::{
 };
 use cli_text::Logged;
 use cli_words::Style;
+use sqpage::PageSource;
 use sqval::Limits;
 use sqview::{FileBytes, Verdict};
 use std::alloc::Global;

@@ -217,7 +217,7 @@ fn origins(alloc: Global, db: &[u8], wal: &[u8], journal: &[u8]) -> Result<[Orig
 }
 
 /// Which log counts, and whether the journal is hot.
-fn in_use(wal: &[u8], mut journal: &[u8]) -> Option<(LogInUse, bool)> {
+fn in_use<'a>(wal: &'a [u8], mut journal: &'a [u8]) -> Option<(LogInUse, bool)> {
     let is_hot = hot_header(&mut journal).ok()?.is_some();
     let in_use = log_in_use(&wal, &mut journal).ok()?;
     Some((in_use, is_hot))
