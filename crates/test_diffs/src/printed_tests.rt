@@ -79,7 +79,9 @@ static SEVEN: [(usize, &[u8]); 4] = [
 
 /// What is printed between that and a file whose row stores something else.
 fn printed_between(alloc: Global, old: &[u8], new: &[u8]) -> Option<Vec<u8>> {
-    let (mut old, mut new) = (source_of(old)?, source_of(new)?);
+    let (Some(mut old), Some(mut new)) = (source_of(old), source_of(new)) else {
+        return None;
+    };
     let selected = Selected {
         names: &[],
         needed: true,

@@ -43,7 +43,9 @@ fn source_of(file: &[u8]) -> Option<SliceSource<'_>> {
 
 /// The first object of a file's schema.
 fn object_in(alloc: Global, file: &[u8]) -> Option<Object> {
-    let mut source = source_of(file)?;
+    let Some(mut source) = source_of(file) else {
+        return None;
+    };
     match listed(alloc, &mut source) {
         Ok(schema) => {
             let stored = schema.objects.first()?;
@@ -94,7 +96,9 @@ fn names_of_tables(rt: HostRuntime) -> Result<(), Fail> {
 
 /// What of a file is printed: its rows at page 2, all of its tables, and the one that is named.
 fn printed_of(alloc: Global, file: &[u8], columns: &Columns) -> Option<Vec<u8>> {
-    let mut source = source_of(file)?;
+    let Some(mut source) = source_of(file) else {
+        return None;
+    };
     let mut out = Vec::new(alloc);
     let style = Style {
         form: form_of(Notation::Csv),

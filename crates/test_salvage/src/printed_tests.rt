@@ -19,7 +19,9 @@ static CELL: [(usize, &[u8]); 1] = [(1019, &[3, 9, 2, 15, 120])];
 
 /// The cells of a file.
 fn printed(alloc: Global, file: &[u8]) -> Option<Vec<u8>> {
-    let mut source = source_of(file)?;
+    let Some(mut source) = source_of(file) else {
+        return None;
+    };
     let mut out = Vec::new(alloc);
     match print_deleted(alloc, &mut source, Style::Lines, &mut out) {
         Ok(()) => Some(out),
@@ -29,7 +31,9 @@ fn printed(alloc: Global, file: &[u8]) -> Option<Vec<u8>> {
 
 /// Those that went and came between two files.
 fn printed_between(alloc: Global, old: &[u8], new: &[u8]) -> Option<Vec<u8>> {
-    let (mut old, mut new) = (source_of(old)?, source_of(new)?);
+    let (Some(mut old), Some(mut new)) = (source_of(old), source_of(new)) else {
+        return None;
+    };
     let mut out = Vec::new(alloc);
     match print_deleted_changes(alloc, &mut old, &mut new, Style::Lines, &mut out) {
         Ok(()) => Some(out),
