@@ -15,5 +15,6 @@ pub mod WaitingCommits
 pub mod MarkedRecords
 pub mod NotedFiles
 pub mod KeptCalls
+pub mod KeptImages
 pub mod ShownImages
 pub mod WatchedFiles

@@ -1,5 +1,7 @@
 -- How a run of the program ends (own).
-use Rattle.std.specs.Prelude.{◌≡◌, ◌⊎◌, ℕ, ◌<◌, List, Result, Ok, Err}
+use Rattle.std.specs.Prelude.{◌≡◌, ◌⊎◌, ℕ, ◌<◌, List, [], ◌∷◌, ◌++◌, Option, Result, Ok, Err}
+use Rattle.std.specs.Io.KnownBytes.{Appends}
+use Rattle.sqcrash.specs.Lines.{sum_text}
 use Rattle.sqcrash.specs.Refused.{IsRefusal}
 use Rattle.sqcrash.specs.Refusals.{IsOfFiles}
 use Rattle.sqcrash.specs.Rigs.{IsJudgment}
@@ -31,11 +33,12 @@ abbrev pub IsReadAs : (words : List (List ℕ)) → Result Request LineError →
 IsReadAs words (Ok request) = IsSectorAsked request.plan.sector
 IsReadAs words (Err error) = IsRefusedAs words error
 
--- What comes of the trace that is asked for: the judgment of what its file gives, with one point or more; or that isn't
--- read, or refused.
-abbrev pub Comes : Plan → Result Tally Refusal → Type 0
-Comes plan (Ok tally) = (b : List ℕ) × (lines : List ℕ) × IsJudgment plan b tally lines × (0 < tally.points)
-Comes plan (Err refusal) = IsOfFiles refusal ⊎ ((b : List ℕ) × IsRefusal plan b refusal)
+-- What comes of the trace that is asked for: the judgment of what its file gives, with one point or more, of which all lines are
+-- written and then what was counted; or that isn't read, or refused.
+abbrev pub Comes : Plan → (before after : Option (List ℕ)) → Result Tally Refusal → Type 0
+Comes plan before after (Ok tally) =
+    (b : List ℕ) × (lines : List ℕ) × IsJudgment plan b tally lines × (0 < tally.points) × Appends before after (lines ++ (sum_text plan.style tally ++ 10 ∷ []))
+Comes plan before after (Err refusal) = IsOfFiles refusal ⊎ ((b : List ℕ) × IsRefusal plan b refusal)
 
 -- the status of what was counted: 0 where nothing is wrong, 1 where something is
 abbrev pub IsStatusOf : Tally → (status : ℕ) → Type 0
@@ -50,15 +53,15 @@ EndsWith (Err refusal) status = status ≡ 3
 abbrev pub IsTold : (told status : ℕ) → Type 0
 IsTold told status = (status ≡ told) ⊎ (status ≡ 3)
 
--- how the program ends whose words were read so
-abbrev pub EndsAs : Result Request LineError → (status : ℕ) → Type 0
-EndsAs (Ok request) status = (answer : Result Tally Refusal) × Comes request.plan answer × EndsWith answer status
-EndsAs (Err (Help text)) status = IsTold 0 status
-EndsAs (Err Version) status = IsTold 0 status
-EndsAs (Err (NotUnderstood text)) status = IsTold 2 status
-EndsAs (Err NoMemory) status = status ≡ 3
+-- how the program ends whose words were read so, and what it writes
+abbrev pub EndsAs : Result Request LineError → (before after : Option (List ℕ)) → (status : ℕ) → Type 0
+EndsAs (Ok request) before after status = (answer : Result Tally Refusal) × Comes request.plan before after answer × EndsWith answer status
+EndsAs (Err (Help text)) before after status = IsTold 0 status
+EndsAs (Err Version) before after status = IsTold 0 status
+EndsAs (Err (NotUnderstood text)) before after status = IsTold 2 status
+EndsAs (Err NoMemory) before after status = status ≡ 3
 
 -- How the program ends whose words are these. Where the first one asks for the version nothing else is read.
-abbrev pub Ends : (words : List (List ℕ)) → (status : ℕ) → Type 0
-Ends words status =
-    (read : Result Request LineError) × IsReadAs words read × (AsksVersion words → read ≡ Err Version) × EndsAs read status
+abbrev pub Ends : (words : List (List ℕ)) → (before after : Option (List ℕ)) → (status : ℕ) → Type 0
+Ends words before after status =
+    (read : Result Request LineError) × IsReadAs words read × (AsksVersion words → read ≡ Err Version) × EndsAs read before after status

@@ -8,6 +8,7 @@ pub mod Markings
 pub mod Told
 pub mod Objects
 pub mod Surveys
+pub mod Keeping
 pub mod Samples
 pub mod Lines
 pub mod Writes

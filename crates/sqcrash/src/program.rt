@@ -44,7 +44,7 @@ pub fn run<R: Files + Clock + AllocGlobal, O: Write, E: Write>(
     err: &mut E,
 ) -> u8
     ensures least { result ≤ 3 }
-    ensures ends { Ends (map (λ w. w.now) words.entry.now) result }
+    ensures ends { Ends (map (λ w. w.now) words.entry.now) (O.contents out.old) (O.contents out.new) result }
 {
     let request = match request(rt.alloc(), words) {
         Ok(request) => request,
@@ -107,7 +107,7 @@ fn carried_out<R: Files + AllocGlobal, O: Write>(
     request: &Request<'_>,
     out: &mut O,
 ) -> Result<Tally, Refusal>
-    ensures { Comes request.now.plan result }
+    ensures { Comes request.now.plan (O.contents out.old) (O.contents out.new) result }
 {
     let bytes = read(rt, request.trace)?;
     let mut folder = Folder::new(rt, request.keep, request.plan)?;
