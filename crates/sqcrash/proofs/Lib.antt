@@ -1,6 +1,7 @@
 pub mod PassedRefusals
 pub mod RefusedImages
 pub mod RefusedTraces
+pub mod UnreadTraces
 pub mod CountedPoints
 pub mod PlayedRecords
 pub mod TallyOfJudgedImages
