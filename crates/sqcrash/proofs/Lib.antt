@@ -19,3 +19,4 @@ pub mod KeptCalls
 pub mod KeptImages
 pub mod ShownImages
 pub mod WatchedFiles
+pub mod WordsAsked

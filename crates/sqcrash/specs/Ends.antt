@@ -6,8 +6,7 @@ use Rattle.sqcrash.specs.Refused.{IsRefusal}
 use Rattle.sqcrash.specs.Refusals.{IsOfFiles}
 use Rattle.sqcrash.specs.Rigs.{IsJudgment}
 use Rattle.sqcrash.specs.Surveys.{IsClean}
-use Rattle.sqcrash.specs.Sectors.{IsSectorAsked}
-use Rattle.sqcrash.specs.Words.{AsksVersion, HasVersion, AsksHelp}
+use Rattle.sqcrash.specs.Words.{Asks, AsksVersion}
 use Rattle.sqcrash.specs.declared.outcome.Refusal.{Refusal}
 use Rattle.sqcrash.specs.declared.outcome.Refusal.TheVariants as refusals
 use Rattle.sqcrash.specs.declared.plan.Plan.{Plan}
@@ -18,23 +17,9 @@ use Rattle.sqcrash.specs.declared.requests.LineError.TheVariants.{NotUnderstood,
 use Rattle.sqcrash.specs.declared.requests.Request.{Request}
 use Rattle.sqcrash.specs.declared.survey.Tally.{Tally}
 
--- why words ask for nothing: a text is printed only where a word asks for it
-abbrev pub IsRefusedAs : (words : List (List ℕ)) → LineError → Type 0
-IsRefusedAs words (Help text) = AsksHelp words
-IsRefusedAs words Version = HasVersion words
-IsRefusedAs words (NotUnderstood text) = Unit {0}
-IsRefusedAs words NoMemory = Unit {0}
-
--- a part is none
-abbrev pub IsOfPart : LineError → Type 0
-IsOfPart (NotUnderstood text) = Unit {0}
-IsOfPart NoMemory = Unit {0}
-IsOfPart _ = ⊥
-
--- what words ask for, or why they ask for nothing
+-- What words ask for, or why they ask for nothing. Where the first one asks for the version nothing else is read.
 abbrev pub IsReadAs : (words : List (List ℕ)) → Result Request LineError → Type 0
-IsReadAs words (Ok request) = IsSectorAsked request.plan.sector
-IsReadAs words (Err error) = IsRefusedAs words error
+IsReadAs words read = (AsksVersion words × (read ≡ Err Version)) ⊎ (¬ AsksVersion words × Asks words read)
 
 -- of bytes that are no trace nothing is written
 abbrev pub MayWrite : Refusal → (before after : Option (List ℕ)) → Type 0

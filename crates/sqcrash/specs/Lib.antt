@@ -15,7 +15,6 @@ pub mod Writes
 pub mod Rigs
 pub mod Refusals
 pub mod Refused
-pub mod Sectors
 pub mod Words
 pub mod Ends
 pub mod internal
