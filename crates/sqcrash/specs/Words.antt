@@ -1,5 +1,5 @@
 -- Which words ask for the version or for help, and what those of the command line ask for, as clap reads them (own).
-use Rattle.std.specs.Prelude.{◌≡◌, ◌≢◌, ◌⊎◌, ℕ, ◌<◌, ◌≤◌, ◌^◌, nat_eq, length, option_map, Bool, false, IsTrue, cond, List, [], ◌∷◌, ◌++◌, map, slice_get, codes, Option, Some, None, unwrap_or, MatchOption, Result, Ok, Err}
+use Rattle.std.specs.Prelude.{◌≡◌, ◌≢◌, ◌⊎◌, ℕ, ◌<◌, ◌≤◌, ◌^◌, nat_eq, length, option_map, Bool, true, false, IsTrue, cond, List, [], ◌∷◌, ◌++◌, map, slice_get, codes, Option, Some, None, unwrap_or, MatchOption, Result, Ok, Err}
 use Rattle.std.specs.Borrow.{Bor}
 use Rattle.std.specs.Option.{option_map_or}
 use Rattle.std.specs.List.{Contains, before_first, after_first, position_or_len}

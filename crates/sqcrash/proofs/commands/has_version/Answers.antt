@@ -10,4 +10,4 @@ pub returns : goal.returns
 returns c =
     let words = c.args.words.now in
     let none = subst (λ (l : List (Bor (List ℕ))). All (λ (w : Bor (List ℕ)). ¬ IsVersion w.now) l) (take_all c.loop-word.word-index words c.loop-word-test.false) c.loop-word.invariant in
-    (λ yes. absurd yes, λ asks. absurd (none_is IsVersion words none asks.0 asks.1 asks.2))
+    (λ yes. absurd (cc yes), λ asks. absurd (none_is IsVersion words none asks.0 asks.1 asks.2))
