@@ -291,6 +291,21 @@ fn with_told<'a>(alloc: Global, command: Command<'a>) -> Result<Command<'a>, All
     with(command, keep)
 }
 
+/// Which images are drawn, where they are judged, and what is told of them.
+fn with_judging<'a>(
+    alloc: Global,
+    command: Command<'a>,
+    promises: ValueParser<'static>,
+    commits: ValueParser<'static>,
+) -> Result<Command<'a>, AllocError>
+    ensures { IfOk result (λ c. app_of c
+        ≡ with_why (with_points promises.entry commits.entry (with_draws (app_of command.entry)))) }
+{
+    let command = with_draws(alloc, command)?;
+    let command = with_points(alloc, command, promises, commits)?;
+    with_why(alloc, command)
+}
+
 /// The program's command line, with these values of its options.
 fn command_with<'a>(
     alloc: Global,
@@ -305,9 +320,7 @@ fn command_with<'a>(
         .about("Judges what crashes may leave of a recorded run of SQLite");
     let command = with_trace(alloc, command)?;
     let command = with_disk(alloc, command, sectors, metas)?;
-    let command = with_draws(alloc, command)?;
-    let command = with_points(alloc, command, promises, commits)?;
-    let command = with_why(alloc, command)?;
+    let command = with_judging(alloc, command, promises, commits)?;
     let command = with_chosen(alloc, command)?;
     with_told(alloc, command)
 }
