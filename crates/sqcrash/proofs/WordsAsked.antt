@@ -1,6 +1,6 @@
 -- What words ask for that clap took apart, or refused.
 use Rattle.std.proofs.Common.{◌≡◌, refl, ℕ, ◌<◌, List, map, Option, Some, None, inl, inr, sym, ◌∙◌, ap, subst}
-use Rattle.std.specs.Prelude.{◌&&◌, [], codes, Bool, true, false, option_map, MatchOption, Result, Ok, Err}
+use Rattle.std.specs.Prelude.{◌&&◌, [], codes, Bool, true, false, IsTrue, option_map, MatchOption, Result, Ok, Err}
 use Rattle.std.specs.Borrow.{Bor}
 use Rattle.std.specs.List.{All, Contains}
 use Rattle.std.proofs.lemmas.List.Elements.{All-contains, All-map}
@@ -18,6 +18,11 @@ use Rattle.sqcrash.specs.declared.requests.LineError.TheVariants.{NotUnderstood,
 pub value_of : (o : Option (Bor Text)) (t : Option Text) → option_map (λ s. s.now) o ≡ t → MatchOption o (t ≡ None) (λ s. t ≡ Some s.now)
 value_of None t e = sym e
 value_of (Some s) t e = sym e
+
+-- an answer isn't yes and no
+pub both : (answer : Bool) → IsTrue answer → answer ≡ false → ⊥
+both true yes no = absurd (cc no)
+both false yes no = absurd (cc yes)
 
 -- none of words is of a kind
 pub none_is : (P : Text → Type 0) (words : List (Bor Text)) → All (λ (w : Bor Text). ¬ P w.now) words → (word : Text) → Contains (map (λ w. w.now) words) word → ¬ P word

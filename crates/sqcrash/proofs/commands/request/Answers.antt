@@ -1,6 +1,6 @@
 use Rattle.std.proofs.Common.{inl, inr, refl}
 use Rattle.clap.specs.Words.{app_of}
-use Rattle.sqcrash.proofs.WordsAsked.{asks_line, is_line}
+use Rattle.sqcrash.proofs.WordsAsked.{asks_line, both, is_line}
 use Rattle.sqcrash.proofs.commands.request.Goals as goal
 
 pub read-requires : goal.read-requires
@@ -11,7 +11,7 @@ returns-then-asks_version-clause-read c = inl (c.asks_version.ensures.0 c.if-ask
 
 pub returns-in-Ok-clause-read : goal.returns-in-Ok-clause-read
 returns-in-Ok-clause-read c =
-    inr (λ asks. c.if-asks_version.false (c.asks_version.ensures.1 asks), asks_line (app_of c.in-Ok.command) _ c.read.result c.in-Ok.ensures c.read.ensures)
+    inr (λ asks. both c.asks_version.result (c.asks_version.ensures.1 asks) c.if-asks_version.false, asks_line (app_of c.in-Ok.command) _ c.read.result c.in-Ok.ensures c.read.ensures)
 
-pub returns-clause-read : goal.returns-clause-read
-returns-clause-read c = inr (λ asks. c.if-asks_version.false (c.asks_version.ensures.1 asks), tt)
+pub returns-in-Err-clause-read : goal.returns-in-Err-clause-read
+returns-in-Err-clause-read c = inr (λ asks. both c.asks_version.result (c.asks_version.ensures.1 asks) c.if-asks_version.false, tt)

@@ -41,5 +41,5 @@ returns g c =
       found.0,
       found.1,
       c.in_ok-tally.ensures.some,
-      appends_kept (out c.args.out.now) (out c.write_sum.new.out) (out c.flush.new.self) (found.0 ++ sum) all c.flush.ensures,
+      appends_kept (out c.args.out.now) (out c.write_sum.new.out) (out c.flush.new.self) (found.0 ++ sum) all c.flush.ensures.bytes,
     )
