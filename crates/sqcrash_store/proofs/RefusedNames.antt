@@ -50,8 +50,8 @@ told_in b calls before behind c split n there =
     subst (λ (l : List Call). Contains (names_told b l) n) (sym split) all
 
 -- the text of each name is among those of all
-pub text_among : (names : List String) (k : ℕ) (name : String) → k < length names → name ≡ get_or names k name → Contains (map (λ n. string_bytes n) names) (string_bytes name)
-text_among names k name below is =
-    let f : String → List ℕ = λ n. string_bytes n in
+pub text_among : {A : Type 0} (names : List (String A)) (k : ℕ) (name : String A) → k < length names → name ≡ get_or names k name → Contains (map (λ n. string_bytes n) names) (string_bytes name)
+text_among {A} names k name below is =
+    let f : String A → List ℕ = λ n. string_bytes n in
     let long : k < length (map f names) = omega (arith, below, length-map names f) in
     (k, long, get_or-map f names k name (string_bytes name) below ∙ ap f (sym is))

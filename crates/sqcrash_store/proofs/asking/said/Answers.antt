@@ -10,5 +10,5 @@ returns c =
       text = c.in_ok-from_str.ensures.ok ∙ parts.2;
     }
 
-pub returns-in_None : goal.returns-in_None
-returns-in_None c = inr (refl, split_once_first 32 c.args.line.now None c.in_None.ensures.cases (omega arith))
+pub returns-in_default : goal.returns-in_default
+returns-in_default c = inr (refl, split_once_first 32 c.args.line.now None c.in_default.ensures.cases (omega arith))
