@@ -13,4 +13,5 @@ pub mod Refusals
 pub mod Surveys
 pub mod States
 pub mod Rigs
+pub mod Ends
 pub mod internal

@@ -1,7 +1,8 @@
 //! What crashes may leave of a recorded run of any program, judged by a command (rig/judge).
 #![tactic(auto)]
 
-ghost use Rattle.std.specs.Prelude.{◌≤◌, IfOk};
+ghost use Rattle.std.specs.Prelude.{◌≤◌, ℕ, List, IfOk};
+ghost use Rattle.sqcrash_store.specs.Ends.{Ends};
 
 mod asked;
 mod asking;
@@ -34,7 +35,9 @@ fn answer<R: Env + Files + AllocGlobal, I: BufRead, O: Write, E: Write>(
     out: &mut O,
     err: &mut E,
 ) -> io::Result<u8>
-    ensures { IfOk result (λ status. status ≤ 3) }
+    ensures least { IfOk result (λ status. status ≤ 3) }
+    ensures ends { IfOk result (λ status. (words : List (List ℕ))
+        × Ends words (O.contents out.old) (O.contents out.new) status) }
 {
     let alloc = rt.alloc();
     let words: Vec<String> = env::args(rt)?.collect(alloc)?;

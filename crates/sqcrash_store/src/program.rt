@@ -1,7 +1,8 @@
 //! The program over a runtime's files, a reader of answers and two writers.
-ghost use Rattle.std.specs.Prelude.{◌≡◌, ◌⊎◌, ◌≤◌};
+ghost use Rattle.std.specs.Prelude.{◌≡◌, ◌⊎◌, ◌≤◌, IfOk, map};
 ghost use Rattle.std.specs.IoError.{error_kind};
 ghost use Rattle.std.specs.declared.io.ErrorKind.TheVariants.{OutOfMemory};
+ghost use Rattle.sqcrash_store.specs.Ends.{Comes, Ends, IsStatusOf};
 
 use crate::asking::Asking;
 use crate::commands::{LineError, Request, request_of};
@@ -32,7 +33,8 @@ pub fn run<R: Files + AllocGlobal, I: BufRead, O: Write, E: Write>(
     out: &mut O,
     err: &mut E,
 ) -> u8
-    ensures { result ≤ 3 }
+    ensures least { result ≤ 3 }
+    ensures ends { Ends (map (λ w. w.now) words.entry.now) (O.contents out.old) (O.contents out.new) result }
 {
     let request = match request_of(rt.alloc(), words) {
         Ok(request) => request,
@@ -41,10 +43,16 @@ pub fn run<R: Files + AllocGlobal, I: BufRead, O: Write, E: Write>(
         Err(LineError::NoMemory) => return refused(err, &LineError::NoMemory),
     };
     match carried_out(rt, &request, answers, out) {
-        Ok(tally) if tally.is_clean() => DONE,
-        Ok(_) => WRONG,
+        Ok(tally) => status_of(&tally),
         Err(refusal) => refused(err, &refusal),
     }
+}
+
+/// The status of what was counted.
+fn status_of(tally: &Tally) -> u8
+    ensures { IsStatusOf tally.now result }
+{
+    if tally.is_clean() { DONE } else { WRONG }
 }
 
 fn failed(error: io::Error) -> Refusal {
@@ -61,7 +69,9 @@ fn carried_out<R: Files + AllocGlobal, I: BufRead, O: Write>(
     request: &Request<'_>,
     answers: &mut I,
     out: &mut O,
-) -> Result<Tally, Refusal> {
+) -> Result<Tally, Refusal>
+    ensures { IfOk result (Comes request.now.plan (O.contents out.old) (O.contents out.new)) }
+{
     let bytes = fs::read(rt, request.trace).map_err(failed)?;
     let asks = OpenOptions::new()
         .write(true)
