@@ -1,3 +1,5 @@
+-- The first faults of pages, of one page more.
+pub mod FirstsWritten
 -- What a source keeps over no step, and over two.
 pub mod Kept
 -- Leaves, one more at the end.

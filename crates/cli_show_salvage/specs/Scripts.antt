@@ -26,6 +26,7 @@ use Rattle.cli_show_salvage.specs.declared.book.Going.{Going}
 use Rattle.cli_show_salvage.specs.declared.book.Going.TheVariants.{Schema, Table, Lost}
 use Rattle.cli_show_salvage.specs.declared.book.Target.{Target}
 use Rattle.cli_show_salvage.specs.Books.{IsEmptied}
+use Rattle.cli_show_salvage.specs.Faults.{AreFaultsWritten}
 use Rattle.cli_show_salvage.specs.Lost.{made_text}
 use Rattle.cli_show_salvage.specs.Cells.{IsRunOut}
 use Rattle.cli_show_salvage.specs.Leaves.{IsTreeTold, AreLostTold}
@@ -136,11 +137,13 @@ pub record AreRowsSalvaged (d : Database) (encoding : Encoding) (places : Bool) 
   pub trees : AreTreesEnded d encoding lost places objects passed begun made committed
   pub others : AreOthersWritten committed objects after
 
--- A script of what can be read of a damaged database: the objects are those of the rows of the schema in the leaves that the
--- tree of page 1 reaches.
-pub record IsSalvaged (d : Database) (places : Bool) (before after : Option (List ℕ)) : Type 0 where
+-- A script of what can be read of a damaged database, behind comments that name each page that has a fault: the objects are
+-- those of the rows of the schema in the leaves that the tree of page 1 reaches.
+pub record IsSalvaged (d : Database) (size : ℕ) (places : Bool) (before after : Option (List ℕ)) : Type 0 where
   pub first_done : Option (List ℕ)
   pub first : Appends before first_done (start_text (encoding_of d))
+  pub faults_done : Option (List ℕ)
+  pub faults : AreFaultsWritten d size first_done faults_done
   pub unpassed : List Bool
   pub none : (p : ℕ) → ¬ IsMarked unpassed p
   pub target : Target
@@ -152,13 +155,13 @@ pub record IsSalvaged (d : Database) (places : Bool) (before after : Option (Lis
   pub passed : List Bool
   pub read : Book
   pub schema_done : Option (List ℕ)
-  pub schema : IsTreeTold d target 1 unpassed passed begun read first_done schema_done
+  pub schema : IsTreeTold d target 1 unpassed passed begun read faults_done schema_done
   pub rows : AreRowsSalvaged d (encoding_of d) places read.objects.items passed schema_done after
 
 -- What was written of a database: of one that is well formed, all of it, as its rows are printed; else what can be read.
 abbrev pub IsScript : Database → (size : ℕ) → (places : Bool) → (before after : Option (List ℕ)) → (whole : Bool) → Type 0
 IsScript d size places before after true = WellFormedWith true d size × AreTablesPrinted d Sql before after
-IsScript d size places before after false = (¬ WellFormedWith true d size) × IsSalvaged d places before after
+IsScript d size places before after false = (¬ WellFormedWith true d size) × IsSalvaged d size places before after
 
 -- Nothing was written: too little of each page is used.
 abbrev pub IsUnfit : Database → Stop → Type 0

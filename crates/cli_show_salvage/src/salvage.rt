@@ -1,6 +1,7 @@
 //! A database as a script, well formed or not.
 ghost use Rattle.std.specs.Prelude.{◌≡◌, ◌⊎◌, ◌≤◌, [], IfErr, IfOk, OnOk, length, true};
 ghost use Rattle.std.specs.Io.KnownBytes.{Appends};
+ghost use Rattle.std.specs.List.Sorted.{IsNonDecreasingBy};
 ghost use Rattle.sqval.specs.Bytes.{word};
 ghost use Rattle.sqdeep.specs.Records.{encoding_of};
 ghost use Rattle.sqdeep.specs.Texts.{encoding_named};
@@ -11,11 +12,13 @@ ghost use Rattle.cli_row_text.specs.declared.form.Notation.TheVariants.{Sql};
 ghost use Rattle.sqsalvage.specs.SalvageCursor.{IsOver};
 ghost use Rattle.cli_show_salvage.specs.declared.book.Going.TheVariants.{Schema};
 ghost use Rattle.cli_show_salvage.specs.Cells.{IsRunOut};
+ghost use Rattle.cli_show_salvage.specs.Faults.{AreFaultsOf};
 ghost use Rattle.cli_show_salvage.specs.Scripts.{AreRowsSalvaged, AreTreesEnded, IsSalvaged, IsScript};
 ghost use Rattle.cli_show_salvage.specs.Scripts.{IsScriptStopped, IsUnfit, IsUnreachedEnded};
-ghost use Rattle.cli_show_salvage.specs.internal.Opening.{IsJudged};
+ghost use Rattle.cli_show_salvage.specs.internal.Opening.{IsOpened};
 
 use crate::book::{Book, Going, Target, Turn};
+use crate::faults::{faults_of, print_faults};
 use crate::found::stop_of;
 use crate::leaves::{print_lost_leaves, print_tree};
 use crate::lost::write_made;
@@ -23,7 +26,6 @@ use crate::tables::{lost_name, print_others, print_turn};
 use byteorder::{BigEndian, ByteOrder};
 use cli_row_text::Notation;
 use cli_show_rows::{Stop, print_tables, write_start};
-use sqcheck::{Options, check_with};
 use sqdeep::Encoding;
 use sqpage::{CheckError, Fault, PageSource};
 use sqsalvage::Salvage;
@@ -40,21 +42,6 @@ fn print_text<W: Write>(out: &mut W, text: &[u8]) -> Result<(), Stop>
     match out.write_all(text) {
         Ok(()) => Ok(()),
         Err(error) => Err(Stop::Write(error)),
-    }
-}
-
-/// Whether the database is well formed.
-fn is_well_formed<S: PageSource>(alloc: Global, source: &mut S) -> Result<bool, Stop>
-    ensures ok { S.gives_pages source.old → IfOk result (IsJudged (S.pages source.old) (S.size source.old)) }
-    ensures err { S.gives_pages source.old → IfErr result IsRunOut }
-    ensures keeps { KeepsPages S.pages S.size S.reads_right S.gives_pages source.old source.new }
-{
-    match check_with(alloc, source, Options { pointer_maps: true }) {
-        Ok(_) => Ok(true),
-        Err(refusal) => match refusal.fault {
-            Fault::Source | Fault::NoMemory => Err(stop_of(refusal)),
-            _ => Ok(false),
-        },
     }
 }
 
@@ -212,15 +199,34 @@ fn schema_target<'a>(how: How) -> Target<'a>
     }
 }
 
-/// Writes what can be read of a database.
+/// Writes what a script begins with, and a comment for each of so many pages that has a fault.
+fn print_opening<W: Write>(
+    encoding: Encoding,
+    faults: &[CheckError],
+    count: u32,
+    out: &mut W,
+) -> Result<(), Stop>
+    ensures ok { IsNonDecreasingBy (λ e. e.page) faults.now
+        → OnOk result (IsOpened encoding count faults.now (W.contents out.old) (W.contents out.new)) }
+    ensures err { IfErr result IsRunOut }
+{
+    match write_start(out, encoding) {
+        Ok(()) => print_faults(out, faults, count),
+        Err(error) => Err(Stop::Write(error)),
+    }
+}
+
+/// Writes what can be read of a database whose pages have these faults.
 fn print_damaged<S: PageSource, W: Write>(
     alloc: Global,
     source: &mut S,
+    faults: &[CheckError],
     places: bool,
     out: &mut W,
 ) -> Result<(), Stop>
-    ensures ok { S.gives_pages source.old → OnOk result
-        (IsSalvaged (S.pages source.old) places (W.contents out.old) (W.contents out.new)) }
+    ensures ok { S.gives_pages source.old → AreFaultsOf (S.pages source.old) (S.size source.old) faults.now → OnOk
+        result (IsSalvaged (S.pages source.old) (S.size source.old) places (W.contents out.old)
+        (W.contents out.new)) }
     ensures err { S.gives_pages source.old → IfErr result (λ stop. IsRunOut stop
         ⊎ (IsUnfit (S.pages source.old) stop × (W.contents out.old ≡ W.contents out.new))) }
     ensures keeps { KeepsPages S.pages S.size S.reads_right S.gives_pages source.old source.new }
@@ -233,9 +239,9 @@ fn print_damaged<S: PageSource, W: Write>(
         Ok(encoding) => encoding,
         Err(stop) => return Err(stop),
     };
-    match write_start(out, encoding) {
+    match print_opening(encoding, faults, source.count(), out) {
         Ok(()) => {}
-        Err(error) => return Err(Stop::Write(error)),
+        Err(stop) => return Err(stop),
     }
     let mut book = Book::new(alloc);
     let how = How { places, encoding };
@@ -269,11 +275,12 @@ fn print_whole<S: PageSource, W: Write>(
 /// are understood, with the rows that they take, those WITHOUT ROWID too; each other row that can be read in a table
 /// `lost_and_found`, with the root of its tree, or NULL, its page, how many values it has and its rowid, or NULL; a
 /// comment for each cell that can't, with its page and its index there; with `places` such a comment before each row
-/// too. Leaves that no tree reaches are read where they are those of a table with rowids: those of a table WITHOUT
-/// ROWID can't be told from an index's. Indexes, triggers and views come behind it. True where it is well formed.
-/// Refused by `Encoding` where it is well formed and the encoding of its texts isn't known, by PageOutside and Reserved
-/// at page 1 where there is no page or fewer than 480 bytes of one are usable, by `NoMemory`, and by an error of the
-/// writer.
+/// too. Before all of them stands a comment for each page that has a fault, rising, with the first one that a survey
+/// tells of it. Leaves that no tree reaches are read where they are those of a table with rowids: those of a table
+/// WITHOUT ROWID can't be told from an index's. Indexes, triggers and views come behind it. True where it is well
+/// formed. Refused by `Encoding` where it is well formed and the encoding of its texts isn't known, by PageOutside and
+/// Reserved at page 1 where there is no page or fewer than 480 bytes of one are usable, by `NoMemory`, and by an error
+/// of the writer.
 pub fn print_salvage<S: PageSource, W: Write>(
     alloc: Global,
     source: &mut S,
@@ -286,12 +293,12 @@ pub fn print_salvage<S: PageSource, W: Write>(
         (S.size source.old) stop (W.contents out.old) (W.contents out.new)) }
     ensures keeps { KeepsPages S.pages S.size S.reads_right S.gives_pages source.old source.new }
 {
-    match is_well_formed(alloc, source) {
-        Ok(true) => return print_whole(alloc, source, out),
-        Ok(false) => {}
+    let faults = match faults_of(alloc, source) {
+        Ok(Some(faults)) => faults,
+        Ok(None) => return print_whole(alloc, source, out),
         Err(stop) => return Err(stop),
-    }
-    match print_damaged(alloc, source, places, out) {
+    };
+    match print_damaged(alloc, source, &faults, places, out) {
         Ok(()) => Ok(false),
         Err(stop) => Err(stop),
     }

@@ -5,9 +5,10 @@ use std::alloc::Global;
 use std::process::Abort;
 use std::test::Fail;
 
-/// What the script of no rows begins with, and ends with.
+/// What the script of no rows begins with, and ends with. Page 1 of such a file is that of no database.
 const FIRST: &str = "PRAGMA foreign_keys=OFF;
 BEGIN TRANSACTION;
+-- page 1: fault 1 Magic
 CREATE TABLE \"lost_and_found\"(rootpgno INTEGER, pgno INTEGER, nfield INTEGER, id INTEGER);
 ";
 

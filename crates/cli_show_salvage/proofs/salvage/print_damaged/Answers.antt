@@ -1,4 +1,4 @@
-use Rattle.std.proofs.Common.{List, ◌≡◌, ◌∙◌, ap, sym, subst}
+use Rattle.std.proofs.Common.{List, ℕ, ◌≡◌, ◌∙◌, length, ap, sym, subst}
 use Rattle.std.specs.Io.KnownBytes.{Appends}
 use Rattle.std.proofs.lemmas.Result.{on_ok_weaker}
 use Rattle.sqval.specs.Database.{Database}
@@ -7,13 +7,14 @@ use Rattle.sqdeep.specs.Records.{encoding_of}
 use Rattle.sqtables.specs.declared.list.Object.{Object}
 use Rattle.sqsalvage.specs.SalvageCursor.{IsOver}
 use Rattle.cli_show_rows.specs.Dumps.{start_text}
+use Rattle.cli_show_salvage.specs.Faults.{AreFirstsWritten}
 use Rattle.cli_show_salvage.specs.Leaves.{IsTreeTold}
 use Rattle.cli_show_salvage.specs.Scripts.{AreRowsSalvaged}
 use Rattle.cli_show_salvage.proofs.Kept.{kept_more}
 use Rattle.cli_show_salvage.proofs.salvage.print_damaged.Goals as goal
 
 pub returns-in-Ok-print_tree-clause-ok : goal.returns-in-Ok-print_tree-clause-ok
-returns-in-Ok-print_tree-clause-ok g c = λ gives.
+returns-in-Ok-print_tree-clause-ok g c = λ gives has.
     let P = g.S.PageSource in
     let d = P.pages c.args.source.now in
     let begun = c.in-Ok.ensures in
@@ -24,7 +25,8 @@ returns-in-Ok-print_tree-clause-ok g c = λ gives.
     let read = c.print_tree.new.book in
     let target = c.schema_target-target.result in
     let before = g.W.Write.contents c.args.out.now in
-    let first_done = g.W.Write.contents c.write_start.new.out in
+    let opened = c.in-Ok-print_opening.ensures.ok has.ordered in
+    let faults_done = g.W.Write.contents c.print_opening.new.out in
     let schema_done = g.W.Write.contents c.print_tree.new.out in
     let after = g.W.Write.contents c.print_rows.new.out in
     let one = kept_more P.pages P.size P.reads_right P.gives_pages c.args.source.now c.new.new.source c.encoding_of.new.source begun.keeps named.keeps in
@@ -32,9 +34,12 @@ returns-in-Ok-print_tree-clause-ok g c = λ gives.
     let is : c.in-Ok-encoding_of.encoding ≡ encoding_of d = named.ok (begun.keeps.still_gives gives) ∙ ap encoding_of begun.keeps.same_pages in
     let over = subst (λ (x : Database). IsOver x salvage) (sym one.same_pages) (begun.ok gives).0 in
     let over_moved = subst (λ (x : Database). IsOver x moved) (sym tree.keeps.same_pages) (tree.over (one.still_gives gives) over) in
+    let all : c.count.result ≡ length d = c.count.ensures ∙ ap (λ (x : Database). length x) one.same_pages in
     on_ok_weaker c.print_rows.result (λ rows. record {
-      first_done = first_done;
-      first = subst (λ (e : Encoding). Appends before first_done (start_text e)) is c.in-Ok-write_start.ensures;
+      first_done = opened.0;
+      first = subst (λ (e : Encoding). Appends before opened.0 (start_text e)) is opened.1;
+      faults_done = faults_done;
+      faults = (c.args.faults.now, has, subst (λ (n : ℕ). AreFirstsWritten n c.args.faults.now opened.0 faults_done) all opened.2);
       unpassed = salvage.marks.items;
       none = (begun.ok gives).2;
       target = target;
@@ -46,7 +51,7 @@ returns-in-Ok-print_tree-clause-ok g c = λ gives.
       passed = moved.marks.items;
       read = read;
       schema_done = schema_done;
-      schema = subst (λ (x : Database). IsTreeTold x target 1 salvage.marks.items moved.marks.items c.new-book.result read first_done schema_done) one.same_pages (tree.ok (one.still_gives gives) over);
+      schema = subst (λ (x : Database). IsTreeTold x target 1 salvage.marks.items moved.marks.items c.new-book.result read faults_done schema_done) one.same_pages (tree.ok (one.still_gives gives) over);
       rows = subst (λ (e : Encoding). AreRowsSalvaged d e c.args.places read.objects.items moved.marks.items schema_done after) is
           (subst (λ (os : List Object). AreRowsSalvaged d c.in-Ok-encoding_of.encoding c.args.places os moved.marks.items schema_done after) c.deref.ensures.value
           (subst (λ (x : Database). AreRowsSalvaged x c.in-Ok-encoding_of.encoding c.args.places c.deref.result.now moved.marks.items schema_done after) both.same_pages rows));

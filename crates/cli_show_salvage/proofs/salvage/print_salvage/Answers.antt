@@ -1,6 +1,7 @@
-use Rattle.std.proofs.Common.{Bool, Result, Ok, Err, inr, subst}
+use Rattle.std.proofs.Common.{Option, Result, Ok, Err, Vec, Global, inr, subst}
 use Rattle.std.specs.Prelude.{IfErr}
 use Rattle.sqval.specs.Database.{Database}
+use Rattle.sqpage.specs.declared.fault.CheckError.{CheckError}
 use Rattle.cli_row_text.specs.declared.form.Notation.TheVariants.{Sql}
 use Rattle.cli_show_rows.specs.Stops.{AreTablesStopped}
 use Rattle.cli_show_salvage.specs.Scripts.{IsScriptStopped}
@@ -11,14 +12,14 @@ on_err : {T E : Type 0} (r : Result T E) (P Q : E → Type 0) → ((e : E) → P
 on_err (Ok _) P Q f h = h
 on_err (Err e) P Q f h = f e h
 
-pub returns-in-Ok-true-clause-err : goal.returns-in-Ok-true-clause-err
-returns-in-Ok-true-clause-err g c = λ gives.
+pub returns-in-Ok-None-clause-err : goal.returns-in-Ok-None-clause-err
+returns-in-Ok-None-clause-err g c = λ gives.
     let d = g.S.PageSource.pages c.args.source.now in
     let size = g.S.PageSource.size c.args.source.now in
     let before = g.W.Write.contents c.args.out.now in
     let after = g.W.Write.contents c.print_whole.new.out in
-    let keeps = c.in-Ok-true.ensures.keeps in
-    let sound = subst (λ (b : Bool). IsJudged d size b) c.in-Ok-true.field-0-test (c.in-Ok-true.ensures.ok gives) in
-    on_err c.print_whole.result (λ stop. AreTablesStopped (g.S.PageSource.pages c.is_well_formed.new.source) Sql stop before after) (λ stop. IsScriptStopped d size stop before after)
+    let keeps = c.in-Ok-None.ensures.keeps in
+    let sound = subst (λ (o : Option (Vec CheckError Global)). IsJudged d size o) c.in-Ok-None.field-0-is (c.in-Ok-None.ensures.ok gives) in
+    on_err c.print_whole.result (λ stop. AreTablesStopped (g.S.PageSource.pages c.faults_of.new.source) Sql stop before after) (λ stop. IsScriptStopped d size stop before after)
     (λ stop stopped. inr (inr (sound, subst (λ (x : Database). AreTablesStopped x Sql stop before after) keeps.same_pages stopped)))
     (c.print_whole.ensures.err (keeps.still_gives gives))
