@@ -221,10 +221,12 @@ def _judge(status):
 
 
 def _lent(content):
-    """A pointer to these bytes, and their number. It keeps them alive; bytes, bytearrays and maps aren't copied."""
+    """A pointer to these bytes, and their number. It keeps them alive; bytes, bytearrays and maps aren't copied. A
+    TypeError where it is no object like bytes."""
     if isinstance(content, (mmap.mmap, bytearray)):
         return ctypes.cast((ctypes.c_char * len(content)).from_buffer(content), Bytes), len(content)
-    content = bytes(content)
+    if not isinstance(content, bytes):
+        content = bytes(memoryview(content))
     return ctypes.cast(ctypes.c_char_p(content), Bytes), len(content)
 
 
