@@ -368,6 +368,9 @@ def helps():
         out = run(f"{command} --help").out
         for option in "--super-journal", "--verbose":
             yield f"help of {command}: {option}", None if option in out else f"{out!r}"
+    for command, told in ("salvage", "; - prints it"), ("report", "; - prints it"), ("recover", "; - is a name"):
+        out = run(f"{command} --help").out
+        yield f"help of {command}: --to -", None if re.search(f"--to <OUT>.*{told}", out) else f"{out!r}"
     page = read(os.path.join(top, "docs", "sqrescue.1")).decode()
     for word in "Fl -force", "in use", "file changed", "Fl -super-journal", "Fl -version", "Fl -verbose":
         yield f"manual page: {word}", None if word in page else "it isn't named"

@@ -138,7 +138,8 @@ pub(crate) fn copy_arg<'a>(alloc: Global) -> Arg<'a> {
         alloc,
         "to",
         "OUT",
-        "Makes the file OUT instead, which holds what FILE would, and writes neither FILE nor its logs",
+        "Makes the file OUT instead, which holds what FILE would, and writes neither FILE nor its logs; \
+         - is a name like any other",
     )
 }
 
@@ -176,7 +177,7 @@ pub(crate) fn report_arg<'a>(alloc: Global) -> Arg<'a> {
         alloc,
         "to",
         "OUT",
-        "Makes the file OUT, which a browser shows without a network",
+        "Makes the file OUT, which a browser shows without a network; - prints it instead",
     )
     .required(true)
 }
@@ -187,7 +188,7 @@ pub(crate) fn script_file_arg<'a>(alloc: Global) -> Arg<'a> {
         alloc,
         "to",
         "OUT",
-        "Makes the file OUT, a script of SQL, which sqlite3 reads",
+        "Makes the file OUT, a script of SQL, which sqlite3 reads; - prints it instead",
     )
     .required(true)
 }
