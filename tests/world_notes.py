@@ -246,6 +246,12 @@ def verbose_of_causes():
         os.chmod("a.db-wal", 0o000)
         pattern = r"a\.db-wal\b.*([Pp]ermission|denied|os error 13)"
         yield "no permission", nobody("check -v a.db", 3, "", Noted(pattern, "file failed"))
+        fill(DB, WAL)
+        os.chmod("a.db-wal", 0o666)
+        for mode in 0o000, 0o444:
+            os.chmod("a.db", mode)
+            told = re.compile("(?s)(?!.*denied.*denied).*a\\.db: Permission denied.*\n.*file failed\n")
+            yield f"no permission, mode {mode:o}, once", nobody("recover -v a.db", 3, "", told)
 
 
 UNREAD = [  # files, which of them can't be read and from where, and the lines of which that is said

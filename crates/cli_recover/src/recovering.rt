@@ -19,7 +19,7 @@ use crate::guarded_disk::{Gate, GuardedDisk, Over};
 use crate::outcomes::print_outcome;
 use crate::plans::{Recovery, plan_recovery, scan_of};
 use crate::refusals::refusal_of_guard;
-use cli_facts::{Guard, Notes, Outcome, Refusal, SystemFile, metadata_of};
+use cli_facts::{Guard, NoteWriter, Notes, Outcome, Refusal, SystemFile, metadata_of};
 use cli_files::{
     Beheld, Beside, Count, OpenElsewhere, OpenedFile, Paths, Place, Progress, counting_log,
     open_database, open_logs, paths_of, tell_dropped, tell_length, tell_unread, told,
@@ -34,7 +34,7 @@ use sqwal::Scan;
 use std::alloc::Global;
 use std::cell::RefCell;
 use std::fs::{Metadata, OpenFile, OpenOptions};
-use std::io::Write;
+use std::io::{self, Write};
 use std::rt::Files;
 use std::time::Clock;
 
@@ -179,12 +179,17 @@ fn tell_database<R: Files, M, E: Write>(
 where
     R::File: SystemFile,
 {
+    if !notes.are_asked() {
+        return;
+    }
+    // Why it can't be opened is told where it is to be written.
+    let nowhere = NoteWriter::new(io::sink());
+    let mut unheard = Notes::new(&nowhere, false, false);
     let paths = &job.source.paths;
-    if notes.are_asked() {
-        // A file that can't be opened is told of.
-        if let Ok(db) = open_database(job.rt, paths, &found, notes) {
-            tell_length(notes, paths.db.as_str(), &db);
-        }
+    if let Ok(db) = open_database(job.rt, paths, &found, &mut unheard) {
+        let (path, length) = (paths.db.quoted(), found.len());
+        notes.tell(&format_args!("{path}: {length} bytes"));
+        tell_length(notes, paths.db.as_str(), &db);
     }
 }
 

@@ -86,10 +86,7 @@ fn tell_stop<W: Write, E: Write>(
     match stop {
         Stop::Fault(error) => return tell_fault(out, style, error, notes),
         Stop::Record(error) => notes.say(&format_args!("a row is no record: {error}")),
-        Stop::NoSuchTable => notes.explain(
-            &"see whether the name is right: rows without --table prints each table",
-        ),
-        Stop::TooLong | Stop::NoMemory | Stop::Write(_) => {}
+        Stop::NoSuchTable | Stop::TooLong | Stop::NoMemory | Stop::Write(_) => {}
         stop => notes.say(&format_args!("{stop}")),
     }
     Ok(())

@@ -33,7 +33,8 @@ fn step_after(cause: Option<ErrorKind>) -> &'static str {
 /// What to do where rows were refused behind what was printed.
 pub(crate) fn step_after_rows(why: Untold) -> &'static str {
     match why {
-        Untold::NoSuchTable => "rows without --table begins each table with its name",
+        Untold::NoSuchTable =>
+            "see whether the name is right: rows without --table begins each table with its name",
         Untold::NotUnderstood =>
             "the note before names what isn't understood; rows --table prints another table alone",
     }
