@@ -507,6 +507,22 @@ def refusals_on_a_terminal():
 
 
 @test
+def damaged_headers_on_a_terminal():
+    """What to do is what helps: `salvage` refuses such a file by itself, and takes it once its header is put right."""
+    for header in bytes(PAGE), put(DB, 16, [3, 3]), b"":
+        fill(header)
+        for line in "check", "check --deep", "show --pages":
+            status, told = on_a_terminal(*line.split(), "a.db")
+            is_told = status == 1 and re.fullmatch(r"sqrescue: note: salvage --to .* first 18 bytes .*\n", told)
+            yield f"{header[:20]}, {line}", None if is_told else f"{status} {told!r}"
+        status, told = on_a_terminal("salvage", "a.db", "--to", "-")
+        is_refused = status == 3 and told.endswith("sqrescue: not a database\n")
+        yield f"{header[:20]}, salvage", None if is_refused else f"{status} {told!r}"
+    fill(put(put(DB, 0, bytes(18)), 0, DB[:18]))
+    yield "put right", wrong(run("salvage a.db --to -"), 0, TEXT)
+
+
+@test
 def a_full_disk():
     """The cause is named, and what to do fits it."""
     fill(DB, WAL)

@@ -6,6 +6,7 @@ ghost use Rattle.cli_job.specs.Opened.{GivesBytes};
 ghost use Rattle.sqrescue.specs.Comes.{Comes};
 
 use crate::checking::write_checked;
+use crate::hints::step_after_finding;
 use crate::pages::write_surveyed;
 use cli_facts::{Front, Notes, Refusal, SystemFile};
 use cli_files::{Count, Paths};
@@ -63,12 +64,17 @@ fn written<F: FileBytes + Drop, W: Write, E: Write>(
     ensures { Tells (answer_of_finding found) result }
 {
     let (alloc, style) = of;
-    match found {
+    let step = step_after_finding(&found);
+    let answer = match found {
         Finding::Checked(found) => write_checked(out, style, &found.verdict, notes),
         Finding::Surveyed(found) => write_surveyed(alloc, style, &found, out),
         Finding::Shown(shown) => write_shown(out, paths, shown, notes),
         Finding::Printed(printed) => write_printed(out, style, printed.ended, notes),
+    };
+    if matches!(answer, Ok(Answer::Damaged)) {
+        notes.explain(&step);
     }
+    answer
 }
 
 /// Writes the lines of a part that were kept back, or tells why not all of it was shown.

@@ -1,17 +1,44 @@
 //! What is said to be done after a refusal, and after damage.
 use cli_facts::Refusal;
-use cli_job::Untold;
+use cli_job::{Finding, Untold};
+use cli_show::Found;
 use cli_words::Request;
+use sqdeepjudge::{Damage, DeepVerdict};
+use sqpage::Fault;
 use std::io::ErrorKind;
 
-/// What to do where a request found damage.
-pub(crate) fn step_after_damage(request: &Request<'_>) -> &'static str {
+/// What to do where a page or a row has a fault.
+const IN_PAGES: &str =
+    "report --to shows which pages have a fault, and salvage --to takes out the rows that can be read";
+
+/// What to do where the first page doesn't begin as that of a database.
+const AT_HEADER: &str =
+    "salvage --to takes out the rows; where no log counts, of a copy with its first 18 bytes put right (GUIDE.md)";
+
+/// What to do where a script or changes came to damage; none of other requests, whose finding tells more of it.
+pub(crate) fn step_after_damage(request: &Request<'_>) -> Option<&'static str> {
     match request {
-        Request::Salvage { .. } => "the script has a comment for each cell that can't be read",
-        Request::Report { .. } =>
-            "the page marks what has a fault; salvage --to takes out the rows that can be read",
-        _ =>
-            "report --to shows which pages have a fault, and salvage --to takes out the rows that can be read",
+        Request::Salvage { .. } => {
+            Some("the script has a comment for each cell that can't be read")
+        }
+        Request::Diff { .. } | Request::DeletedDiff { .. } => Some(IN_PAGES),
+        _ => None,
+    }
+}
+
+/// What to do where a command found this, if it is damage.
+pub(crate) fn step_after_finding<F>(found: &Finding<F>) -> &'static str {
+    let fault = match found {
+        Finding::Checked(found) => match &found.verdict {
+            DeepVerdict::Damaged(Damage::Check(error)) => Some(error.fault),
+            _ => None,
+        },
+        Finding::Surveyed(Found::Nothing(error)) => Some(error.fault),
+        _ => None,
+    };
+    match fault {
+        Some(Fault::Magic | Fault::PageSize) => AT_HEADER,
+        _ => IN_PAGES,
     }
 }
 

@@ -147,7 +147,11 @@ where
             notes.explain(&step);
         }
         Ok(Answer::Refused(why)) => notes.explain(&step_after_rows(why)),
-        Ok(Answer::Damaged) => notes.explain(&after_damage),
+        Ok(Answer::Damaged) => {
+            if let Some(step) = after_damage {
+                notes.explain(&step);
+            }
+        }
         Ok(Answer::Done) | Err(ShowError::Unwritten) => {}
     }
     answer
