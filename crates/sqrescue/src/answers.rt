@@ -8,11 +8,12 @@ ghost use Rattle.sqrescue.specs.Comes.{Comes};
 use crate::checking::write_checked;
 use crate::hints::step_after_finding;
 use crate::pages::write_surveyed;
-use cli_facts::{Front, Notes, Refusal, SystemFile};
+use cli_facts::{Front, Notes, Quoted, Refusal, SystemFile};
 use cli_files::{Count, Paths};
 use cli_job::{Answer, Command, Finding, Job};
 use cli_report::{KEPT, write_printed};
 use cli_show::ShowError;
+use cli_show_rows::Stop;
 use cli_words::Style;
 use sqview::FileBytes;
 use std::alloc::Global;
@@ -37,13 +38,13 @@ where
     let of = (job.rt.alloc(), job.source.options.style);
     if !command.prints_meanwhile() {
         return match job.settled(command, out, notes) {
-            Ok(found) => written(of, &job.source.paths, found, out, notes),
+            Ok(found) => written(of, command, &job.source.paths, found, out, notes),
             Err(refusal) => Err(ShowError::Refused(refusal)),
         };
     }
     match BufWriter::with_capacity(job.rt.alloc(), KEPT, out) {
         Ok(mut lines) => match job.settled(command, &mut lines, notes) {
-            Ok(found) => written(of, &job.source.paths, found, &mut lines, notes),
+            Ok(found) => written(of, command, &job.source.paths, found, &mut lines, notes),
             Err(refusal) => {
                 let (_, _) = lines.into_parts();
                 Err(ShowError::Refused(refusal))
@@ -56,6 +57,7 @@ where
 /// Prints what was found, or the rest of it, and what a person is to know besides.
 fn written<F: FileBytes + Drop, W: Write, E: Write>(
     of: (Global, Style),
+    command: &Command<'_>,
     paths: &Paths,
     found: Finding<F>,
     out: &mut W,
@@ -69,12 +71,36 @@ fn written<F: FileBytes + Drop, W: Write, E: Write>(
         Finding::Checked(found) => write_checked(out, style, &found.verdict, notes),
         Finding::Surveyed(found) => write_surveyed(alloc, style, &found, out),
         Finding::Shown(shown) => write_shown(out, paths, shown, notes),
-        Finding::Printed(printed) => write_printed(out, style, printed.ended, notes),
+        Finding::Printed(printed) => {
+            tell_table(command, &printed.ended, notes);
+            write_printed(out, style, printed.ended, notes)
+        }
     };
     if matches!(answer, Ok(Answer::Damaged)) {
         notes.explain(&step);
     }
     answer
+}
+
+/// Says which table it is of which something isn't understood. Each is printed behind its heading, or the text that
+/// makes it.
+fn tell_table<E: Write>(command: &Command<'_>, ended: &Result<(), Stop>, notes: &Notes<'_, E>) {
+    let Command::Rows(wanted) = command else {
+        return;
+    };
+    if !matches!(
+        ended,
+        Err(Stop::NotUnderstood | Stop::Default | Stop::Behind)
+    ) {
+        return;
+    }
+    match wanted.table {
+        Some(name) => {
+            let name = Quoted(name);
+            notes.say(&format_args!("table {name} isn't printed to its end"));
+        }
+        None => notes.say(&"the table that is printed last isn't printed to its end"),
+    }
 }
 
 /// Writes the lines of a part that were kept back, or tells why not all of it was shown.
