@@ -3,7 +3,7 @@ use Rattle.std.proofs.Common.{◌≡◌, ℕ, ◌+◌, ◌<◌, List, [], ◌∷
 use Rattle.std.specs.List.{flat_map}
 use Rattle.std.proofs.lemmas.List.{append-nil, take_more}
 use Rattle.std.proofs.lemmas.Grind.{flat_map-append}
-use Rattle.std.specs.Io.KnownBytes.{Appends}
+use Rattle.std.specs.Io.KnownBytes.{Appends, Keeps}
 
 -- nothing was written yet
 pub appends_none : (old : Option (List ℕ)) → Appends old old []
@@ -16,6 +16,13 @@ appends_more None mid new xs ys first more = tt
 appends_more (Some bytes) None new xs ys first more = absurd first
 appends_more (Some bytes) (Some longer) None xs ys first more = absurd more
 appends_more (Some bytes) (Some longer) (Some all) xs ys first more = more ∙ ap (λ (l : List ℕ). l ++ ys) first ∙ append_assoc bytes xs ys
+
+-- bytes that stay as they are behind those
+pub appends_kept : (old mid new : Option (List ℕ)) (xs : List ℕ) → Appends old mid xs → Keeps mid new → Appends old new xs
+appends_kept None mid new xs first kept = tt
+appends_kept (Some bytes) None new xs first kept = absurd first
+appends_kept (Some bytes) (Some longer) None xs first kept = absurd kept
+appends_kept (Some bytes) (Some longer) (Some all) xs first kept = kept ∙ first
 
 -- the text of one more of a list behind those of the ones before
 pub appends_next : {X : Type 0} (text : X → List ℕ) (xs : List X) (i : ℕ) (x d : X) (old mid new : Option (List ℕ)) → i < length xs → ◌≡◌ {A = X} x (get_or xs i d)

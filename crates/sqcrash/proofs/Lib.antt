@@ -1,6 +1,7 @@
 pub mod PassedRefusals
 pub mod RefusedImages
 pub mod RefusedTraces
+pub mod UnreadTraces
 pub mod CountedPoints
 pub mod PlayedRecords
 pub mod TallyOfJudgedImages
@@ -15,5 +16,7 @@ pub mod WaitingCommits
 pub mod MarkedRecords
 pub mod NotedFiles
 pub mod KeptCalls
+pub mod KeptImages
 pub mod ShownImages
 pub mod WatchedFiles
+pub mod WordsAsked

@@ -8,13 +8,13 @@ pub mod Markings
 pub mod Told
 pub mod Objects
 pub mod Surveys
+pub mod Keeping
 pub mod Samples
 pub mod Lines
 pub mod Writes
 pub mod Rigs
 pub mod Refusals
 pub mod Refused
-pub mod Sectors
 pub mod Words
 pub mod Ends
 pub mod internal

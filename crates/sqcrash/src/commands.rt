@@ -1,17 +1,36 @@
 //! The options, as clap reads them.
-ghost use Rattle.std.specs.Prelude.{◌≡◌, ◌↔◌, Err, IfSome, IsTrue, MatchOption, map};
-ghost use Rattle.sqcrash.specs.Sectors.{IsSectorAsked};
+ghost use Rattle.std.specs.Prelude.{◌≡◌, ◌↔◌, true, false, IsTrue, ℕ, None, Some, Err, codes, map};
+ghost use Rattle.std.specs.Prelude.{IfOk, IfSome, MatchOption};
+ghost use Rattle.crashdisk.specs.Solid.{is_sector_size};
+ghost use Rattle.clap.specs.Words.{app_of, found_of, first_of, is_simple_and_free, kind_of, rows_of, rule_of};
+ghost use Rattle.clap.specs.Words.{with_rule};
+ghost use Rattle.clap.specs.declared.builder.value_parser.ValueParser.TheVariants as ValueParser;
+ghost use Rattle.clap.specs.declared.error.kind.ErrorKind.TheVariants.{DisplayHelp};
 ghost use Rattle.sqcrash.specs.Words.{AsksHelp, AsksVersion, HasVersion, IsPart, IsVersion, MayAskHelp};
-ghost use Rattle.sqcrash.specs.Ends.{IsOfPart, IsReadAs, IsRefusedAs};
+ghost use Rattle.sqcrash.specs.Words.{with_chosen, with_disk, with_draws, with_points, with_told, with_trace, with_why};
+ghost use Rattle.sqcrash.specs.Words.{line, number, option, flag, text, word, version_flag};
+ghost use Rattle.sqcrash.specs.Words.{AsksOf, GivesNumber, GivesPart, IsLine, IsNoPart, IsNumber, NamesPart, NumberOr};
+ghost use Rattle.sqcrash.specs.Words.{IsFault, IsOfPart, IsPlan, IsRequest, IsVersionFound};
+ghost use Rattle.sqcrash.specs.Words.{gives, has, commits_by, meta_by, promise_by, sector_by, style_by};
+ghost use Rattle.sqcrash.specs.Ends.{IsReadAs};
+ghost use Rattle.sqcrash.specs.declared.plan.Part.{Part};
 ghost use Rattle.sqcrash.specs.declared.requests.LineError.TheVariants.{Version};
 
 use crate::plan::{CommitsAt, Part, Plan, Style};
 use crate::promise::Promise;
 use crate::requests::{LineError, Request};
+use clap::builder::ValueParser;
 use clap::error::ErrorKind;
-use clap::{Arg, ArgAction, ArgMatches, Command, value_parser};
+use clap::{Arg, ArgAction, ArgMatches, Command};
 use rig_play::Meta;
 use std::alloc::{AllocError, Global};
+
+/// One of these names.
+fn one_of(names: &'static [&'static str]) -> ValueParser<'static>
+    ensures { result ≡ ValueParser.Names names.entry }
+{
+    ValueParser::from(names)
+}
 
 /// An option with a value.
 fn option<'a>(
@@ -19,7 +38,24 @@ fn option<'a>(
     name: &'static str,
     value: &'static str,
     help: &'static str,
-) -> Arg<'a> {
+    parser: ValueParser<'static>,
+) -> Arg<'a>
+    ensures rule { rule_of result ≡ option name.now parser.entry }
+    ensures global { result.global ≡ false }
+{
+    Arg::new(alloc, name)
+        .long(name)
+        .value_name(value)
+        .action(ArgAction::Set)
+        .help(help)
+        .value_parser(parser)
+}
+
+/// An option with any text.
+fn text<'a>(alloc: Global, name: &'static str, value: &'static str, help: &'static str) -> Arg<'a>
+    ensures rule { rule_of result ≡ text name.now }
+    ensures global { result.global ≡ false }
+{
     Arg::new(alloc, name)
         .long(name)
         .value_name(value)
@@ -27,150 +63,390 @@ fn option<'a>(
         .help(help)
 }
 
+/// An option whose value is a number.
+fn number_option<'a>(
+    alloc: Global,
+    name: &'static str,
+    value: &'static str,
+    help: &'static str,
+) -> Arg<'a>
+    ensures rule { rule_of result ≡ number name.now }
+    ensures global { result.global ≡ false }
+{
+    option(alloc, name, value, help, ValueParser::unsigned(0, u64::MAX))
+}
+
 /// An option without one.
-fn flag<'a>(alloc: Global, name: &'static str, help: &'static str) -> Arg<'a> {
+fn flag<'a>(alloc: Global, name: &'static str, help: &'static str) -> Arg<'a>
+    ensures rule { rule_of result ≡ flag name.now }
+    ensures global { result.global ≡ false }
+{
     Arg::new(alloc, name)
         .long(name)
         .action(ArgAction::SetTrue)
         .help(help)
 }
 
-/// The program's command line.
-fn command<'a>(alloc: Global) -> Result<Command<'a>, AllocError> {
-    let promises: &'static [&'static str] = &["full", "last", "ordered", "none"];
-    let metas: &'static [&'static str] = &["parts", "whole", "ordered"];
-    let sectors: &'static [&'static str] = &["512", "4096"];
-    let commits: &'static [&'static str] = &["marks", "calls"];
-    let trace = Arg::new(alloc, "TRACE")
+/// The option without one that asks for the version.
+fn version_flag<'a>(alloc: Global) -> Arg<'a>
+    ensures rule { rule_of result ≡ version_flag }
+    ensures global { result.global ≡ false }
+{
+    Arg::new(alloc, "version")
+        .long("version")
+        .short('V')
+        .action(ArgAction::SetTrue)
+        .help("Prints the version")
+}
+
+/// A word that has to be there.
+fn word<'a>(alloc: Global, name: &'static str, help: &'static str) -> Arg<'a>
+    ensures rule { rule_of result ≡ word name.now }
+    ensures global { result.global ≡ false }
+{
+    Arg::new(alloc, name)
         .required(true)
         .action(ArgAction::Set)
-        .help("What rig/record wrote");
-    Command::new(alloc, "sqcrash")
-        .about("Judges what crashes may leave of a recorded run of SQLite")
-        .arg(trace)?
-        .arg(flag(alloc, "version", "Prints the version").short('V'))?
-        .arg(option(
-            alloc,
-            "sector",
-            "BYTES",
-            "The size of a disk's sectors; 512 if left out",
-        )
-        .value_parser(sectors))?
-        .arg(flag(
-            alloc,
-            "tears",
-            "A sector that was being written may hold anything",
-        ))?
-        .arg(option(
-            alloc,
-            "meta",
-            "HOW",
-            "How names and lengths become durable: in parts, as a whole, or in the order of calls; whole if left out",
-        )
-        .value_parser(metas))?
-        .arg(option(
-            alloc,
-            "images",
-            "N",
-            "The most images at a point, 1000 if left out; all where they are no more, and torn ones beside them",
-        )
-        .value_parser(value_parser!(u64).range(1..)))?
-        .arg(option(
-            alloc,
-            "seed",
-            "S",
-            "The number that the draws begin with; 1 if left out",
-        )
-        .value_parser(value_parser!(u64)))?
-        .arg(flag(
-            alloc,
-            "every",
-            "A crash may come after each call, not only at marks",
-        ))?
-        .arg(option(
-            alloc,
-            "promise",
-            "WHAT",
-            "What is known at a mark; full if left out",
-        )
-        .value_parser(promises))?
-        .arg(option(
-            alloc,
-            "commits",
-            "WHERE",
-            "Commits are what the files show after each call, or at marks alone, each checked; calls if left out",
-        )
-        .value_parser(commits))?
-        .arg(flag(
-            alloc,
-            "why",
-            "Tells of each image with a line behind which record the machine stopped, and which calls aren't down",
-        ))?
-        .arg(flag(
-            alloc,
-            "shrink",
-            "Brings down what may be of such an image first, so that --why tells and --keep writes what matters alone",
-        ))?
-        .arg(option(
-            alloc,
-            "part",
-            "K/N",
-            "Judges of each N points in turn the K-th alone, and draws by the seed and each point's number",
-        ))?
-        .arg(option(
-            alloc,
-            "lines",
-            "N",
-            "The most images of which lines are written; behind them how many more there are",
-        )
-        .value_parser(value_parser!(u64)))?
-        .arg(option(
-            alloc,
-            "point",
-            "P",
-            "Writes lines of point P alone, counted from 1",
-        )
-        .value_parser(value_parser!(u64)))?
-        .arg(option(
-            alloc,
-            "image",
-            "I",
-            "Writes lines of image I of a point alone, counted from 0",
-        )
-        .value_parser(value_parser!(u64)))?
-        .arg(flag(
-            alloc,
-            "json",
-            "Prints each line as a JSON object, and a refusal as one, too",
-        ))?
-        .arg(flag(
-            alloc,
-            "time",
-            "Tells on standard error how long it took, and how many images were judged",
-        ))?
-        .arg(option(
-            alloc,
-            "keep",
-            "DIR",
-            "Writes images with something wrong, the first 1000, to DIR/pPOINT-iIMAGE.db, -wal and -journal",
-        ))
+        .help(help)
+}
+
+/// A command with one more argument.
+fn with<'a>(command: Command<'a>, arg: Arg<'a>) -> Result<Command<'a>, AllocError>
+    requires { arg.global ≡ false }
+    ensures { IfOk result (λ c. app_of c ≡ with_rule (app_of command.entry) (rule_of arg.entry)) }
+{
+    command.arg(arg)
+}
+
+/// The trace, and the version.
+fn with_trace<'a>(alloc: Global, command: Command<'a>) -> Result<Command<'a>, AllocError>
+    ensures { IfOk result (λ c. app_of c ≡ with_trace (app_of command.entry)) }
+{
+    let trace = word(alloc, "TRACE", "What rig/record wrote");
+    let command = with(command, trace)?;
+    with(command, version_flag(alloc))
+}
+
+/// What a disk does.
+fn with_disk<'a>(
+    alloc: Global,
+    command: Command<'a>,
+    sectors: ValueParser<'static>,
+    metas: ValueParser<'static>,
+) -> Result<Command<'a>, AllocError>
+    ensures { IfOk result (λ c. app_of c ≡ with_disk sectors.entry metas.entry (app_of command.entry)) }
+{
+    let sector = option(
+        alloc,
+        "sector",
+        "BYTES",
+        "The size of a disk's sectors; 512 if left out",
+        sectors,
+    );
+    let tears = flag(
+        alloc,
+        "tears",
+        "A sector that was being written may hold anything",
+    );
+    let meta = option(
+        alloc,
+        "meta",
+        "HOW",
+        "How names and lengths become durable: in parts, as a whole, or in the order of calls; whole if left out",
+        metas,
+    );
+    let command = with(command, sector)?;
+    let command = with(command, tears)?;
+    with(command, meta)
+}
+
+/// How many images are drawn.
+fn with_draws<'a>(alloc: Global, command: Command<'a>) -> Result<Command<'a>, AllocError>
+    ensures { IfOk result (λ c. app_of c ≡ with_draws (app_of command.entry)) }
+{
+    let images = option(
+        alloc,
+        "images",
+        "N",
+        "The most images at a point, 1000 if left out; all where they are no more, and torn ones beside them",
+        ValueParser::unsigned(1, u64::MAX),
+    );
+    let seed = number_option(
+        alloc,
+        "seed",
+        "S",
+        "The number that the draws begin with; 1 if left out",
+    );
+    let command = with(command, images)?;
+    with(command, seed)
+}
+
+/// Where images are judged, and by what.
+fn with_points<'a>(
+    alloc: Global,
+    command: Command<'a>,
+    promises: ValueParser<'static>,
+    commits: ValueParser<'static>,
+) -> Result<Command<'a>, AllocError>
+    ensures { IfOk result (λ c. app_of c ≡ with_points promises.entry commits.entry (app_of command.entry)) }
+{
+    let every = flag(
+        alloc,
+        "every",
+        "A crash may come after each call, not only at marks",
+    );
+    let promise = option(
+        alloc,
+        "promise",
+        "WHAT",
+        "What is known at a mark; full if left out",
+        promises,
+    );
+    let commits = option(
+        alloc,
+        "commits",
+        "WHERE",
+        "Commits are what the files show after each call, or at marks alone, each checked; calls if left out",
+        commits,
+    );
+    let command = with(command, every)?;
+    let command = with(command, promise)?;
+    with(command, commits)
+}
+
+/// What is told of images.
+fn with_why<'a>(alloc: Global, command: Command<'a>) -> Result<Command<'a>, AllocError>
+    ensures { IfOk result (λ c. app_of c ≡ with_why (app_of command.entry)) }
+{
+    let why = flag(
+        alloc,
+        "why",
+        "Tells of each image with a line behind which record the machine stopped, and which calls aren't down",
+    );
+    let shrink = flag(
+        alloc,
+        "shrink",
+        "Brings down what may be of such an image first, so that --why tells and --keep writes what matters alone",
+    );
+    let command = with(command, why)?;
+    with(command, shrink)
+}
+
+/// Which points are judged, and of which images lines are written.
+fn with_chosen<'a>(alloc: Global, command: Command<'a>) -> Result<Command<'a>, AllocError>
+    ensures { IfOk result (λ c. app_of c ≡ with_chosen (app_of command.entry)) }
+{
+    let part = text(
+        alloc,
+        "part",
+        "K/N",
+        "Judges of each N points in turn the K-th alone, and draws by the seed and each point's number",
+    );
+    let lines = number_option(
+        alloc,
+        "lines",
+        "N",
+        "The most images of which lines are written; behind them how many more there are",
+    );
+    let point = number_option(
+        alloc,
+        "point",
+        "P",
+        "Writes lines of point P alone, counted from 1",
+    );
+    let image = number_option(
+        alloc,
+        "image",
+        "I",
+        "Writes lines of image I of a point alone, counted from 0",
+    );
+    let command = with(command, part)?;
+    let command = with(command, lines)?;
+    let command = with(command, point)?;
+    with(command, image)
+}
+
+/// How it is told, and what is kept.
+fn with_told<'a>(alloc: Global, command: Command<'a>) -> Result<Command<'a>, AllocError>
+    ensures { IfOk result (λ c. app_of c ≡ with_told (app_of command.entry)) }
+{
+    let json = flag(
+        alloc,
+        "json",
+        "Prints each line as a JSON object, and a refusal as one, too",
+    );
+    let time = flag(
+        alloc,
+        "time",
+        "Tells on standard error how long it took, and how many images were judged",
+    );
+    let keep = text(
+        alloc,
+        "keep",
+        "DIR",
+        "Writes images with something wrong, the first 1000, to DIR/pPOINT-iIMAGE.db, -wal and -journal",
+    );
+    let command = with(command, json)?;
+    let command = with(command, time)?;
+    with(command, keep)
+}
+
+/// Which images are drawn, where they are judged, and what is told of them.
+fn with_judging<'a>(
+    alloc: Global,
+    command: Command<'a>,
+    promises: ValueParser<'static>,
+    commits: ValueParser<'static>,
+) -> Result<Command<'a>, AllocError>
+    ensures { IfOk result (λ c. app_of c
+        ≡ with_why (with_points promises.entry commits.entry (with_draws (app_of command.entry)))) }
+{
+    let command = with_draws(alloc, command)?;
+    let command = with_points(alloc, command, promises, commits)?;
+    with_why(alloc, command)
+}
+
+/// The program's command line, with these values of its options.
+fn command_with<'a>(
+    alloc: Global,
+    sectors: ValueParser<'static>,
+    metas: ValueParser<'static>,
+    promises: ValueParser<'static>,
+    commits: ValueParser<'static>,
+) -> Result<Command<'a>, AllocError>
+    ensures { IfOk result (λ c. app_of c ≡ line sectors.entry metas.entry promises.entry commits.entry) }
+{
+    let command = Command::new(alloc, "sqcrash").about(
+        "Judges what crashes may leave of a recorded run of SQLite",
+    );
+    let command = with_trace(alloc, command)?;
+    let command = with_disk(alloc, command, sectors, metas)?;
+    let command = with_judging(alloc, command, promises, commits)?;
+    let command = with_chosen(alloc, command)?;
+    with_told(alloc, command)
+}
+
+/// The program's command line.
+fn command<'a>(alloc: Global) -> Result<Command<'a>, AllocError>
+    ensures { IfOk result (λ c. IsLine (app_of c)) }
+{
+    let sectors = one_of(&["512", "4096"]);
+    let metas = one_of(&["parts", "whole", "ordered"]);
+    let promises = one_of(&["full", "last", "ordered", "none"]);
+    let commits = one_of(&["marks", "calls"]);
+    command_with(alloc, sectors, metas, promises, commits)
+}
+
+/// The value of a word or an option, where it is there.
+fn value<'a>(matches: &ArgMatches<'a>, name: &str) -> Option<&'a str>
+    ensures { MatchOption result (first_of name.now (rows_of (found_of matches.now)) ≡ None)
+        (λ text. first_of name.now (rows_of (found_of matches.now)) ≡ Some text.now) }
+{
+    matches.get_str(name)
+}
+
+/// Whether an option has this value.
+fn gives(matches: &ArgMatches<'_>, name: &str, text: &str) -> bool
+    ensures { result ≡ gives name.now text.now (rows_of (found_of matches.now)) }
+{
+    match value(matches, name) {
+        Some(given) => given == text,
+        None => false,
+    }
+}
+
+/// Whether an option without a value is there.
+fn has(matches: &ArgMatches<'_>, name: &str) -> bool
+    ensures { result ≡ has name.now (rows_of (found_of matches.now)) }
+{
+    gives(matches, name, "true")
+}
+
+/// The number that a text is, where it is one.
+fn number_of(text: &str) -> Option<u64>
+    ensures { MatchOption result ((n : ℕ) → ¬ IsNumber text.now n) (IsNumber text.now) }
+{
+    text.parse::<u64>().ok()
+}
+
+/// The number of an option, where it is there.
+fn number(matches: &ArgMatches<'_>, name: &str) -> Option<u64>
+    ensures { GivesNumber (first_of name.now (rows_of (found_of matches.now))) result }
+{
+    match value(matches, name) {
+        Some(text) => number_of(text),
+        None => None,
+    }
+}
+
+/// The same, or this one where it isn't.
+fn number_or(matches: &ArgMatches<'_>, name: &str, or: u64) -> u64
+    ensures { NumberOr or (first_of name.now (rows_of (found_of matches.now))) result }
+{
+    match number(matches, name) {
+        Some(number) => number,
+        None => or,
+    }
+}
+
+/// The size of a disk's sectors.
+fn sector_of(matches: &ArgMatches<'_>) -> usize
+    ensures by { result ≡ sector_by (rows_of (found_of matches.now)) }
+    ensures size { IsTrue (is_sector_size result) }
+{
+    if gives(matches, "sector", "4096") {
+        return 4096;
+    }
+    512
+}
+
+/// How names and lengths become durable.
+fn meta_of(matches: &ArgMatches<'_>) -> Meta
+    ensures { result ≡ meta_by (rows_of (found_of matches.now)) }
+{
+    if gives(matches, "meta", "parts") {
+        return Meta::Parts;
+    }
+    if gives(matches, "meta", "ordered") {
+        return Meta::Ordered;
+    }
+    Meta::Whole
+}
+
+/// What is known at marks.
+fn promise_of(matches: &ArgMatches<'_>) -> Promise
+    ensures { result ≡ promise_by (rows_of (found_of matches.now)) }
+{
+    if gives(matches, "promise", "last") {
+        return Promise::Last;
+    }
+    if gives(matches, "promise", "ordered") {
+        return Promise::Ordered;
+    }
+    if gives(matches, "promise", "none") {
+        return Promise::Nothing;
+    }
+    Promise::Full
 }
 
 /// Which databases are to be commits.
-fn commits_at(matches: &ArgMatches<'_>) -> CommitsAt {
-    match matches.get_str("commits") {
-        Some("marks") => CommitsAt::Marks,
-        _ => CommitsAt::Calls,
+fn commits_at(matches: &ArgMatches<'_>) -> CommitsAt
+    ensures { result ≡ commits_by (rows_of (found_of matches.now)) }
+{
+    if gives(matches, "commits", "marks") {
+        return CommitsAt::Marks;
     }
+    CommitsAt::Calls
 }
 
 /// How what is found is to be printed.
-fn style_of(matches: &ArgMatches<'_>) -> Style {
-    if matches.get_flag("json") {
-        Style::Json
-    } else {
-        Style::Lines
+fn style_of(matches: &ArgMatches<'_>) -> Style
+    ensures { result ≡ style_by (rows_of (found_of matches.now)) }
+{
+    if has(matches, "json") {
+        return Style::Json;
     }
+    Style::Lines
 }
 
 /// What is said of a text that names no part.
@@ -189,12 +465,12 @@ fn part_with(number: u64, of: u64) -> Option<Part>
     Some(Part { number, of })
 }
 
-/// The part that a text names: its number, a slash, and how many there are.
+/// The part that a text names, if it names one: its number, a slash, and how many there are.
 fn part_of(text: &str) -> Option<Part>
-    ensures { IfSome result (λ p. IsPart p.number p.of) }
+    ensures { MatchOption result ((p : Part) → ¬ NamesPart text.now p) (NamesPart text.now) }
 {
     let (number, of) = text.split_once('/')?;
-    part_with(number.parse::<u64>().ok()?, of.parse::<u64>().ok()?)
+    part_with(number_of(number)?, number_of(of)?)
 }
 
 /// The fault of a text that names no part.
@@ -207,67 +483,73 @@ fn no_part(command: &mut Command<'_>) -> LineError
     }
 }
 
+/// The part that is asked for, if one is; none of both where the text names none.
+fn asked_part(matches: &ArgMatches<'_>) -> Option<Option<Part>>
+    ensures { MatchOption result (IsNoPart (first_of (codes "part") (rows_of (found_of matches.now))))
+        (GivesPart (first_of (codes "part") (rows_of (found_of matches.now)))) }
+{
+    match value(matches, "part") {
+        None => Some(None),
+        Some(text) => match part_of(text) {
+            Some(part) => Some(Some(part)),
+            None => None,
+        },
+    }
+}
+
+/// How a trace is to be judged, where this part is asked for.
+fn plan_of(matches: &ArgMatches<'_>, part: Option<Part>) -> Plan
+    requires { GivesPart (first_of (codes "part") (rows_of (found_of matches.now))) part }
+    ensures { IsPlan (rows_of (found_of matches.now)) result }
+{
+    Plan {
+        sector: sector_of(matches),
+        tears: has(matches, "tears"),
+        meta: meta_of(matches),
+        images: number_or(matches, "images", 1000),
+        seed: number_or(matches, "seed", 1),
+        every: has(matches, "every"),
+        promise: promise_of(matches),
+        commits: commits_at(matches),
+        why: has(matches, "why"),
+        shrink: has(matches, "shrink"),
+        part,
+        lines: number(matches, "lines"),
+        point: number(matches, "point"),
+        image: number(matches, "image"),
+        style: style_of(matches),
+    }
+}
+
 /// What the words ask for, with this part.
 fn matched<'a>(matches: &ArgMatches<'a>, part: Option<Part>) -> Option<Request<'a>>
-    ensures { IfSome result (λ request. IsSectorAsked request.plan.sector) }
+    requires { GivesPart (first_of (codes "part") (rows_of (found_of matches.now))) part }
+    ensures { IfSome result (IsRequest (rows_of (found_of matches.now))) }
 {
-    let promise = match matches.get_str("promise") {
-        None | Some("full") => Promise::Full,
-        Some("last") => Promise::Last,
-        Some("ordered") => Promise::Ordered,
-        Some(_) => Promise::Nothing,
-    };
-    let sector = if matches.get_str("sector") == Some("4096") {
-        4096
-    } else {
-        512
-    };
-    let meta = match matches.get_str("meta") {
-        Some("parts") => Meta::Parts,
-        Some("ordered") => Meta::Ordered,
-        _ => Meta::Whole,
-    };
-    let plan = Plan {
-        sector,
-        tears: matches.get_flag("tears"),
-        meta,
-        images: matches.get_one::<u64>("images").unwrap_or(1000),
-        seed: matches.get_one::<u64>("seed").unwrap_or(1),
-        every: matches.get_flag("every"),
-        promise,
-        commits: commits_at(matches),
-        why: matches.get_flag("why"),
-        shrink: matches.get_flag("shrink"),
-        part,
-        lines: matches.get_one::<u64>("lines"),
-        point: matches.get_one::<u64>("point"),
-        image: matches.get_one::<u64>("image"),
-        style: style_of(matches),
-    };
     Some(Request {
-        trace: matches.get_str("TRACE")?,
-        plan,
-        keep: matches.get_str("keep"),
-        time: matches.get_flag("time"),
+        trace: value(matches, "TRACE")?,
+        plan: plan_of(matches, part),
+        keep: value(matches, "keep"),
+        time: has(matches, "time"),
     })
 }
 
 /// Whether help may be asked for by a word.
 fn is_of_help(word: &str) -> bool
-    ensures { IsTrue result → MayAskHelp word.now }
+    ensures { IsTrue result ↔ MayAskHelp word.now }
 {
     if word == "help" {
         return true;
     }
-    match word.strip_prefix("-") {
-        Some(rest) => rest.as_bytes().contains(&b'h'),
+    match word.as_bytes().split_first() {
+        Some((first, rest)) => *first == b'-' && rest.contains(&b'h'),
         None => false,
     }
 }
 
 /// Whether it may be by one of these.
 fn asks_help(words: &[&str]) -> bool
-    ensures { IsTrue result → AsksHelp (map (λ w. w.now) words.entry.now) }
+    ensures { IsTrue result ↔ AsksHelp (map (λ w. w.now) words.entry.now) }
 {
     for word in words {
         if is_of_help(word) {
@@ -277,12 +559,23 @@ fn asks_help(words: &[&str]) -> bool
     false
 }
 
+/// What is said where clap answered with help.
+fn of_help(words: &[&str], error: clap::Error) -> LineError
+    requires { kind_of error ≡ DisplayHelp }
+    ensures { IsFault (map (λ w. w.now) words.entry.now) error result }
+{
+    if asks_help(words) {
+        return LineError::Help(error);
+    }
+    LineError::NotUnderstood(error)
+}
+
 /// Why words ask for nothing by which clap was refused.
 fn refused(words: &[&str], error: clap::Error) -> LineError
-    ensures { IsRefusedAs (map (λ w. w.now) words.entry.now) result }
+    ensures { IsFault (map (λ w. w.now) words.entry.now) error result }
 {
     match error.kind() {
-        ErrorKind::DisplayHelp if asks_help(words) => LineError::Help(error),
+        ErrorKind::DisplayHelp => of_help(words, error),
         ErrorKind::OutOfMemory => LineError::NoMemory,
         _ => LineError::NotUnderstood(error),
     }
@@ -297,7 +590,7 @@ fn is_version(word: &str) -> bool
 
 /// Whether one of these does.
 fn has_version(words: &[&str]) -> bool
-    ensures { IsTrue result → HasVersion (map (λ w. w.now) words.entry.now) }
+    ensures { IsTrue result ↔ HasVersion (map (λ w. w.now) words.entry.now) }
 {
     for word in words {
         if is_version(word) {
@@ -307,27 +600,32 @@ fn has_version(words: &[&str]) -> bool
     false
 }
 
+/// Whether clap found that the version is asked for, and a word asks for it.
+fn is_version_found(matches: &ArgMatches<'_>, words: &[&str]) -> bool
+    ensures { IsTrue result ↔ IsVersionFound (map (λ w. w.now) words.entry.now) (rows_of (found_of matches.now)) }
+{
+    has(matches, "version") && has_version(words)
+}
+
 /// Reads a line by this command.
 fn read<'a>(command: &mut Command<'a>, words: &'a [&'a str]) -> Result<Request<'a>, LineError>
-    ensures { IsReadAs (map (λ w. w.now) words.entry.now) result }
+    requires { is_simple_and_free (app_of command.now) ≡ true }
+    ensures { AsksOf (app_of command.old) (map (λ w. w.now) words.entry.now) result }
 {
-    let matches = match command.try_get_matches_from_mut(words) {
-        Ok(matches) => matches,
-        Err(error) => return Err(refused(words, error)),
-    };
-    if matches.get_flag("version") && has_version(words) {
-        return Err(LineError::Version);
-    }
-    let part = match matches.get_str("part") {
-        Some(text) => match part_of(text) {
-            Some(part) => Some(part),
-            None => return Err(no_part(command)),
-        },
-        None => None,
-    };
-    match matched(&matches, part) {
-        Some(request) => Ok(request),
-        None => Err(LineError::NoMemory),
+    match command.try_get_matches_from_mut(words) {
+        Ok(matches) => {
+            if is_version_found(&matches, words) {
+                return Err(LineError::Version);
+            }
+            match asked_part(&matches) {
+                Some(part) => match matched(&matches, part) {
+                    Some(request) => Ok(request),
+                    None => Err(LineError::NoMemory),
+                },
+                None => Err(no_part(command)),
+            }
+        }
+        Err(error) => Err(refused(words, error)),
     }
 }
 
@@ -347,6 +645,8 @@ pub fn request<'a>(alloc: Global, words: &'a [&'a str]) -> Result<Request<'a>, L
     if asks_version(words) {
         return Err(LineError::Version);
     }
-    let mut command = command(alloc).map_err(|_| LineError::NoMemory)?;
-    read(&mut command, words)
+    match command(alloc) {
+        Ok(mut command) => read(&mut command, words),
+        Err(_) => Err(LineError::NoMemory),
+    }
 }

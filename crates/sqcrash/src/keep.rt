@@ -15,13 +15,22 @@ const MOST: u64 = 1000;
 
 /// Where images go that are found wrong.
 pub trait Keeper {
+    ghost use Rattle.std.specs.Prelude.{ℕ, List, [], ◌∷◌, Option, None, IfErr, OnOk};
+    ghost use Rattle.rig_images.specs.declared.image.Image.{Image};
+    ghost use Rattle.sqcrash.specs.Keeping.{Keeps};
+    ghost use Rattle.sqcrash.specs.Refusals.{IsOfFiles};
+
+    /// The images that were given to it, each with its number at its point, where these are known.
+    ghost kept: { Self → Option (List (ℕ × Image)) } = { λ _. None };
+
     /// The images that follow are those of this point, counted from 1.
     fn reach(&mut self, point: u64);
 
     /// Takes an image that was found wrong, by its number at the point, counted from 0. Refused by FileFailed and
     /// NoMemory alone.
     fn keep(&mut self, number: u64, image: &Image) -> Result<(), Refusal>
-        ensures { IfErr result IsOfFiles };
+        ensures kept { OnOk result (Keeps (kept self.old) (kept self.new) ((number, image.now) ∷ [])) }
+        ensures refused { IfErr result IsOfFiles };
 }
 
 /// A folder in which images are kept, or none.

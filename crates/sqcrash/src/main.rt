@@ -37,7 +37,8 @@ fn answer<R: Env + Files + Clock + AllocGlobal, O: Write, E: Write>(
     out: &mut O,
     err: &mut E,
 ) -> io::Result<u8>
-    ensures { IfOk result (λ status. (status ≤ 3) × ((words : List (List ℕ)) × Ends words status)) }
+    ensures { IfOk result (λ status. (status ≤ 3)
+        × ((words : List (List ℕ)) × Ends words (O.contents out.old) (O.contents out.new) status)) }
 {
     let alloc = rt.alloc();
     let words: Vec<String> = env::args(rt)?.collect(alloc)?;

@@ -6,7 +6,8 @@ ghost use Rattle.std.specs.declared.io.ErrorKind.TheVariants.{OutOfMemory};
 ghost use Rattle.sqcrash.specs.Rigs.{IsJudgment, BeginsRig, rig_of};
 ghost use Rattle.sqcrash.specs.Refusals.{IsOfFiles};
 ghost use Rattle.sqcrash.specs.Refused.{IsRefusal, BeginRefused, IsFirstPart, IsNoPoint};
-ghost use Rattle.sqcrash.specs.Ends.{Comes, Ends, IsStatusOf};
+ghost use Rattle.sqcrash.specs.Ends.{Comes, Ends, IsStatusOf, MayWrite};
+ghost use Rattle.sqcrash.specs.declared.plan.Style.TheVariants.{Lines};
 
 use crate::commands::request;
 use crate::explained::{write_findings, write_left};
@@ -44,7 +45,7 @@ pub fn run<R: Files + Clock + AllocGlobal, O: Write, E: Write>(
     err: &mut E,
 ) -> u8
     ensures least { result ≤ 3 }
-    ensures ends { Ends (map (λ w. w.now) words.entry.now) result }
+    ensures ends { Ends (map (λ w. w.now) words.entry.now) (O.contents out.old) (O.contents out.new) result }
 {
     let request = match request(rt.alloc(), words) {
         Ok(request) => request,
@@ -107,7 +108,7 @@ fn carried_out<R: Files + AllocGlobal, O: Write>(
     request: &Request<'_>,
     out: &mut O,
 ) -> Result<Tally, Refusal>
-    ensures { Comes request.now.plan result }
+    ensures { Comes request.now.plan (O.contents out.old) (O.contents out.new) result }
 {
     let bytes = read(rt, request.trace)?;
     let mut folder = Folder::new(rt, request.keep, request.plan)?;
@@ -131,6 +132,7 @@ pub(crate) fn judge_trace<K: Keeper, O: Write>(
         × Appends (O.contents out.old) (O.contents out.new) lines) }
     ensures some { IfOk result (λ tally. 0 < tally.points) }
     ensures refused { IfErr result (IsRefusal plan bytes.now) }
+    ensures unread { IfErr result (λ refusal. MayWrite refusal (O.contents out.old) (O.contents out.new)) }
 {
     let tally = judge_records(alloc, plan, bytes, keeper, out)?;
     if tally.points > 0 {
@@ -196,6 +198,7 @@ fn judge_records<K: Keeper, O: Write>(
     ensures judged { IfOk result (λ tally. (lines : List ℕ) × IsJudgment plan bytes.now tally lines
         × Appends (O.contents out.old) (O.contents out.new) lines) }
     ensures refused { IfErr result (IsRefusal plan bytes.now) }
+    ensures unread { IfErr result (λ refusal. MayWrite refusal (O.contents out.old) (O.contents out.new)) }
 {
     let trace = Trace::read(alloc, bytes)?;
     let mut rig = begun(alloc, plan, bytes, trace.records.as_slice(), out)?;
@@ -240,7 +243,8 @@ fn printed<W: Write, T: Display>(writer: &mut W, text: &T, status: u8) -> u8
 
 /// A refusal on standard error, or as an object on standard output.
 fn refused_in<O: Write, E: Write>(out: &mut O, err: &mut E, style: Style, refusal: &Refusal) -> u8
-    ensures { result ≡ 3 }
+    ensures status { result ≡ 3 }
+    ensures lines { style ≡ Lines → O.contents out.new ≡ O.contents out.old }
 {
     match style {
         Style::Lines => refused(err, refusal),

@@ -1,10 +1,11 @@
 //! The images of a point are judged, counted and told (own).
-ghost use Rattle.std.specs.Prelude.{◌≡◌, ◌+◌, IfOk, IfErr, MatchResult, map};
+ghost use Rattle.std.specs.Prelude.{◌≡◌, ◌+◌, OnOk, IfOk, IfErr, MatchResult, map};
 ghost use Rattle.rig_families.specs.Versions.{named_of};
 ghost use Rattle.rig_images.specs.Images.{AreCounts};
 ghost use Rattle.sqcrash.specs.Runs.{run_of};
 ghost use Rattle.sqcrash.specs.Surveys.{IsNumberedSurvey, IsDrawnSurvey, IsUntornSurvey, IsSurvey, third_of};
 ghost use Rattle.sqcrash.specs.Surveys.{Shows, ExplainsWrong};
+ghost use Rattle.sqcrash.specs.Keeping.{Keeps, kept_of};
 ghost use Rattle.sqcrash.specs.Refusals.{IsOfMemory, IsOfFiles, JudgingRefused, SurveyRefused};
 
 use crate::finding::Finding;
@@ -107,6 +108,7 @@ impl Survey {
     ghost use Rattle.sqcrash.specs.Refusals.{IsTooMany, JudgingRefused};
     ghost use Rattle.sqcrash.specs.Runs.{run_of};
     ghost use Rattle.sqcrash.specs.Surveys.{IsScanOf, IsBegun};
+    ghost use Rattle.sqcrash.specs.Keeping.{KeepsWrong};
     ghost use Rattle.sqcrash.specs.Samples.{Adds, TakesOne};
 
     /// At the next point.
@@ -145,6 +147,8 @@ impl Survey {
     ) -> Result<(), Refusal>
         ensures judged { IsScanOf image.now scan.now
             → OnOk result (TakesOne (run_of run.now) image.now self.old self.new) }
+        ensures kept { IsScanOf image.now scan.now → OnOk result
+            (KeepsWrong (run_of run.now) image.now self.old.next (K.kept keeper.old) (K.kept keeper.new)) }
         ensures refused { IfErr result (JudgingRefused 1 self.old) }
     {
         let judgment = run.judge_scanned(image, scan)?;
@@ -182,7 +186,8 @@ fn keep_wrong<K: Keeper>(
     image: &Image,
     judgment: Judgment,
 ) -> Result<(), Refusal>
-    ensures { IfErr result IsOfFiles }
+    ensures kept { OnOk result (Keeps (K.kept keeper.old) (K.kept keeper.new) (kept_of number judgment image.now)) }
+    ensures refused { IfErr result IsOfFiles }
 {
     match judgment {
         Judgment::Kept(_) => Ok(()),

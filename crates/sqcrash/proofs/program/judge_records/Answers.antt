@@ -20,6 +20,7 @@ use Rattle.sqcrash.specs.Refusals.{WriteRefused}
 use Rattle.sqcrash.specs.Refused.{RigRefused, BeginRefused}
 use Rattle.sqcrash.proofs.PassedRefusals.{passed}
 use Rattle.sqcrash.proofs.RefusedTraces.{IsFirst, IsJudgedTo, is_first, split_at, of_begin, of_rig, of_writes}
+use Rattle.sqcrash.proofs.UnreadTraces.{begun_written, judged_written, lines_written}
 use Rattle.sqcrash.proofs.program.judge_records.Goals as goal
 
 -- what stands for a record behind the last
@@ -163,3 +164,29 @@ returns-in_err-next-clause-refused g c =
     (subst (λ (l : List Told). WriteRefused told (length (texts_of plan c.stopped.result l)) c.in_err-next.field-0.0) c.deref.ensures.value c.in_err-next.ensures) in
     passed c.from_residual-in_err-next.result _ _ _ c.from_residual-in_err-next.ensures.1
     (of_writes plan bytes trace (take i records) (drop (i + 1) records) r first new texts told (length of_found) _ c.in_ok-trace.ensures split all count refused)
+
+pub returns-in_err-rig-clause-unread : goal.returns-in_err-rig-clause-unread
+returns-in_err-rig-clause-unread g c =
+    let written = begun_written c.args.plan c.args.bytes.now c.as_slice.result.now _ (g.O.Write.contents c.args.out.now) (g.O.Write.contents c.begun.new.out) c.in_err-rig.ensures.refused in
+    passed c.from_residual-in_err-rig.result _ _ _ c.from_residual-in_err-rig.ensures.1 written
+
+pub returns-in_err-findings-clause-unread : goal.returns-in_err-findings-clause-unread
+unfolding behind
+returns-in_err-findings-clause-unread g c =
+    let r = get_or c.deref-call-items.result.now c.loop-call.call-index behind in
+    let written = judged_written c.loop-call.rig.plan c.args.bytes.now r (rig_of c.loop-call.rig) c.in_err-findings.field-0.0 (g.O.Write.contents c.args.out.now) (g.O.Write.contents c.loop-call.out) c.in_err-findings.ensures.refused in
+    passed c.from_residual-in_err-findings.result _ _ _ c.from_residual-in_err-findings.ensures.1 written
+
+pub returns-in_err-next-clause-unread : goal.returns-in_err-next-clause-unread
+unfolding behind
+returns-in_err-next-clause-unread g c =
+    let plan = c.args.plan in
+    let found = c.in_ok-findings.findings.items in
+    let r = get_or c.deref-call-items.result.now c.loop-call.call-index behind in
+    let of_found = texts_at plan c.args.bytes.now r (rig_of c.play.new.self) found in
+    let told = c.loop-call.told in
+    let refused : WriteRefused told (length of_found) c.in_err-next.field-0.0 =
+    subst (λ (at : Stopped). WriteRefused told (length (texts_of plan at found)) c.in_err-next.field-0.0) c.stopped.ensures
+    (subst (λ (l : List Told). WriteRefused told (length (texts_of plan c.stopped.result l)) c.in_err-next.field-0.0) c.deref.ensures.value c.in_err-next.ensures) in
+    let written = lines_written told (length of_found) c.in_err-next.field-0.0 (g.O.Write.contents c.args.out.now) (g.O.Write.contents c.write_findings.new.out) refused in
+    passed c.from_residual-in_err-next.result _ _ _ c.from_residual-in_err-next.ensures.1 written

@@ -12,3 +12,8 @@ returns-clause-judged g c = λ scan.
       record { judged = c.in_ok-judgment.ensures.judged scan; missing = c.in_ok-missing.ensures.explained shows },
       c.in_ok-add.ensures,
     )
+
+pub returns-clause-kept : goal.returns-clause-kept
+returns-clause-kept g c = λ scan.
+    let shows = subst (λ (x : Image). Shows (run_of c.args.run.now) c.in_ok-judgment.judgment c.args.image.now x) (sym c.shown_of-shown.ensures) c.in_ok-shrunk.ensures in
+    (c.in_ok-judgment.judgment, c.shown_of-shown.result.now, c.in_ok-judgment.ensures.judged scan, shows, c.in_ok-keep_wrong.ensures.kept)
