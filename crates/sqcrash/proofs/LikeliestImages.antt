@@ -1,5 +1,5 @@
 -- The likeliest images are taken into a sample, one after the other.
-use Rattle.std.proofs.Common.{◌≡◌, inl, inr, ℕ, ◌+◌, ◌-◌, ◌/◌, ◌<◌, ◌≤◌, Bool, true, false, nat_eq, Option, None, List, [], ◌∷◌, ◌++◌, length, map, refl, sym, ◌∙◌, ap, subst, append-nil, arith}
+use Rattle.std.proofs.Common.{◌≡◌, inl, inr, ℕ, ◌+◌, ◌/◌, ◌<◌, ◌≤◌, Bool, true, false, nat_eq, Option, None, List, [], ◌++◌, map, sym, ◌∙◌, ap, subst, append-nil, arith}
 use Rattle.std.proofs.lemmas.Bool.{cases_lt}
 use Rattle.std.proofs.lemmas.List.{map-append}
 use Rattle.std.proofs.lemmas.List.Elements.{All-append, Contains-append_left}
@@ -18,8 +18,8 @@ use Rattle.rig_images.specs.declared.image.Image.{Image}
 use Rattle.rig_images.specs.declared.torn.Which.{Which}
 use Rattle.rig_play.specs.Plays.{Files}
 use Rattle.sqcrash.specs.Runs.{RunState}
-use Rattle.sqcrash.specs.Samples.{GoesOn, IsDrawing, IsSampled}
-use Rattle.sqcrash.specs.Surveys.{Judged, half_of}
+use Rattle.sqcrash.specs.Samples.{GoesOn, IsDrawing}
+use Rattle.sqcrash.specs.Surveys.{Judged}
 use Rattle.sqcrash.specs.internal.Samples.{IsTaking}
 use Rattle.sqcrash.specs.declared.sample.Sample.{Sample}
 use Rattle.sqcrash.specs.declared.survey.Survey.{Survey}

@@ -1,5 +1,5 @@
 -- What records leave of the present files.
-use Rattle.std.proofs.Common.{◌≡◌, ◌≢◌, inl, inr, ℕ, suc, ◌+◌, ◌-◌, ◌<◌, min, Bool, true, false, cond, List, [], ◌∷◌, length, get_or, drop, refl, sym, ◌∙◌, ap, subst, arith}
+use Rattle.std.proofs.Common.{◌≡◌, inl, inr, ℕ, ◌+◌, ◌-◌, ◌<◌, min, Bool, true, false, cond, List, [], ◌∷◌, length, get_or, drop, refl, sym, ◌∙◌, ap, subst, arith}
 use Rattle.std.specs.Prelude.{Option, Some, None, slice_get}
 use Rattle.std.proofs.lemmas.List.{length-drop, get_or-drop}
 use Rattle.std.proofs.lemmas.Option.{slice_get_past, slice_get-get_or}
@@ -8,7 +8,7 @@ use Rattle.rig_images.specs.Left.{IsPresent}
 use Rattle.rig_images.specs.declared.image.Image.{Image}
 use Rattle.rig_play.specs.Trace.{has_failed}
 use Rattle.rig_play.specs.Names.{NameState, file_now, ArePresentOf, only_now}
-use Rattle.rig_play.specs.Plays.{Files, all_now, CallDoes, NamesGo, OneGoes, Step}
+use Rattle.rig_play.specs.Plays.{Files, all_now, CallDoes, OneGoes, Step}
 use Rattle.rig_play.specs.declared.meta.Meta.{Meta}
 use Rattle.rig_play.specs.declared.trace.Kind.{Kind}
 use Rattle.rig_play.specs.declared.trace.Kind.TheVariants as kinds

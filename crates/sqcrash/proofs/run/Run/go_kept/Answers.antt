@@ -1,6 +1,5 @@
 use Rattle.std.proofs.Common.{◌≡◌, List, ℕ, length, ◌∙◌, ap}
 use Rattle.rig_play.specs.Trace.{bytes_of}
-use Rattle.rig_missing.specs.declared.change.Change.{Change}
 use Rattle.sqcrash.specs.Runs.{RunState, run_of, with_change}
 use Rattle.sqcrash.proofs.KeptCalls.{goes_kept}
 use Rattle.sqcrash.proofs.run.Run.go_kept.Goals as goal

@@ -1,4 +1,4 @@
-use Rattle.std.proofs.Common.{true, false, refl, ◌∙◌, ap, List, ℕ}
+use Rattle.std.proofs.Common.{true, false, ◌∙◌, ap, List, ℕ}
 use Rattle.rig_play.specs.Plays.{Files}
 use Rattle.rig_judge.specs.Shown.{commits_of}
 use Rattle.sqcrash.specs.Runs.{run_of}
