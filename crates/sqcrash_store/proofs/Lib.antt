@@ -1,8 +1,13 @@
 pub mod AppendedBytes
+pub mod CountedRecords
 pub mod KeptImages
 pub mod MembersWritten
 pub mod NamedStates
 pub mod NamesTold
+pub mod PassedRefusals
 pub mod PlayedRecords
+pub mod RefusedNames
+pub mod RefusedTraces
+pub mod RoomForImages
 pub mod SurveyedImages
 pub mod WordsAsked

@@ -13,5 +13,6 @@ pub mod Refusals
 pub mod Surveys
 pub mod States
 pub mod Rigs
+pub mod Refused
 pub mod Ends
 pub mod internal

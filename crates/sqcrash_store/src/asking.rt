@@ -1,5 +1,7 @@
 //! A command is asked of files (own).
-ghost use Rattle.std.specs.Prelude.{◌≡◌, ◌↔◌, [], ◌∷◌, IsTrue, IfOk};
+ghost use Rattle.std.specs.Prelude.{◌≡◌, ◌↔◌, [], ◌∷◌, IsTrue, IfErr, MatchResult, map};
+ghost use Rattle.std.specs.String.{string_bytes};
+ghost use Rattle.sqcrash_store.specs.Refused.{IsOfFiles, PutRefused, SaidRefused, is_file_name};
 ghost use Rattle.sqcrash_store.specs.Runs.{IsSaid};
 
 use crate::found::Found;
@@ -14,9 +16,11 @@ use std::rt::Files;
 
 /// Who says of files whether they are sound, and which state they show.
 pub trait Judge {
-    ghost use Rattle.std.specs.Prelude.{◌∷◌, [], ℕ, List, Option, None, IfOk, OnOk};
+    ghost use Rattle.std.specs.Prelude.{◌∷◌, [], ℕ, List, Option, None, IfOk, IfErr, OnOk, map};
+    ghost use Rattle.std.specs.String.{string_bytes};
     ghost use Rattle.rig_store.specs.Left.{image_of};
     ghost use Rattle.sqcrash_store.specs.Judged.{Judged, Keeps};
+    ghost use Rattle.sqcrash_store.specs.Refused.{JudgeRefused, PutRefused};
     ghost use Rattle.sqcrash_store.specs.declared.verdict.Answer.{Answer};
 
     /// What it may say of what the names show.
@@ -25,15 +29,19 @@ pub trait Judge {
     /// The images that were handed to it to be kept, where these are known.
     ghost kept: { Self → Option (List Judged) } = { λ _. None };
 
-    /// Is asked of an image, whose names have these texts.
+    /// Is asked of an image, whose names have these texts. Refused by FileFailed, Unwritten, NoAnswer and NoMemory, and
+    /// by Name where one of these names isn't that of a file in a folder.
     fn judge(&mut self, image: &Image, names: &[String]) -> Result<Answer, Refusal>
         ensures says { IfOk result (says (image_of image.now)) }
-        ensures kept { OnOk result (Keeps (kept self.old) (kept self.new) []) };
+        ensures kept { OnOk result (Keeps (kept self.old) (kept self.new) []) }
+        ensures refused { IfErr result (JudgeRefused (map (λ n. string_bytes n) names.now)) };
 
-    /// Takes an image that is to be kept, and what was found of it.
+    /// Takes an image that is to be kept, and what was found of it. Refused by FileFailed and NoMemory, and by Name as
+    /// above.
     fn keep(&mut self, image: &Image, names: &[String], found: &Found) -> Result<(), Refusal>
-        ensures { OnOk result (Keeps (kept self.old) (kept self.new)
-            (record { image = image_of image.now; found = found.now } ∷ [])) };
+        ensures kept { OnOk result (Keeps (kept self.old) (kept self.new)
+            (record { image = image_of image.now; found = found.now } ∷ [])) }
+        ensures refused { IfErr result (PutRefused (map (λ n. string_bytes n) names.now)) };
 }
 
 /// The most images that are kept.
@@ -54,9 +62,12 @@ pub struct Asking<'a, R, I, W> {
     pub kept: u64,
 }
 
-/// Whether a text is the name of a file in a folder.
-fn is_name(name: &str) -> bool {
-    !name.is_empty() && name != "." && name != ".." && !name.contains('/') && !name.contains('\0')
+/// Whether a text may be the name of a file in a folder.
+fn is_name(name: &str) -> bool
+    ensures { result ≡ is_file_name name.now }
+{
+    let bytes = name.as_bytes();
+    !name.is_empty() && name != "." && name != ".." && !bytes.contains(&b'/') && !bytes.contains(&0)
 }
 
 /// Whether a status is 0.
@@ -66,9 +77,10 @@ fn is_zero(status: &str) -> bool
     status == "0"
 }
 
-/// The answer that a line says: a command's status, a space, and the first line that it wrote.
+/// The answer that a line says: a command's status, a space, and the first line that it wrote. Refused by NoAnswer
+/// where there is no space, and by NoMemory.
 pub fn said(alloc: Global, line: &str) -> Result<Answer, Refusal>
-    ensures { IfOk result (λ answer. IsSaid line.now answer) }
+    ensures { MatchResult result (IsSaid line.now) (SaidRefused line.now) }
 {
     let Some((status, text)) = line.split_once(' ') else {
         return Err(Refusal::NoAnswer);
@@ -79,12 +91,33 @@ pub fn said(alloc: Global, line: &str) -> Result<Answer, Refusal>
     })
 }
 
-fn failed(error: io::Error) -> Refusal {
+fn failed(error: io::Error) -> Refusal
+    ensures { IsOfFiles result }
+{
     if error.kind() == io::ErrorKind::OutOfMemory {
         Refusal::NoMemory
     } else {
         Refusal::FileFailed
     }
+}
+
+/// Writes the file of a name into a folder, where there is one.
+fn put_file<R: Files + AllocGlobal>(
+    rt: &R,
+    folder: &str,
+    name: &str,
+    shown: &Option<Vec<u8>>,
+) -> Result<(), Refusal>
+    ensures { IfErr result (PutRefused (name.now ∷ [])) }
+{
+    if !is_name(name) {
+        return Err(Refusal::Name);
+    }
+    if let Some(bytes) = shown {
+        let path = format!(in rt.alloc(); "{folder}/{name}")?;
+        fs::write(rt, path.as_str(), bytes.as_slice()).map_err(failed)?;
+    }
+    Ok(())
 }
 
 /// Writes the files of an image into a folder.
@@ -93,14 +126,12 @@ fn put<R: Files + AllocGlobal>(
     folder: &str,
     image: &Image,
     names: &[String],
-) -> Result<(), Refusal> {
-    for (name, shown) in names.iter().zip(image.files.iter()) {
-        if !is_name(name.as_str()) {
-            return Err(Refusal::Name);
-        }
-        if let Some(bytes) = shown {
-            let path = format!(in rt.alloc(); "{folder}/{name}")?;
-            fs::write(rt, path.as_str(), bytes.as_slice()).map_err(failed)?;
+) -> Result<(), Refusal>
+    ensures { IfErr result (PutRefused (map (λ n. string_bytes n) names.now)) }
+{
+    for k in 0..names.len() {
+        if let Some(shown) = image.files.get(k) {
+            put_file(rt, folder, names[k].as_str(), shown)?;
         }
     }
     Ok(())

@@ -1,7 +1,8 @@
 //! A trace is judged from its beginning to its end (own).
-ghost use Rattle.std.specs.Prelude.{◌<◌, ℕ, List, IfOk};
+ghost use Rattle.std.specs.Prelude.{◌<◌, ℕ, List, IfOk, IfErr};
 ghost use Rattle.std.specs.Io.KnownBytes.{Appends};
 ghost use Rattle.sqcrash_store.specs.Judged.{Judged, Keeps};
+ghost use Rattle.sqcrash_store.specs.Refused.{TraceRefused};
 ghost use Rattle.sqcrash_store.specs.Rigs.{IsJudgment};
 
 use crate::asking::Judge;
@@ -17,7 +18,9 @@ use std::alloc::Global;
 use std::io::Write;
 
 /// Judges a trace by a command, writes lines for each image with something wrong, and at the end what there was, and
-/// hands over those images that are kept. Answers what there was, which is one point or more.
+/// hands over those images that are kept. Answers what there was, which is one point or more. Refused by NoPoints where
+/// there is none, by Trace, Record, Name and TooMany, where the command is asked by FileFailed, NoAnswer and Unwritten,
+/// and by NoMemory.
 pub fn judge_trace<J: Judge, O: Write>(
     alloc: Global,
     plan: Plan,
@@ -30,6 +33,7 @@ pub fn judge_trace<J: Judge, O: Write>(
         × Appends (O.contents out.old) (O.contents out.new) lines
         × Keeps (J.kept judge.old) (J.kept judge.new) kept) }
     ensures some { IfOk result (λ tally. 0 < tally.points) }
+    ensures refused { IfErr result (TraceRefused plan bytes.now) }
 {
     let trace = Trace::read(alloc, bytes)?;
     let names = take_names(alloc, bytes, &trace.calls)?;

@@ -1,5 +1,6 @@
 //! Why a run was refused.
-ghost use Rattle.std.specs.Prelude.{◌≡◌, ◌+◌, IfOk};
+ghost use Rattle.std.specs.Prelude.{◌≡◌, ◌+◌, MatchResult};
+ghost use Rattle.sqcrash_store.specs.Refused.{IsTooMany};
 
 use rig_play::TraceError;
 use rig_store::StoreError;
@@ -40,7 +41,10 @@ pub enum Refusal {
 }
 
 impl From<AllocError> for Refusal {
-    ghost from_gives = { λ _ _. Unit {0} };
+    ghost use Rattle.std.specs.Prelude.{◌≡◌};
+    ghost use Rattle.sqcrash_store.specs.declared.outcome.Refusal.TheVariants.{NoMemory};
+
+    ghost from_gives = { λ _ refusal. refusal ≡ NoMemory };
 
     fn from(_error: AllocError) -> Refusal {
         Refusal::NoMemory
@@ -48,7 +52,10 @@ impl From<AllocError> for Refusal {
 }
 
 impl<T: Drop> From<AllocFailed<T>> for Refusal {
-    ghost from_gives = { λ _ _. Unit {0} };
+    ghost use Rattle.std.specs.Prelude.{◌≡◌};
+    ghost use Rattle.sqcrash_store.specs.declared.outcome.Refusal.TheVariants.{NoMemory};
+
+    ghost from_gives = { λ _ refusal. refusal ≡ NoMemory };
 
     fn from(_error: AllocFailed<T>) -> Refusal {
         Refusal::NoMemory
@@ -56,7 +63,10 @@ impl<T: Drop> From<AllocFailed<T>> for Refusal {
 }
 
 impl From<StoreError> for Refusal {
-    ghost from_gives = { λ _ _. Unit {0} };
+    ghost use Rattle.std.specs.Prelude.{◌≡◌};
+    ghost use Rattle.sqcrash_store.specs.declared.outcome.Refusal.TheVariants.{NoMemory};
+
+    ghost from_gives = { λ _ refusal. refusal ≡ NoMemory };
 
     fn from(_error: StoreError) -> Refusal {
         Refusal::NoMemory
@@ -64,7 +74,10 @@ impl From<StoreError> for Refusal {
 }
 
 impl From<TraceError> for Refusal {
-    ghost from_gives = { λ _ _. Unit {0} };
+    ghost use Rattle.std.specs.Prelude.{◌≡◌};
+    ghost use Rattle.sqcrash_store.specs.declared.outcome.Refusal.TheVariants as refusals;
+
+    ghost from_gives = { λ error refusal. refusal ≡ refusals.Trace error };
 
     fn from(error: TraceError) -> Refusal {
         Refusal::Trace(error)
@@ -72,7 +85,10 @@ impl From<TraceError> for Refusal {
 }
 
 impl From<io::Error> for Refusal {
-    ghost from_gives = { λ _ _. Unit {0} };
+    ghost use Rattle.std.specs.Prelude.{◌≡◌, ◌⊎◌};
+    ghost use Rattle.sqcrash_store.specs.declared.outcome.Refusal.TheVariants.{NoMemory, Unwritten};
+
+    ghost from_gives = { λ _ refusal. (refusal ≡ NoMemory) ⊎ (refusal ≡ Unwritten) };
 
     fn from(error: io::Error) -> Refusal {
         if error.kind() == io::ErrorKind::OutOfMemory {
@@ -83,9 +99,9 @@ impl From<io::Error> for Refusal {
     }
 }
 
-/// One more.
+/// One more. TooMany where that is above 18,446,744,073,709,551,615 (own).
 pub fn more(count: u64) -> Result<u64, Refusal>
-    ensures { IfOk result (λ n. n ≡ count + 1) }
+    ensures { MatchResult result (λ n. n ≡ count + 1) (IsTooMany count) }
 {
     match count.checked_add(1) {
         Some(n) => Ok(n),

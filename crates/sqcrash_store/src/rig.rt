@@ -57,12 +57,13 @@ fn is_judged(plan: Plan, point: u64) -> bool
 }
 
 impl Rig {
-    ghost use Rattle.std.specs.Prelude.{◌≡◌, ◌+◌, ℕ, List, OnOk};
+    ghost use Rattle.std.specs.Prelude.{◌≡◌, ◌+◌, ℕ, List, OnOk, IfErr, MatchResult};
     ghost use Rattle.std.specs.Io.KnownBytes.{Appends};
     ghost use Rattle.rig_store.specs.Calls.{bytes_of};
     ghost use Rattle.sqcrash_store.specs.Surveys.{judging_of};
     ghost use Rattle.sqcrash_store.specs.Judged.{Judged, Keeps};
     ghost use Rattle.sqcrash_store.specs.Points.{is_judged};
+    ghost use Rattle.sqcrash_store.specs.Refused.{IsTooMany, PointRefused, RigRefused};
     ghost use Rattle.sqcrash_store.specs.Rigs.{rig_of, no_rig, crash_of, NotesBy, JudgesAsked, PlaysOne};
 
     /// Nothing is played yet.
@@ -88,8 +89,9 @@ impl Rig {
 
     /// Counts a mark, which may promise its state.
     fn note(&mut self, bench: &Bench<'_>, call: &Call) -> Result<(), Refusal>
-        ensures { OnOk result (NotesBy call.now.action bench.now.plan (bytes_of bench.now.trace.now call.now)
-            (rig_of self.old) (rig_of self.new)) }
+        ensures { MatchResult result (λ done. NotesBy call.now.action bench.now.plan
+            (bytes_of bench.now.trace.now call.now) (rig_of self.old) (rig_of self.new))
+            (IsTooMany (rig_of self.old).marks) }
     {
         match call.action {
             Action::Mark => {
@@ -110,12 +112,13 @@ impl Rig {
         judge: &mut J,
         out: &mut O,
     ) -> Result<(), Refusal>
-        ensures { OnOk result ((lines : List ℕ) × (kept : List Judged)
+        ensures judged { OnOk result ((lines : List ℕ) × (kept : List Judged)
             × JudgesAsked J.says (is_judged bench.now.plan ((rig_of self.old).tally.points + 1))
             (judging_of bench.now) call.now (rig_of self.old) self.new.tally lines kept
             × (rig_of self.new ≡ record (rig_of self.old) { tally = self.new.tally })
             × Appends (O.contents out.old) (O.contents out.new) lines
             × Keeps (J.kept judge.old) (J.kept judge.new) kept) }
+        ensures refused { IfErr result (PointRefused (judging_of bench.now) (rig_of self.old).tally) }
     {
         let tally = self.tally.with_point()?;
         if !is_judged(bench.plan, tally.points) {
@@ -135,7 +138,8 @@ impl Rig {
         Ok(())
     }
 
-    /// Plays one record, and where it is a point judges what a crash may leave there.
+    /// Plays one record, and where it is a point judges what a crash may leave there. Refused by Record and TooMany,
+    /// and by what refuses to ask of an image or to keep it, after which nothing is said of the run.
     pub fn play<J: Judge, O: Write>(
         &mut self,
         bench: &Bench<'_>,
@@ -143,10 +147,11 @@ impl Rig {
         judge: &mut J,
         out: &mut O,
     ) -> Result<(), Refusal>
-        ensures { OnOk result ((lines : List ℕ) × (kept : List Judged)
+        ensures played { OnOk result ((lines : List ℕ) × (kept : List Judged)
             × PlaysOne J.says (judging_of bench.now) call.now (rig_of self.old) (rig_of self.new) lines kept
             × Appends (O.contents out.old) (O.contents out.new) lines
             × Keeps (J.kept judge.old) (J.kept judge.new) kept) }
+        ensures refused { IfErr result (RigRefused (judging_of bench.now) call.now (rig_of self.old)) }
     {
         play(&mut self.store, bench.trace, call)?;
         self.played = more(self.played)?;

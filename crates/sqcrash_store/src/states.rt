@@ -1,9 +1,10 @@
 //! The states that a run had at its marks (own).
-ghost use Rattle.std.specs.Prelude.{◌≡◌, [], ◌∷◌, ◌++◌, map, OnOk, IfOk};
+ghost use Rattle.std.specs.Prelude.{◌≡◌, [], ◌∷◌, ◌++◌, map, IsTrue, OnOk, IfOk, IfErr, MatchResult};
 ghost use Rattle.std.specs.String.{string_bytes};
 ghost use Rattle.rig_store.specs.Calls.{bytes_of};
 ghost use Rattle.rig_store.specs.Stores.{store_of, Goes};
 ghost use Rattle.sqcrash_store.specs.Judged.{Keeps};
+ghost use Rattle.sqcrash_store.specs.Refused.{IsUnplayed, JudgeRefused, NamesRefused, StatesRefused};
 ghost use Rattle.sqcrash_store.specs.States.{SaysWhere, is_first, is_mark, tells_name, names_told, AreStates};
 
 use crate::asking::Judge;
@@ -15,7 +16,8 @@ use std::alloc::Global;
 
 /// The text of a name that a record tells.
 fn text_of(alloc: Global, trace: &[u8], call: &Call) -> Result<String, Refusal>
-    ensures { IfOk result (λ text. string_bytes text ≡ bytes_of trace.now call.now) }
+    ensures { MatchResult result (λ text. string_bytes text ≡ bytes_of trace.now call.now)
+        (NamesRefused (bytes_of trace.now call.now ∷ [])) }
 {
     match std::str::from_utf8(call.bytes(trace)) {
         Ok(text) => Ok(String::from_str(alloc, text)?),
@@ -37,8 +39,9 @@ fn take_name(
     call: &Call,
     names: &mut Vec<String>,
 ) -> Result<(), Refusal>
-    ensures { OnOk result (map (λ name. string_bytes name) names.new.items
-        ≡ map (λ name. string_bytes name) names.old.items ++ names_told trace.now (call.now ∷ [])) }
+    ensures { MatchResult result (λ done. map (λ name. string_bytes name) names.new.items
+        ≡ map (λ name. string_bytes name) names.old.items ++ names_told trace.now (call.now ∷ []))
+        (NamesRefused (names_told trace.now (call.now ∷ []))) }
 {
     let tells = tells_name(call);
     if !tells {
@@ -49,9 +52,10 @@ fn take_name(
     Ok(())
 }
 
-/// The names that the records of a trace tell, in their order.
+/// The names that the records of a trace tell, in their order. Refused by Name, where one isn't text, and by NoMemory.
 pub fn take_names(alloc: Global, trace: &[u8], calls: &[Call]) -> Result<Vec<String>, Refusal>
-    ensures { IfOk result (λ names. map (λ name. string_bytes name) names.items ≡ names_told trace.now calls.now) }
+    ensures { MatchResult result (λ names. map (λ name. string_bytes name) names.items ≡ names_told trace.now calls.now)
+        (NamesRefused (names_told trace.now calls.now)) }
 {
     let mut names = Vec::new(alloc);
     for call in calls {
@@ -60,9 +64,10 @@ pub fn take_names(alloc: Global, trace: &[u8], calls: &[Call]) -> Result<Vec<Str
     Ok(names)
 }
 
-/// Plays one record.
+/// Plays one record. Refused by Record, with the place where it begins.
 pub fn play(store: &mut Store, trace: &[u8], call: &Call) -> Result<(), Refusal>
-    ensures { OnOk result (Goes trace.now call.now (store_of store.old) (store_of store.new)) }
+    ensures { MatchResult result (λ done. Goes trace.now call.now (store_of store.old) (store_of store.new))
+        (IsUnplayed trace.now call.now (store_of store.old)) }
 {
     match store.play(trace, call) {
         Ok(()) => Ok(()),
@@ -81,6 +86,8 @@ fn take_where<J: Judge>(
 ) -> Result<(), Refusal>
     ensures says { OnOk result (SaysWhere J.says is (store_of store.now) states.old.items states.new.items) }
     ensures kept { OnOk result (Keeps (J.kept judge.old) (J.kept judge.new) []) }
+    ensures refused { IfErr result (λ refusal. IsTrue is
+        × JudgeRefused (map (λ name. string_bytes name) names.now) refusal) }
 {
     if !is {
         return Ok(());
@@ -105,7 +112,8 @@ fn is_mark(call: &Call) -> bool
     call.action == Action::Mark
 }
 
-/// What the command says of the files before the first call, and at each mark.
+/// What the command says of the files before the first call, and at each mark. Refused by Record, and by what refuses
+/// to ask it.
 pub fn take_states<J: Judge>(
     alloc: Global,
     plan: Plan,
@@ -116,6 +124,8 @@ pub fn take_states<J: Judge>(
 ) -> Result<Vec<Answer>, Refusal>
     ensures says { IfOk result (λ states. AreStates J.says plan trace.now calls.now states.items) }
     ensures kept { OnOk result (Keeps (J.kept judge.old) (J.kept judge.new) []) }
+    ensures refused { IfErr result
+        (StatesRefused plan trace.now calls.now (map (λ name. string_bytes name) names.now)) }
 {
     let mut store = Store::new(alloc, plan.sector, plan.tears, plan.meta);
     let mut states = Vec::new(alloc);

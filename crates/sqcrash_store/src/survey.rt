@@ -1,5 +1,5 @@
 //! The images of a point are judged, counted, told and kept (own).
-ghost use Rattle.std.specs.Prelude.{◌≡◌, ◌≤◌, ◌||◌, ◌++◌, List, [], ◌∷◌, OnOk, IfOk, map};
+ghost use Rattle.std.specs.Prelude.{◌≡◌, ◌≤◌, ◌^◌, ◌||◌, ◌++◌, List, [], ◌∷◌, OnOk, IfOk, IfErr, MatchResult, map};
 ghost use Rattle.std.specs.Io.KnownBytes.{Appends};
 ghost use Rattle.std.specs.String.{string_bytes};
 ghost use Rattle.rand_pcg.specs.Lcg.{increment_of, started};
@@ -10,10 +10,12 @@ ghost use Rattle.rig_store.specs.Torn.{IsTornIfAny};
 ghost use Rattle.sqcrash_store.specs.Judged.{Judged, Keeps, is_some, kept_among, kept_of};
 ghost use Rattle.sqcrash_store.specs.Keys.{key_of};
 ghost use Rattle.sqcrash_store.specs.Printed.{lines_of};
+ghost use Rattle.sqcrash_store.specs.Refused.{ImagesRefused, IsOfMemory, JudgeRefused, PutRefused};
 ghost use Rattle.sqcrash_store.specs.Surveys.{IsJudged, IsSurvey, drawn_count, judging_of, lines_from};
 ghost use Rattle.sqcrash_store.specs.Surveys.{third_of, with_images};
 ghost use Rattle.sqcrash_store.specs.Tallies.{with_image};
 ghost use Rattle.sqcrash_store.specs.Verdicts.{is_wrong};
+ghost use Rattle.sqcrash_store.specs.declared.outcome.Refusal.TheVariants.{TooMany};
 
 use crate::asked::is_asked;
 use crate::asking::Judge;
@@ -90,6 +92,7 @@ fn found_of<J: Judge>(
         point.now.crash (record { image = image_of drawn.entry.image.now; found = found })) }
     ensures number { IfOk result (λ found. found.number ≡ drawn.entry.number) }
     ensures kept { OnOk result (Keeps (J.kept judge.old) (J.kept judge.new) []) }
+    ensures refused { IfErr result (JudgeRefused (judging_of bench.now).names) }
 {
     let answer = judge.judge(drawn.image, bench.names)?;
     let verdict = verdict_of(bench.states, point.crash.known, &answer);
@@ -117,8 +120,9 @@ fn keep_one<J: Judge>(
     image: &Image,
     found: &Found,
 ) -> Result<(), Refusal>
-    ensures { OnOk result (Keeps (J.kept judge.old) (J.kept judge.new)
-        (kept_of bench.now.plan (record { image = image_of image.now; found = found.now }))) }
+    ensures { MatchResult result (λ done. Keeps (J.kept judge.old) (J.kept judge.new)
+        (kept_of bench.now.plan (record { image = image_of image.now; found = found.now })))
+        (PutRefused (judging_of bench.now).names) }
 {
     if !is_kept(bench.plan, found.verdict) {
         return Ok(());
@@ -136,13 +140,14 @@ fn judge_one<J: Judge, O: Write>(
     before: Tally,
     out: &mut O,
 ) -> Result<Tally, Refusal>
-    ensures { IfOk result (λ tally. (x : Judged) × (x.image ≡ image_of drawn.entry.image.now)
+    ensures judged { IfOk result (λ tally. (x : Judged) × (x.image ≡ image_of drawn.entry.image.now)
         × (x.found.number ≡ drawn.entry.number)
         × IsJudged J.says bench.now.states.now (store_of point.now.store.now) point.now.crash x
         × (tally ≡ with_image before x.found.verdict)
         × Appends (O.contents out.old) (O.contents out.new) (lines_of bench.now.plan (judging_of bench.now).names
         before.wrong x.found)
         × Keeps (J.kept judge.old) (J.kept judge.new) (kept_of bench.now.plan x)) }
+    ensures refused { IfErr result (ImagesRefused 1 (judging_of bench.now).names before) }
 {
     let found = found_of(judge, bench, point, drawn)?;
     let tally = before.with_image(found.verdict)?;
@@ -167,7 +172,8 @@ fn third_of(images: u64) -> u64
 
 /// How many images are drawn at a point: where sectors tear, a third more.
 fn drawn_count(plan: Plan) -> Result<u64, Refusal>
-    ensures { IfOk result (λ n. n ≡ drawn_count plan) }
+    ensures { MatchResult result (λ n. n ≡ drawn_count plan)
+        (λ refusal. (refusal ≡ TooMany) × (2 ^ 64 ≤ drawn_count plan)) }
 {
     if !plan.tears {
         return Ok(plan.images);
@@ -188,6 +194,7 @@ fn draw_one<R: Rng>(
     ensures left { IfOk result (λ image. MayLeave (store_of store.now) (image_of image)) }
     ensures torn { IfOk result (λ image. bench.now.plan.images ≤ number
         → IsTornIfAny (store_of store.now) (image_of image)) }
+    ensures memory { IfErr result IsOfMemory }
 {
     if number < bench.plan.images {
         return Ok(draw(bench.alloc, rng, store)?);
@@ -202,7 +209,8 @@ fn draws_of(plan: Plan, point: u64) -> Pcg32
     Pcg32::new(plan.seed, point)
 }
 
-/// Judges images that are drawn of those that a crash may leave at a point, each once.
+/// Judges images that are drawn of those that a crash may leave at a point, each once. Refused by TooMany, and by what
+/// refuses to ask of an image or to keep it.
 pub fn survey<J: Judge, O: Write>(
     judge: &mut J,
     bench: &Bench<'_>,
@@ -210,11 +218,13 @@ pub fn survey<J: Judge, O: Write>(
     before: Tally,
     out: &mut O,
 ) -> Result<Tally, Refusal>
-    ensures { IfOk result (λ tally. (judged : List Judged)
+    ensures judged { IfOk result (λ tally. (judged : List Judged)
         × IsSurvey J.says (judging_of bench.now) (store_of point.now.store.now) point.now.crash judged
         × (tally ≡ with_images before judged)
         × Appends (O.contents out.old) (O.contents out.new) (lines_from (judging_of bench.now) before judged)
         × Keeps (J.kept judge.old) (J.kept judge.new) (kept_among bench.now.plan judged)) }
+    ensures refused { IfErr result
+        (ImagesRefused (drawn_count bench.now.plan) (judging_of bench.now).names before) }
 {
     let mut rng = draws_of(bench.plan, point.crash.point);
     let mut keys = HashSet::new(bench.alloc);

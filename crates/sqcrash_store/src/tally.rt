@@ -19,8 +19,10 @@ pub struct Tally {
 }
 
 impl Tally {
-    ghost use Rattle.std.specs.Prelude.{◌≡◌, ◌↔◌, IsTrue, IfOk};
+    ghost use Rattle.std.specs.Prelude.{◌≡◌, ◌↔◌, IsTrue, MatchResult};
+    ghost use Rattle.sqcrash_store.specs.Refused.{HasRoom, IsTooMany};
     ghost use Rattle.sqcrash_store.specs.Tallies.{no_tally, with_point, with_image, IsClean};
+    ghost use Rattle.sqcrash_store.specs.declared.outcome.Refusal.TheVariants.{TooMany};
 
     /// None.
     pub fn none() -> Tally
@@ -43,17 +45,18 @@ impl Tally {
         self.lost == 0 && self.mixed == 0 && self.faults == 0
     }
 
-    /// With one more point.
+    /// With one more point. TooMany where there is no next number.
     pub fn with_point(mut self) -> Result<Tally, Refusal>
-        ensures { IfOk result (λ t. t ≡ with_point self) }
+        ensures { MatchResult result (λ t. t ≡ with_point self) (IsTooMany self.points) }
     {
         self.points = more(self.points)?;
         Ok(self)
     }
 
-    /// With one more image, of which this is to be said.
+    /// With one more image, of which this is to be said. TooMany where a count has no next number.
     pub fn with_image(mut self, verdict: Verdict) -> Result<Tally, Refusal>
-        ensures { IfOk result (λ t. t ≡ with_image self verdict) }
+        ensures { MatchResult result (λ t. t ≡ with_image self verdict)
+            (λ refusal. (refusal ≡ TooMany) × ¬ HasRoom 1 self) }
     {
         self.images = more(self.images)?;
         match verdict {

@@ -1,12 +1,15 @@
-use Rattle.std.proofs.Common.{Bool, List, [], take, get_or, refl, sym, ◌∙◌, ap, subst}
+use Rattle.std.proofs.Common.{inl, inr, ◌+◌, Bool, List, [], take, drop, get_or, refl, sym, ◌∙◌, ap, subst}
 use Rattle.std.proofs.lemmas.List.{take_more, take_all}
 use Rattle.rig_store.specs.Stores.{StoreState, store_of, no_store}
 use Rattle.rig_store.specs.declared.call.Action.TheVariants.{Base}
 use Rattle.rig_store.specs.declared.call.Call.{Call}
 use Rattle.sqcrash_store.specs.States.{TakeState, Takes, TakesAll, SaysWhere, is_first, is_mark, none_taken}
 use Rattle.sqcrash_store.specs.declared.verdict.Answer.{Answer}
+use Rattle.sqcrash_store.proofs.CountedRecords.{first_is_call, mark_is_call, some_call, taken_all}
 use Rattle.sqcrash_store.proofs.KeptImages.{keeps_none, keeps_more}
+use Rattle.sqcrash_store.proofs.PassedRefusals.{passed}
 use Rattle.sqcrash_store.proofs.PlayedRecords.{takes_more}
+use Rattle.sqcrash_store.proofs.RefusedTraces.{split_at, unplayed_in}
 use Rattle.sqcrash_store.proofs.states.take_states.Goals as goal
 
 -- what stands for a record behind the last
@@ -52,3 +55,38 @@ returns-clause-says g c =
 
 pub returns-clause-kept : goal.returns-clause-kept
 returns-clause-kept g c = c.loop-call.invariant.1
+
+pub returns-in_err-take_where-clause-refused : goal.returns-in_err-take_where-clause-refused
+unfolding behind
+returns-in_err-take_where-clause-refused g c =
+    let calls = c.args.calls.now in
+    let i = c.loop-call.call-index in
+    let r = get_or calls i behind in
+    let asked = c.in_err-take_where.ensures.refused in
+    let call = first_is_call c.deref.result.now r.action (sym c.is_first-is_first.ensures ∙ asked.0) in
+    passed c.from_residual.result _ _ _ c.from_residual.ensures.1
+    (inl (some_call calls (take i calls) (drop (i + 1) calls) r (split_at calls i behind c.loop-call-test.true) call, asked.1))
+
+pub returns-in_err-play-clause-refused : goal.returns-in_err-play-clause-refused
+unfolding behind
+returns-in_err-play-clause-refused g c =
+    let plan = c.args.plan in
+    let trace = c.args.trace.now in
+    let calls = c.args.calls.now in
+    let i = c.loop-call.call-index in
+    let r = get_or calls i behind in
+    let old : TakeState = record { store = store_of c.loop-call.store; states = c.loop-call.states.items } in
+    let goes = taken_all g.J.Judge.says trace (take i calls) (none_taken plan) old c.loop-call.invariant.0 in
+    passed c.from_residual-in_err-play.result _ _ _ c.from_residual-in_err-play.ensures.1
+    (inr (unplayed_in plan trace calls (take i calls) (drop (i + 1) calls) r old.store _ (split_at calls i behind c.loop-call-test.true) goes c.in_err-play.ensures))
+
+pub returns-in_err-take_where-2-clause-refused : goal.returns-in_err-take_where-2-clause-refused
+unfolding behind
+returns-in_err-take_where-2-clause-refused g c =
+    let calls = c.args.calls.now in
+    let i = c.loop-call.call-index in
+    let r = get_or calls i behind in
+    let asked = c.in_err-take_where-2.ensures.refused in
+    let call = mark_is_call r.action (sym c.is_mark.ensures ∙ asked.0) in
+    passed c.from_residual-in_err-take_where-2.result _ _ _ c.from_residual-in_err-take_where-2.ensures.1
+    (inl (some_call calls (take i calls) (drop (i + 1) calls) r (split_at calls i behind c.loop-call-test.true) call, asked.1))

@@ -1,5 +1,5 @@
 use Rattle.std.proofs.Common.{Bool, [], ◌∷◌, cond, subst}
-use Rattle.std.proofs.lemmas.Result.{IfOk-weaker}
+use Rattle.std.proofs.lemmas.Result.{IfOk-weaker, MatchResult-from_both}
 use Rattle.rig_store.specs.Left.{image_of}
 use Rattle.sqcrash_store.specs.Judged.{Judged, Keeps}
 use Rattle.sqcrash_store.proofs.KeptImages.{keeps_none}
@@ -16,4 +16,5 @@ returns g c =
     let old = g.J.Judge.kept c.args.judge.now in
     let new = g.J.Judge.kept c.keep.new.self in
     let x : Judged = record { image = image_of c.args.image.now; found = c.args.found.now } in
-    IfOk-weaker c.keep.result _ _ (λ done is. subst (λ (b : Bool). Keeps old new (cond b (x ∷ []) [])) c.if-not-is_kept.ensures is) c.keep.ensures
+    MatchResult-from_both c.keep.result _ _
+    (IfOk-weaker c.keep.result _ _ (λ done is. subst (λ (b : Bool). Keeps old new (cond b (x ∷ []) [])) c.if-not-is_kept.ensures is) c.keep.ensures.kept) c.keep.ensures.refused

@@ -1,4 +1,4 @@
-use Rattle.std.proofs.Common.{◌≡◌, ℕ, ◌+◌, Bool, true, false, cond, nat_eq, List, [], ◌∷◌, ◌++◌, length, refl, sym, ◌∙◌, ap, subst, arith}
+use Rattle.std.proofs.Common.{◌≡◌, inr, ℕ, ◌+◌, ◌≤◌, Bool, true, false, cond, nat_eq, List, [], ◌∷◌, ◌++◌, length, refl, sym, ◌∙◌, ap, subst, arith}
 use Rattle.std.specs.Prelude.{not}
 use Rattle.std.specs.Bool.{OnFalse}
 use Rattle.std.specs.HashSet.{contains, IsUnchanged}
@@ -10,12 +10,15 @@ use Rattle.sqcrash_store.specs.Judged.{Judged, Keeps, kept_among, kept_of}
 use Rattle.sqcrash_store.specs.Keys.{key_of}
 use Rattle.sqcrash_store.specs.Points.{is_asked}
 use Rattle.sqcrash_store.specs.Printed.{lines_of}
+use Rattle.sqcrash_store.specs.Refused.{ImagesRefused}
 use Rattle.sqcrash_store.specs.Surveys.{drawn_count, judging_of, lines_from, with_images}
 use Rattle.sqcrash_store.specs.Tallies.{with_image}
 use Rattle.sqcrash_store.specs.declared.tally.Tally.{Tally}
 use Rattle.sqcrash_store.specs.internal.Surveys.{IsSurveyed}
 use Rattle.sqcrash_store.proofs.AppendedBytes.{appends_none, appends_more}
 use Rattle.sqcrash_store.proofs.KeptImages.{keeps_none, keeps_more}
+use Rattle.sqcrash_store.proofs.PassedRefusals.{passed}
+use Rattle.sqcrash_store.proofs.RoomForImages.{firsts_few, images_behind, judged_few}
 use Rattle.sqcrash_store.proofs.SurveyedImages.{surveyed_none, surveyed_new, surveyed_unasked, surveyed_same, images_more, lines_more, kept_more}
 use Rattle.sqcrash_store.proofs.survey.survey.Goals as goal
 
@@ -101,7 +104,7 @@ loop-n-preserved g c =
     let adds : (q : ℕ) → contains nat_eq new q ≡ cond (nat_eq (key_of image) q) true (contains nat_eq old q) = λ q.
     subst (λ (k : ℕ). contains nat_eq new q ≡ cond (nat_eq k q) true (contains nat_eq old q)) c.key_of.ensures (c.in_ok-insert.ensures.updates.0 q) in
     let asked : is_asked j.plan.image next ≡ true = sym c.if-not-is_asked.ensures in
-    let one = c.in_ok-tally.ensures in
+    let one = c.in_ok-tally.ensures.judged in
     let x = one.0 in
     let out = g.O.Write.contents c.args.out.now in
     let mid = g.O.Write.contents c.loop-n.out in
@@ -118,8 +121,8 @@ loop-n-preserved g c =
           (keeps_more (kept c.args.judge.now) (kept c.loop-n.judge) (kept c.judge_one.new.judge) (kept_among j.plan judged) (kept_of j.plan x) so_far.4 one.6),
     )
 
-pub returns : goal.returns
-returns g c =
+pub returns-clause-judged : goal.returns-clause-judged
+returns-clause-judged g c =
     let so_far = c.loop-n.invariant in
     let seen = so_far.1 in
     let all : c.loop-n.n ≡ c.in_ok-count.count = omega (arith, c.loop-n-test.false, c.loop-n.auto.n-end) in
@@ -130,3 +133,27 @@ returns g c =
       so_far.3,
       so_far.4,
     )
+
+pub returns-in_err-count-clause-refused : goal.returns-in_err-count-clause-refused
+returns-in_err-count-clause-refused g c =
+    let many = c.in_err-count.ensures in
+    passed c.from_residual.result _ _ _ c.from_residual.ensures.1 (inr (many.0, λ room. absurd (omega (arith, room.images, many.1))))
+
+pub returns-in_err-next-clause-refused : goal.returns-in_err-next-clause-refused
+returns-in_err-next-clause-refused g c =
+    let many = c.in_err-next.ensures in
+    let seen = c.loop-n.invariant.1 in
+    passed c.from_residual-in_err-next.result _ _ _ c.from_residual-in_err-next.ensures.1
+    (inr (many.0, λ room. absurd (omega (arith, room.images, many.1, seen.next_is, seen.number, firsts_few seen.drawn, c.loop-n-test.true, c.in_ok-count.ensures))))
+
+pub returns-in_err-tally-clause-refused : goal.returns-in_err-tally-clause-refused
+returns-in_err-tally-clause-refused g c =
+    let so_far = c.loop-n.invariant in
+    let seen = so_far.1 in
+    let j = judging_of c.args.bench.now in
+    let refusal = c.in_err-tally.field-0.0 in
+    let few = judged_few j.plan.image seen.drawn so_far.0 seen.once in
+    let less : length so_far.0 + 1 ≤ drawn_count j.plan = omega (arith, few, seen.number, c.loop-n-test.true, c.in_ok-count.ensures) in
+    let is = subst (λ (t : Tally). ImagesRefused 1 j.names t refusal) so_far.2 c.in_err-tally.ensures.refused in
+    passed c.from_residual-in_err-tally.result _ _ _ c.from_residual-in_err-tally.ensures.1
+    (images_behind (drawn_count j.plan) 1 j.names c.args.before so_far.0 refusal less is)

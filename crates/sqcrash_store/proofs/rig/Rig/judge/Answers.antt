@@ -1,16 +1,19 @@
-use Rattle.std.proofs.Common.{◌≡◌, ℕ, Bool, List, [], refl, ◌∙◌, ap, subst}
+use Rattle.std.proofs.Common.{◌≡◌, inr, ℕ, Bool, List, [], refl, ◌∙◌, ap, subst}
 use Rattle.sqcrash_store.specs.Judged.{kept_among}
 use Rattle.sqcrash_store.specs.Points.{is_judged}
+use Rattle.sqcrash_store.specs.Refused.{ImagesRefused}
 use Rattle.sqcrash_store.specs.Rigs.{rig_of, crash_of, JudgesAsked}
-use Rattle.sqcrash_store.specs.Surveys.{IsSurvey, judging_of, lines_from, with_images}
+use Rattle.sqcrash_store.specs.Surveys.{IsSurvey, drawn_count, judging_of, lines_from, with_images}
 use Rattle.sqcrash_store.specs.declared.crash.Crash.{Crash}
 use Rattle.sqcrash_store.specs.declared.tally.Tally.{Tally}
 use Rattle.sqcrash_store.proofs.AppendedBytes.{appends_none}
 use Rattle.sqcrash_store.proofs.KeptImages.{keeps_none}
+use Rattle.sqcrash_store.proofs.PassedRefusals.{passed}
+use Rattle.sqcrash_store.proofs.RoomForImages.{images_at_point}
 use Rattle.sqcrash_store.proofs.rig.Rig.judge.Goals as goal
 
-pub returns-then-not-is_judged : goal.returns-then-not-is_judged
-returns-then-not-is_judged g c =
+pub returns-then-not-is_judged-clause-judged : goal.returns-then-not-is_judged-clause-judged
+returns-then-not-is_judged-clause-judged g c =
     let bench = c.args.bench.now in
     let old = rig_of c.args.self.now in
     let tally = c.in_ok-tally.tally in
@@ -23,15 +26,15 @@ returns-then-not-is_judged g c =
       keeps_none (g.J.Judge.kept c.args.judge.now),
     )
 
-pub returns : goal.returns
-returns g c =
+pub returns-clause-judged : goal.returns-clause-judged
+returns-clause-judged g c =
     let bench = c.args.bench.now in
     let j = judging_of bench in
     let call = c.args.call.now in
     let old = rig_of c.args.self.now in
     let tally = c.in_ok-tally.tally in
     let asked = c.if-not-is_judged.ensures ∙ ap (λ (t : Tally). is_judged bench.plan t.points) c.in_ok-tally.ensures in
-    let one = c.in_ok-self.ensures in
+    let one = c.in_ok-self.ensures.judged in
     let judged = one.0 in
     let new : Tally = c.in_ok-self.field-0 in
     let before = g.O.Write.contents c.args.out.now in
@@ -47,3 +50,11 @@ returns g c =
       one.3,
       one.4,
     )
+
+pub returns-in_err-self-clause-refused : goal.returns-in_err-self-clause-refused
+returns-in_err-self-clause-refused g c =
+    let j = judging_of c.args.bench.now in
+    let old = rig_of c.args.self.now in
+    let refusal = c.in_err-self.field-0.0 in
+    let is = subst (λ (t : Tally). ImagesRefused (drawn_count j.plan) j.names t refusal) c.in_ok-tally.ensures c.in_err-self.ensures.refused in
+    passed c.from_residual-in_err-self.result _ _ _ c.from_residual-in_err-self.ensures.1 (inr (images_at_point (drawn_count j.plan) j.names old.tally refusal is))

@@ -1,0 +1,11 @@
+-- What `?` hands on of a refusal.
+use Rattle.std.proofs.Common.{◌≡◌, Result, Ok, Err, MatchResult, IsErrAnd, sym, subst}
+
+-- what a clause says of one
+pub made : {T E : Type 0} (r : Result T E) (P : T → Type 0) (Q G : E → Type 0) → IsErrAnd r G → ((x : E) → G x → Q x) → MatchResult r P Q
+made (Ok x) P Q G is more = absurd is
+made (Err e) P Q G is more = more e is
+
+-- the same error
+pub passed : {T E : Type 0} (r : Result T E) (e : E) (P : T → Type 0) (Q : E → Type 0) → IsErrAnd r (λ x. x ≡ e) → Q e → MatchResult r P Q
+passed {T} {E} r e P Q is holds = made r P Q (λ (x : E). x ≡ e) is (λ x same. subst Q (sym same) holds)

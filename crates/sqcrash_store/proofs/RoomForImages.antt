@@ -1,0 +1,114 @@
+-- Counts of images that have room for more.
+use Rattle.std.proofs.Common.{◌≡◌, inl, inr, ℕ, ◌+◌, ◌≤◌, Bool, not, nat_eq, Option, List, [], ◌∷◌, length, map, refl, ◌∙◌, ap, arith}
+use Rattle.std.specs.List.{filter}
+use Rattle.std.proofs.lemmas.List.{length-map}
+use Rattle.std.proofs.lemmas.List.Sums.{length-filter, count_by-le-length}
+use Rattle.sqcrash_store.specs.Judged.{Judged}
+use Rattle.sqcrash_store.specs.Keys.{key_of}
+use Rattle.sqcrash_store.specs.Points.{is_asked}
+use Rattle.sqcrash_store.specs.Refused.{HasRoom, ImagesRefused}
+use Rattle.sqcrash_store.specs.Surveys.{firsts, numbered, asked_among, with_images, with_number}
+use Rattle.sqcrash_store.specs.Tallies.{with_image, with_point}
+use Rattle.sqcrash_store.specs.declared.outcome.Refusal.{Refusal}
+use Rattle.sqcrash_store.specs.declared.tally.Tally.{Tally}
+use Rattle.sqcrash_store.specs.declared.verdict.Verdict.{Verdict}
+use Rattle.sqcrash_store.specs.declared.verdict.Verdict.TheVariants.{Kept, Lost, Mixed, Fault}
+
+-- there is room for fewer
+pub room_fewer : (m n : ℕ) (t : Tally) → m ≤ n → HasRoom n t → HasRoom m t
+room_fewer m n t less room = record {
+  images = omega (arith, less, room.images);
+  wrong = omega (arith, less, room.wrong);
+  lost = omega (arith, less, room.lost);
+  mixed = omega (arith, less, room.mixed);
+  faults = omega (arith, less, room.faults);
+}
+
+-- a point takes none
+pub room_point : (n : ℕ) (t : Tally) → HasRoom n t → HasRoom n (with_point t)
+room_point n t room = record { images = room.images; wrong = room.wrong; lost = room.lost; mixed = room.mixed; faults = room.faults }
+
+-- an image takes one
+room_image : (m n : ℕ) (t : Tally) (v : Verdict) → m + 1 ≤ n → HasRoom n t → HasRoom m (with_image t v)
+room_image m n t (Kept k) less room = record {
+  images = omega (arith, less, room.images);
+  wrong = omega (arith, less, room.wrong);
+  lost = omega (arith, less, room.lost);
+  mixed = omega (arith, less, room.mixed);
+  faults = omega (arith, less, room.faults);
+}
+room_image m n t (Lost k) less room = record {
+  images = omega (arith, less, room.images);
+  wrong = omega (arith, less, room.wrong);
+  lost = omega (arith, less, room.lost);
+  mixed = omega (arith, less, room.mixed);
+  faults = omega (arith, less, room.faults);
+}
+room_image m n t Mixed less room = record {
+  images = omega (arith, less, room.images);
+  wrong = omega (arith, less, room.wrong);
+  lost = omega (arith, less, room.lost);
+  mixed = omega (arith, less, room.mixed);
+  faults = omega (arith, less, room.faults);
+}
+room_image m n t Fault less room = record {
+  images = omega (arith, less, room.images);
+  wrong = omega (arith, less, room.wrong);
+  lost = omega (arith, less, room.lost);
+  mixed = omega (arith, less, room.mixed);
+  faults = omega (arith, less, room.faults);
+}
+
+-- and so each of some
+pub room_images : (m n : ℕ) (t : Tally) (judged : List Judged) → length judged + m ≤ n → HasRoom n t → HasRoom m (with_images t judged)
+room_images m n t [] less room = room_fewer m n t (omega (arith, less)) room
+room_images m n t (x ∷ judged) less room =
+    let k = length judged + m in
+    room_images m k (with_image t x.found.verdict) judged (omega arith) (room_image k n t x.found.verdict (omega (arith, less)) room)
+
+points_image : (t : Tally) (v : Verdict) → (with_image t v).points ≡ t.points
+points_image t (Kept k) = refl
+points_image t (Lost k) = refl
+points_image t Mixed = refl
+points_image t Fault = refl
+
+-- images are no points
+pub points_images : (t : Tally) (judged : List Judged) → (with_images t judged).points ≡ t.points
+points_images t [] = refl
+points_images t (x ∷ judged) = points_images (with_image t x.found.verdict) judged ∙ points_image t x.found.verdict
+
+filter_few : {X : Type 0} (p : X → Bool) (xs : List X) → length (filter p xs) ≤ length xs
+filter_few p xs = omega (arith, length-filter p xs, count_by-le-length p xs)
+
+numbered_long : (n : ℕ) (images : List (List (Option (List ℕ)))) → length (numbered n images) ≡ length images
+numbered_long n [] = refl
+numbered_long n (x ∷ images) = omega (arith, numbered_long (n + 1) images)
+
+pub firsts_few : (images : List (List (Option (List ℕ)))) → length (firsts images) ≤ length images
+firsts_few [] = omega arith
+firsts_few (x ∷ images) = omega (arith, firsts_few images, filter_few (λ (y : List (Option (List ℕ))). not (nat_eq (key_of x) (key_of y))) (firsts images))
+
+-- of the images that are drawn each is judged once, at most
+pub judged_few : (asked : Option ℕ) (drawn : List (List (Option (List ℕ)))) (judged : List Judged) → map with_number judged ≡ asked_among asked (numbered 0 (firsts drawn))
+    → length judged ≤ length drawn
+judged_few asked drawn judged once =
+    let all = numbered 0 (firsts drawn) in
+    let a = ap (λ (l : List (ℕ × List (Option (List ℕ)))). length l) once in
+    let d = length-map judged with_number in
+    let e = filter_few (λ (x : ℕ × List (Option (List ℕ))). is_asked asked x.0) all in
+    omega (arith, a, d, e, numbered_long 0 (firsts drawn), firsts_few drawn)
+
+-- what refuses images behind others refuses them with those
+pub images_behind : (n m : ℕ) (names : List (List ℕ)) (t : Tally) (judged : List Judged) (refusal : Refusal) → length judged + m ≤ n → ImagesRefused m names (with_images t judged) refusal
+    → ImagesRefused n names t refusal
+images_behind n m names t judged refusal less is = elim is [
+  | inl judge ↦ inl judge
+  | inr many ↦ inr (many.0, λ room. many.1 (room_images m n t judged less room))
+]
+
+-- and behind a point's count
+pub images_at_point : (n : ℕ) (names : List (List ℕ)) (t : Tally) (refusal : Refusal) → ImagesRefused n names (with_point t) refusal → ImagesRefused n names t refusal
+images_at_point n names t refusal is = elim is [
+  | inl judge ↦ inl judge
+  | inr many ↦ inr (many.0, λ room. many.1 (room_point n t room))
+]
