@@ -10,16 +10,17 @@ use Rattle.rig_store.specs.declared.call.Call.{Call}
 use Rattle.rig_store.specs.declared.call.Trace.{Trace}
 use Rattle.sqcrash_store.specs.Judged.{Judged}
 use Rattle.sqcrash_store.specs.Points.{is_point}
-use Rattle.sqcrash_store.specs.Refused.{GoesAll, HasNoFileName, HasRoom, ImagesRefused, IsOfMemory, IsOfWriter, IsUnplayed, IsUnplayedIn, JudgeRefused, NamesRefused, RigRefused, StatesRefused, TraceRefused, call_count}
-use Rattle.sqcrash_store.specs.Rigs.{RigState, PlaysAll, no_rig}
+use Rattle.sqcrash_store.specs.Refused.{GoesAll, HasNoFileName, HasRoom, ImagesRefused, IsOfMemory, IsOfWriter, IsUnplayed, IsUnplayedIn, JudgeRefused, NamesRefused, RigRefused, StatesRefused, TraceRefused, call_count, point_count}
+use Rattle.sqcrash_store.specs.Rigs.{RigState, IsJudgment, PlaysAll, no_rig}
 use Rattle.sqcrash_store.specs.States.{names_told}
 use Rattle.sqcrash_store.specs.Surveys.{Judging, drawn_count}
 use Rattle.sqcrash_store.specs.Tallies.{no_tally}
 use Rattle.sqcrash_store.specs.declared.outcome.Refusal.{Refusal}
 use Rattle.sqcrash_store.specs.declared.outcome.Refusal.TheVariants as refusals
 use Rattle.sqcrash_store.specs.declared.plan.Plan.{Plan}
+use Rattle.sqcrash_store.specs.declared.tally.Tally.{Tally}
 use Rattle.sqcrash_store.specs.declared.verdict.Answer.{Answer}
-use Rattle.sqcrash_store.proofs.CountedRecords.{CountsAll, counts_all, fits_itself, point_is_call, some_call}
+use Rattle.sqcrash_store.proofs.CountedRecords.{CountsAll, counts_all, fits_itself, point_is_call, points_few, some_call}
 
 -- records at one of them
 pub split_at : (calls : List Call) (i : ℕ) (d : Call) → i < length calls → calls ≡ take i calls ++ get_or calls i d ∷ drop (i + 1) calls
@@ -135,3 +136,12 @@ module _ (Says : List (Option (List ℕ)) → Answer → Type 0) (j : Judging) (
       | inr (inr (inr (point, inl many))) ↦ many_of mid.tally.points many.1 (let e = counted.points in omega (arith, e, count_by-le-length (λ (x : Call). is_point j.plan.every x.action) before)) many.0
       | inr (inr (inr (point, inr images))) ↦ of_images point images
     ]
+
+-- a trace of which a point is counted has a call
+pub some_called : (Says : List (Option (List ℕ)) → Answer → Type 0) (plan : Plan) (b : List ℕ) (tally : Tally) (lines : List ℕ) (kept : List Judged) (is : IsJudgment Says plan b tally lines kept)
+    → 0 < tally.points → 0 < call_count is.trace.calls.items
+some_called Says plan b tally lines kept is some =
+    let j : Judging = record { plan = plan; trace = b; names = names_told b is.trace.calls.items; states = is.states } in
+    let counted = counts_all Says j is.trace.calls.items (no_rig plan) is.last is.told kept is.judged in
+    let points : tally.points ≡ 0 + point_count plan is.trace.calls.items = ap (λ (t : Tally). t.points) is.counted ∙ counted.points in
+    omega (arith, some, points, points_few plan is.trace.calls.items)

@@ -1,8 +1,9 @@
 //! The program over a runtime's files, a reader of answers and two writers.
-ghost use Rattle.std.specs.Prelude.{◌≡◌, ◌⊎◌, ◌≤◌, IfOk, map};
+ghost use Rattle.std.specs.Prelude.{◌≡◌, ◌⊎◌, ◌≤◌, map};
 ghost use Rattle.std.specs.IoError.{error_kind};
 ghost use Rattle.std.specs.declared.io.ErrorKind.TheVariants.{OutOfMemory};
 ghost use Rattle.sqcrash_store.specs.Ends.{Comes, Ends, IsStatusOf};
+ghost use Rattle.sqcrash_store.specs.Refused.{IsOfFiles};
 
 use crate::asking::Asking;
 use crate::commands::{LineError, Request, request_of};
@@ -55,7 +56,9 @@ fn status_of(tally: &Tally) -> u8
     if tally.is_clean() { DONE } else { WRONG }
 }
 
-fn failed(error: io::Error) -> Refusal {
+fn failed(error: io::Error) -> Refusal
+    ensures { IsOfFiles result }
+{
     if error.kind() == io::ErrorKind::OutOfMemory {
         Refusal::NoMemory
     } else {
@@ -70,7 +73,7 @@ fn carried_out<R: Files + AllocGlobal, I: BufRead, O: Write>(
     answers: &mut I,
     out: &mut O,
 ) -> Result<Tally, Refusal>
-    ensures { IfOk result (Comes request.now.plan (O.contents out.old) (O.contents out.new)) }
+    ensures { Comes request.now.plan (O.contents out.old) (O.contents out.new) result }
 {
     let bytes = fs::read(rt, request.trace).map_err(failed)?;
     let asks = OpenOptions::new()
