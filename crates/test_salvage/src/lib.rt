@@ -8,4 +8,6 @@ mod files;
 #[cfg(test)]
 mod leaves_tests;
 #[cfg(test)]
+mod printed_tests;
+#[cfg(test)]
 mod scripts_tests;
