@@ -1,5 +1,5 @@
-//! Tests of the modelled disk, the disk over files, the player of a trace and the engines by their public calls, one
-//! call at a time.
+//! Tests of the modelled disk, the disk over files, recoveries, the player of a trace and the engines by their public
+//! calls, one call at a time.
 #![tactic(auto)]
 
 #[cfg(test)]
@@ -8,6 +8,8 @@ mod checks;
 mod crashdisk_tests;
 #[cfg(test)]
 mod filedisk_tests;
+#[cfg(test)]
+mod recovery_tests;
 #[cfg(test)]
 mod rig_play_tests;
 #[cfg(test)]

@@ -156,6 +156,7 @@ fn a_player(rt: HostRuntime) {
     play(&rt, &mut player, &bytes, &trace, (0, 8));
     ends_in(&rt, &player, b"aBC", b"old");
     is_in(&rt, &player, (false, false, 1), (true, true, 1));
+    holds(&rt, !player.tears());
     play(&rt, &mut player, &bytes, &trace, (8, 9));
     same(&rt, player.db().files().len(), 1);
     holds(&rt, player.journal().files().is_empty());
