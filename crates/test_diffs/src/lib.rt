@@ -8,4 +8,6 @@ mod files;
 #[cfg(test)]
 mod keyed_tests;
 #[cfg(test)]
+mod printed_tests;
+#[cfg(test)]
 mod refusals_tests;
