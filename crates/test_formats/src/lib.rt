@@ -1,9 +1,11 @@
 //! Tests of the libraries of the formats by their public calls, one call at a time: rows worked by hand, and files that
-//! SQLite left.
+//! SQLite left; and those of the locks and of command lines.
 #![tactic(auto)]
 
 #[cfg(test)]
 mod checks;
+#[cfg(test)]
+mod locks_tests;
 #[cfg(test)]
 mod sqjournal_tests;
 #[cfg(test)]
@@ -12,3 +14,5 @@ mod sqpage_tests;
 mod sqval_tests;
 #[cfg(test)]
 mod sqwal_tests;
+#[cfg(test)]
+mod words_tests;

@@ -68,6 +68,14 @@ fn replay(alloc: Global, bytes: &[u8], len: usize) -> Result<Replay, JournalErro
     Ok(replay)
 }
 
+/// Whether a journal ends at a header or a record that is whole.
+fn is_over(alloc: Global, bytes: &[u8]) -> bool {
+    match replay(alloc, bytes, 4096) {
+        Ok(replay) => replay.is_over(),
+        Err(_) => false,
+    }
+}
+
 /// Whether a replay has these pages and places as its entries, and ends so.
 fn says(replay: &Replay, entries: &[(u32, u64)], at: u64, why: Why) -> bool {
     for (i, (page, at)) in entries.iter().enumerate() {
@@ -205,10 +213,12 @@ fn segments_and_stops(rt: HostRuntime) {
     replays(&rt, (&two, 7), &entries, 3080, Why::End);
     resize(&rt, &mut two, 3180, 0);
     replays(&rt, (&two, 7), &entries, 3080, Why::Short);
+    holds(&rt, !is_over(rt.alloc(), &two));
     resize(&rt, &mut two, 3600, 0);
     replays(&rt, (&two, 100), &entries, 3080, Why::PageZero);
     set(&mut two, 3083, 1);
     replays(&rt, (&two, 100), &entries, 3080, Why::Sum);
+    holds(&rt, is_over(rt.alloc(), &two));
     for at in 0..28 {
         set(&mut two, at, 0);
     }

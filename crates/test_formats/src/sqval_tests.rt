@@ -1,6 +1,6 @@
 //! Worked rows.
 use crate::checks::{done, holds, same};
-use sqval::{CommitFault, PageSize, Record, Value, encode, judge_pages, varint};
+use sqval::{CommitFault, PageSize, Record, Value, encode, gather, judge_pages, varint};
 use std::process::Abort;
 
 /// A number is to be spelled so, and read again.
@@ -154,4 +154,12 @@ fn faults_of_commits(rt: HostRuntime) {
         CommitFault::TooLarge.number(),
     );
     same(&rt, numbers, (2, 9));
+}
+
+// Two parts of two bytes with one between them, behind room for one part.
+#[test]
+fn parts_brought_together(rt: HostRuntime) {
+    let mut room = [0u8, 0, 1, 2, 9, 3, 4];
+    gather(&mut room, 2, 1, 2);
+    same(&rt, room, [1, 2, 3, 4, 9, 3, 4]);
 }

@@ -1,4 +1,4 @@
-use crate::checks::{add, done, page_size, same};
+use crate::checks::{add, done, holds, page_size, same};
 use sqval::Limits;
 use sqwal::{Entry, Front, Order, Scan, Stop, Sum, WalFormatError, WalHeader, Why, frame_head};
 use std::process::Abort;
@@ -124,6 +124,7 @@ fn stops_at_a_frame_that_is_not_valid(rt: HostRuntime) {
     }
     let scan = scan(&rt, &log(&rt, &[(1, 1), (0, 1), (1, 1)]), 1024);
     is_at(&rt, &scan, front(1, 1, 568), stop(2, Why::PageZero));
+    holds(&rt, scan.is_over());
 }
 
 #[test]
