@@ -13,23 +13,25 @@ fn head_of(header: &WalHeader) -> ([u8; 32], Sum) {
     (head, sum)
 }
 
-/// Appends a frame of this page and size, of bytes `b`, and gives the sum behind it.
+/// Appends a frame of this page and size, of this content, and gives the sum behind it.
 fn push_frame(
     log: &mut Vec<u8>,
-    alloc: Global,
     header: &WalHeader,
     before: Sum,
     (page, size): (u32, u32),
+    content: &[u8],
 ) -> Result<Sum, AllocError> {
-    let content = vec![in alloc; b'b'; header.page_size.get() as usize]?;
-    let (frame, after) = frame_head(header, before, page, size, &content);
+    if content.len() != header.page_size.get() as usize {
+        return Err(AllocError);
+    }
+    let (frame, after) = frame_head(header, before, page, size, content);
     log.extend_from_slice(&frame)?;
-    log.extend_from_slice(&content)?;
+    log.extend_from_slice(content)?;
     Ok(after)
 }
 
-/// A write-ahead log of pages of bytes `b`: for each frame the page that it names, and the size after its commit.
-pub(crate) fn log(alloc: Global, frames: &[(u32, u32)]) -> Result<Vec<u8>, Fail> {
+/// A write-ahead log of these frames: of each the page that it names, the size after its commit, and its content.
+pub(crate) fn log_of(alloc: Global, frames: &[((u32, u32), &[u8])]) -> Result<Vec<u8>, Fail> {
     let header = WalHeader {
         order: Order::Big,
         page_size: PageSize::new(512).ok_or("a page size")?,
@@ -39,10 +41,20 @@ pub(crate) fn log(alloc: Global, frames: &[(u32, u32)]) -> Result<Vec<u8>, Fail>
     };
     let (head, mut sum) = head_of(&header);
     let mut log = head.to_vec(alloc)?;
-    for frame in frames {
-        sum = push_frame(&mut log, alloc, &header, sum, *frame)?;
+    for (frame, content) in frames {
+        sum = push_frame(&mut log, &header, sum, *frame, content)?;
     }
     Ok(log)
+}
+
+/// A write-ahead log of pages of bytes `b`: for each frame the page that it names, and the size after its commit.
+pub(crate) fn log(alloc: Global, frames: &[(u32, u32)]) -> Result<Vec<u8>, Fail> {
+    let content = [b'b'; 512];
+    let mut filled = Vec::new(alloc);
+    for frame in frames {
+        filled.push((*frame, content.as_slice()))?;
+    }
+    log_of(alloc, &filled)
 }
 
 /// The header of a rollback journal in sectors of 512 bytes, padded to its sector.

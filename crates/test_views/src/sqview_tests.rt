@@ -2,13 +2,13 @@
 use crate::asserts::same;
 use crate::logs::{header, log, push_record};
 use crate::sqcheck_tests::file_of;
-use sqcheck::{Report, Role, Survey};
+use sqcheck::{Options, Report, Role, Survey};
 use sqpage::{CheckError, Fault, Kind, PageSource, SourceError};
 use sqval::Limits;
 use sqview::{
-    CopyError, FileBytes, JudgeError, Origin, ReadAhead, Verdict, View, ViewError, copy, judge_at,
-    judge_at_within, judge_view, judge_within, scan_log, scan_log_within, survey_view,
-    without_view,
+    CopyError, FileBytes, JudgeError, LogInUse, Origin, ReadAhead, Verdict, View, ViewError, copy,
+    hot_header, judge_at, judge_at_within, judge_view, judge_view_with, judge_within, log_in_use,
+    scan_log, scan_log_within, survey_view, survey_view_with, without_view,
 };
 use sqwal::{Scan, WalFormatError};
 use std::alloc::{AllocError, Global};
@@ -114,6 +114,7 @@ fn judges_a_view(rt: HostRuntime) -> Result<(), Fail> {
     let mut view = View::new(alloc, file.as_slice(), [].as_slice(), [].as_slice())?;
     let clean = Ok(Verdict::Clean(ONE_PAGE));
     same(&rt, judge_view(alloc, &mut view), clean);
+    same(&rt, judge_view_with(alloc, &mut view, MAPS), clean);
     let damage = CheckError {
         page: 1,
         fault: Fault::PageSize,
@@ -129,6 +130,8 @@ fn judges_a_view(rt: HostRuntime) -> Result<(), Fail> {
         without_view(ViewError::TwoLogs),
         Err(JudgeError::TwoLogs),
     );
+    let numbers = (ViewError::TooLarge.number(), JudgeError::TooLarge.number());
+    same(&rt, numbers, (2, 2));
     Ok(())
 }
 
@@ -213,6 +216,13 @@ fn origins(alloc: Global, db: &[u8], wal: &[u8], journal: &[u8]) -> Result<[Orig
     Ok([view.origin(1), view.origin(2), view.origin(3)])
 }
 
+/// Which log counts, and whether the journal is hot.
+fn in_use<'a>(wal: &'a [u8], mut journal: &'a [u8]) -> Option<(LogInUse, bool)> {
+    let is_hot = hot_header(&mut journal).ok()?.is_some();
+    let in_use = log_in_use(&wal, &mut journal).ok()?;
+    Some((in_use, is_hot))
+}
+
 // Two frames name page 2, and a record of a journal page 3.
 #[test]
 fn pages_come_from(rt: HostRuntime) -> Result<(), Fail> {
@@ -221,10 +231,12 @@ fn pages_come_from(rt: HostRuntime) -> Result<(), Fail> {
     let log = log(alloc, &[(2, 0), (2, 3)])?;
     let wanted = [Origin::File, Origin::Frame(2), Origin::File];
     same(&rt, origins(alloc, &file, &log, &[]), Ok(wanted));
+    assert!(rt; matches!(in_use(&log, &[]), Some((LogInUse::Wal, false))));
     let mut journal = header(alloc, 1, 3)?;
     push_record(&mut journal, 3, b'j')?;
     let wanted = [Origin::File, Origin::File, Origin::Record(516)];
     same(&rt, origins(alloc, &file, &[], &journal), Ok(wanted));
+    assert!(rt; matches!(in_use(&[], &journal), Some((LogInUse::Journal(_), true))));
     Ok(())
 }
 
@@ -253,10 +265,19 @@ fn reads_the_log_of_a_view(rt: HostRuntime) -> Result<(), Fail> {
     Ok(())
 }
 
-/// What a survey of the file finds, as a view of it.
+/// With pointer maps, of which a database without auto-vacuum has none.
+const MAPS: Options = Options { pointer_maps: true };
+
+/// What a survey of the file finds, as a view of it, with pointer maps and without.
 fn surveyed(alloc: Global, db: &[u8]) -> Result<Survey, Fail> {
     let mut view = View::new(alloc, db, [].as_slice(), [].as_slice())?;
-    Ok(survey_view(alloc, &mut view)?)
+    let survey = survey_view(alloc, &mut view)?;
+    let mapped = survey_view_with(alloc, &mut view, MAPS)?;
+    if mapped.roles.as_slice() == survey.roles.as_slice() {
+        Ok(survey)
+    } else {
+        Err("other roles".into())
+    }
 }
 
 #[test]
@@ -361,7 +382,13 @@ fn count_of_scan(
     scan: &Scan,
     frame: u32,
 ) -> Result<u32, ViewError> {
-    let view = View::of_scan(alloc, db, wal, scan, frame)?;
+    let view = View::of_scan_within(alloc, Limits::USUAL, db, wal, scan, frame)?;
+    Ok(view.count())
+}
+
+/// How many pages the view of a scan has.
+fn newest_of_scan(alloc: Global, db: &[u8], wal: &[u8], scan: &Scan) -> Result<u32, ViewError> {
+    let view = View::new_scanned(alloc, db, wal, [].as_slice(), scan)?;
     Ok(view.count())
 }
 
@@ -379,5 +406,6 @@ fn copies_views_of_a_scan(rt: HostRuntime) -> Result<(), Fail> {
     }
     let refused = Err(ViewError::NoSuchCommit);
     same(&rt, count_of_scan(alloc, db, wal, &scan, 2), refused);
+    same(&rt, newest_of_scan(alloc, db, wal, &scan), Ok(8));
     Ok(())
 }

@@ -1,7 +1,9 @@
 //! Maps of worked files.
 use crate::asserts::same;
 use crate::sqcheck_tests::file_of;
-use sqcheck::{Report, Role, Survey, survey_pages};
+use sqcheck::{
+    Options, Report, Role, Survey, Visitor, survey_pages, visit_pages, visit_pages_with,
+};
 use sqpage::{CheckError, Fault, Kind, SliceSource};
 use sqval::PageSize;
 use std::alloc::Global;
@@ -143,5 +145,40 @@ fn no_map(rt: HostRuntime) -> Result<(), Fail> {
         Err(error) => Err(error),
     };
     same(&rt, answer, Err(at(1, Fault::Magic)));
+    Ok(())
+}
+
+/// Counts the pages that it is told of.
+#[derive(Drop)]
+struct Counting(u32);
+
+impl Visitor for Counting {
+    ghost saw = { λ _ _ _ _. Unit {0} };
+
+    fn visit(&mut self, _page: u32, _role: Role) {
+        self.0 = self.0.saturating_add(1);
+    }
+}
+
+/// How many pages a visitor of a file is told of, and one that is told of pointer maps.
+fn visited(alloc: Global, file: &[u8]) -> Option<(u32, u32)> {
+    let Some(mut source) = SliceSource::new(file, PageSize::new(512)?) else {
+        return None;
+    };
+    let (mut one, mut other) = (Counting(0), Counting(0));
+    let maps = Options { pointer_maps: true };
+    let first = visit_pages(alloc, &mut source, &mut one).is_ok();
+    let second = visit_pages_with(alloc, &mut source, &mut other, maps).is_ok();
+    if first && second {
+        Some((one.0, other.0))
+    } else {
+        None
+    }
+}
+
+#[test]
+fn pages_that_are_visited(rt: HostRuntime) -> Result<(), Fail> {
+    let file = file_of(rt.alloc(), 8, &SOUND)?;
+    same(&rt, visited(rt.alloc(), &file), Some((8, 8)));
     Ok(())
 }
