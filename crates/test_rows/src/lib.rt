@@ -2,7 +2,11 @@
 #![tactic(auto)]
 
 #[cfg(test)]
+mod defaults_tests;
+#[cfg(test)]
 mod lines_tests;
+#[cfg(test)]
+mod printed_tests;
 #[cfg(test)]
 mod rows_tests;
 #[cfg(test)]

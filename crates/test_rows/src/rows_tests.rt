@@ -1,6 +1,6 @@
 //! Worked rows.
-use sqpage::SliceSource;
-use sqrows::{Cells, Rows, read_row};
+use sqpage::{Cell, PageSource, SliceSource};
+use sqrows::{Cells, Rows, payload_into, payload_within, read_row};
 use sqval::{PageSize, Value};
 use std::alloc::{AllocError, Global};
 use std::process::Abort;
@@ -24,10 +24,10 @@ fn file_of(alloc: Global, pages: usize, pieces: &[(usize, &[u8])]) -> Result<Vec
     Ok(file)
 }
 
-/// The page and the rowid of the cell that was come to last.
-fn place_of(cells: &Cells) -> Option<(u32, Option<i64>)> {
+/// The page, the index there and the rowid of the cell that was come to last.
+fn place_of(cells: &Cells) -> Option<(u32, usize, Option<i64>)> {
     let cell = cells.cell().ok()?;
-    Some((cell.page, cell.rowid))
+    Some((cell.page, cells.index(), cell.rowid))
 }
 
 /// A table of two leaves: the rows 1 and 2 in page 3, the row 5 in page 4.
@@ -53,11 +53,11 @@ fn cells_of_a_table(rt: HostRuntime) -> Result<(), Fail> {
         return Ok(());
     };
     assert!(rt; matches!(cells.advance(&mut source), Ok(true)));
-    assert!(rt; place_of(&cells) == Some((3, Some(1))));
+    assert!(rt; place_of(&cells) == Some((3, 0, Some(1))));
     assert!(rt; matches!(cells.advance(&mut source), Ok(true)));
-    assert!(rt; place_of(&cells) == Some((3, Some(2))));
+    assert!(rt; place_of(&cells) == Some((3, 1, Some(2))));
     assert!(rt; matches!(cells.advance(&mut source), Ok(true)));
-    assert!(rt; place_of(&cells) == Some((4, Some(5))));
+    assert!(rt; place_of(&cells) == Some((4, 0, Some(5))));
     assert!(rt; matches!(cells.advance(&mut source), Ok(false)));
     Ok(())
 }
@@ -151,5 +151,37 @@ fn row_with_a_chain(rt: HostRuntime) -> Result<(), Fail> {
     assert!(rt; matches!(rows.advance(&mut source), Ok(true)));
     assert!(rt; blob_of(&rows) == Some((9, 597, 7)));
     assert!(rt; matches!(rows.advance(&mut source), Ok(false)));
+    Ok(())
+}
+
+/// How long the payload of a cell is as it is read into room of its own, and as it is read where not all lies there.
+fn lengths(alloc: Global, source: &mut SliceSource<'_>, cell: &Cell<'_>) -> Option<(usize, usize)> {
+    let (size, usable) = (source.page_size().get(), cell.usable);
+    if usable < 480 || usable > size || cell.local.len() as u64 > cell.payload? {
+        return None;
+    }
+    let mut bytes = Vec::new(alloc);
+    payload_into(alloc, source, cell, 600, &mut bytes).ok()?;
+    let mut room = Vec::new(alloc);
+    let whole = payload_within(alloc, source, cell, 600, &mut room).ok()?;
+    Some((bytes.len(), whole.len()))
+}
+
+/// The same of the first cell of a file.
+fn first_lengths(alloc: Global, file: &[u8]) -> Option<(usize, usize)> {
+    let Some(mut source) = SliceSource::new(file, PageSize::new(512)?) else {
+        return None;
+    };
+    let mut cells = Cells::new(alloc, &mut source, 2).ok()?;
+    match cells.advance(&mut source) {
+        Ok(true) => lengths(alloc, &mut source, &cells.cell().ok()?),
+        _ => None,
+    }
+}
+
+#[test]
+fn payload_with_a_chain(rt: HostRuntime) -> Result<(), Fail> {
+    let file = file_of(rt.alloc(), 3, &OVERFLOW)?;
+    assert!(rt; first_lengths(rt.alloc(), &file) == Some((600, 600)));
     Ok(())
 }

@@ -21,7 +21,7 @@ static PIECES: [(usize, &[u8]); 4] = [
 ];
 
 /// A file of two pages of 512 bytes with these pieces.
-fn file_of(alloc: Global) -> Result<Vec<u8>, AllocError> {
+pub(crate) fn file_of(alloc: Global) -> Result<Vec<u8>, AllocError> {
     let mut file = vec![in alloc; 0; 1024]?;
     for (at, bytes) in PIECES {
         for (i, byte) in bytes.iter().enumerate() {
@@ -46,13 +46,13 @@ fn objects_of_a_schema(rt: HostRuntime) -> Result<(), Fail> {
         return Ok(());
     };
     assert!(rt; found.len() == 1);
-    assert!(rt; table_named(&found, b"T").is_some_and(|table| table.root == 2));
+    assert!(rt; table_named(&found, b"T").is_some_and(|table| table.root == 2 && table.is_table()));
     assert!(rt; table_named(&found, b"u").is_none());
     Ok(())
 }
 
 /// How rows are written in a notation, whose texts are in UTF-8.
-fn form_of(notation: Notation) -> Form {
+pub(crate) fn form_of(notation: Notation) -> Form {
     Form {
         notation,
         encoding: Encoding::Utf8,

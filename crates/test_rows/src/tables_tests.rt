@@ -69,6 +69,18 @@ fn shown(alloc: Global, columns: &Columns, rowid: i64) -> Option<(i64, i64)> {
     }
 }
 
+/// The second value that a row shows.
+fn second(columns: &Columns, rowid: i64) -> Option<i64> {
+    let row = Row {
+        rowid: Some(rowid),
+        values: Record::new(b"\x03\x00\x01\x07").ok()?,
+    };
+    match columns.value_at(&row, 1) {
+        Value::Int(number) => Some(number),
+        _ => None,
+    }
+}
+
 #[test]
 fn row_with_its_rowid(rt: HostRuntime) -> Result<(), Fail> {
     let text = b"CREATE TABLE t(a INTEGER PRIMARY KEY, b)";
@@ -77,6 +89,7 @@ fn row_with_its_rowid(rt: HostRuntime) -> Result<(), Fail> {
         return Ok(());
     };
     assert!(rt; shown(rt.alloc(), &columns, 5) == Some((5, 7)));
+    assert!(rt; second(&columns, 5) == Some(7));
     Ok(())
 }
 
