@@ -21,6 +21,7 @@ fn likeliest(rt: HostRuntime) -> Result<(), Fail> {
         prefixes.note(alloc, &player, record.kind)?;
     }
     each_has_number();
+    same(&rt, prefixes.versions().len(), 4);
     let mut families = Families::of(alloc, &player, &prefixes)?;
     same(&rt, families.count(), 10);
     let mut image = Image::none(alloc);

@@ -49,11 +49,12 @@ fn has_files(rt: &impl Abort, image: &Image, db: &[u8], journal: &[u8]) {
     assert!(rt; image.wal.is_empty());
 }
 
-/// Whether two images have the same files.
+/// Whether two images have the same files, and the same key.
 fn are_same(one: &Image, other: &Image) -> bool {
     one.db.as_slice() == other.db.as_slice()
         && one.journal.as_slice() == other.journal.as_slice()
         && one.wal.as_slice() == other.wal.as_slice()
+        && one.key() == other.key()
 }
 
 /// The numbers of the images of a player that has twelve of them.
@@ -75,6 +76,14 @@ fn numbers(rt: HostRuntime) -> Result<(), Fail> {
     Ok(())
 }
 
+/// What is there now under the names of the file and of the journal, one behind the other.
+fn present_of(alloc: Global, player: &Player) -> Result<Vec<u8>, DiskError> {
+    let mut bytes = Vec::new(alloc);
+    player.db().append_present(&mut bytes)?;
+    player.journal().append_present(&mut bytes)?;
+    Ok(bytes)
+}
+
 // What is there now: the file without its last byte, and no journal, though a crash may bring it back.
 #[test]
 fn present(rt: HostRuntime) -> Result<(), Fail> {
@@ -83,6 +92,11 @@ fn present(rt: HostRuntime) -> Result<(), Fail> {
     let mut image = Image::none(alloc);
     image.set_present(&player)?;
     has_files(&rt, &image, b"aBC", b"");
+    same(
+        &rt,
+        present_of(alloc, &player)?.as_slice(),
+        b"aBC".as_slice(),
+    );
     Ok(())
 }
 

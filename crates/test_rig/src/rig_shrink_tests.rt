@@ -4,8 +4,8 @@ use crate::asserts::same;
 use crate::traces::sample;
 use crashdisk::DiskError;
 use rig_images::{Counts, Image};
-use rig_missing::SectorSize;
-use rig_play::{Meta, Player, Trace};
+use rig_missing::{Change, Playing, SectorSize, change_of, file_in, missing_calls};
+use rig_play::{Meta, Player, Subject, Trace};
 use rig_shrink::{Finder, may_leave, shrink};
 use std::alloc::Global;
 use std::test::Fail;
@@ -77,5 +77,35 @@ fn shrunk(rt: HostRuntime) -> Result<(), Fail> {
         same(&rt, shrunk.journal.as_slice(), journal);
         assert!(rt; shrunk.wal.is_empty());
     }
+    Ok(())
+}
+
+/// The write of the trace, behind which the file has these bytes.
+fn write_of(alloc: Global, size: SectorSize, present: &[u8]) -> Result<Vec<Change>, Fail> {
+    let bytes = sample(alloc)?;
+    let trace = Trace::read(alloc, &bytes)?;
+    let record = trace.records.get(4).ok_or("no write")?;
+    let playing = Playing {
+        number: 5,
+        count: record.carried(),
+        was: 4,
+    };
+    let mut changes = Vec::new(alloc);
+    changes.push(change_of(alloc, size, record, playing, present)?.ok_or("no change")?)?;
+    Ok(changes)
+}
+
+// The oldest image hasn't what the write left, and one that has is told of none.
+#[test]
+fn missing(rt: HostRuntime) -> Result<(), Fail> {
+    let alloc = rt.alloc();
+    let player = player(alloc)?;
+    let size = SectorSize::new(512);
+    let changes = write_of(alloc, size, b"aBCd")?;
+    let mut image = oldest(alloc, &player)?;
+    same(&rt, file_in(Subject::Db, &image), b"abc".as_slice());
+    same(&rt, missing_calls(alloc, size, &changes, &image)?.len(), 1);
+    image.db = b"aBCd".to_vec(alloc)?;
+    same(&rt, missing_calls(alloc, size, &changes, &image)?.len(), 0);
     Ok(())
 }
