@@ -1,6 +1,8 @@
 //! Indexes as SQLite 3.40.1 writes them, and each fault of one.
 use crate::deep_tests::put;
-use sqindex::{EntryError, IndexError, IndexFault, IndexKey, KeyColumn, ReadError, judge_index};
+use sqindex::{
+    EntryError, IndexError, IndexFault, IndexKey, KeyColumn, ReadError, RowFault, judge_index,
+};
 use sqlite_value::keys::{Collation, Key, Order};
 use sqlite_value::value::{Bytes, Value};
 use sqpage::{CheckError, Fault, SliceSource};
@@ -440,5 +442,7 @@ fn memory_for_entries(rt: HostRuntime) -> Result<(), Fail> {
 fn faults_have_numbers_and_names(rt: HostRuntime) -> Result<(), Fail> {
     assert!(rt; IndexFault::RowTwice.number() == 65);
     assert_eq!(rt; IndexFault::RowTwice.name(), "RowTwice");
+    assert!(rt; RowFault::RowOrder.number() == 74);
+    assert!(rt; RowFault::RowOrder.name() == "RowOrder");
     Ok(())
 }

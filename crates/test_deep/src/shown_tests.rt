@@ -6,10 +6,11 @@ use cli_show_deep::{judged_as, write_found};
 use cli_words::Style;
 use sqcheck::Options as Maps;
 use sqdeep::InnerFault;
-use sqdeepjudge::{Damage, DeepVerdict, judge_deep};
+use sqdeepjudge::{Damage, DeepVerdict, deep_without, judge_deep};
+use sqpage::{CheckError, Fault};
 use sqschema::{ObjectError, SchemaFault};
 use sqval::Limits;
-use sqview::{JudgeError, Verdict, View};
+use sqview::{JudgeError, Verdict, View, ViewError};
 use std::alloc::Global;
 use std::test::Fail;
 
@@ -139,11 +140,32 @@ fn a_view(rt: HostRuntime) -> Result<(), Fail> {
             assert!(rt; unjudged.indexes.is_empty() && unjudged.tables.is_empty());
             let plain = DeepVerdict::of(Verdict::Clean(report));
             assert!(rt; matches!(plain, DeepVerdict::Clean(same) if same == report));
+            assert!(rt; !plain.is_damaged());
             assert!(rt; plain.aside(0).is_none());
             assert!(rt; plain.unjudged(0).is_none());
             assert!(rt; plain.unjudged_table(0).is_none());
         }
         _ => assert!(rt; false),
     }
+    Ok(())
+}
+
+/// The damage that is found of files that have no view.
+fn damage_without(error: ViewError) -> Option<Damage> {
+    match deep_without(error) {
+        Ok(DeepVerdict::Damaged(damage)) => Some(damage),
+        _ => None,
+    }
+}
+
+#[test]
+fn files_without_a_view(rt: HostRuntime) -> Result<(), Fail> {
+    let wanted = CheckError {
+        page: 1,
+        fault: Fault::PageSize,
+    };
+    let found = damage_without(ViewError::Header(Fault::PageSize));
+    assert!(rt; found == Some(Damage::Check(wanted)));
+    assert!(rt; damage_without(ViewError::TwoLogs).is_none());
     Ok(())
 }
