@@ -1,5 +1,5 @@
 -- Where the files of a database lie, and which of them are opened (own).
-use Rattle.std.specs.Prelude.{◌≡◌, ◌≢◌, ◌⊎◌, ◌++◌, ℕ, ◌<◌, ◌≤◌, List, [], length, Option, None, Some, IfSome, IsSome, IsSomeAnd, codes, string_bytes, unwrap_or}
+use Rattle.std.specs.Prelude.{◌≡◌, ◌≢◌, ◌⊎◌, ◌++◌, ℕ, ◌<◌, ◌≤◌, List, [], length, Option, None, Some, option_map, IfSome, IsSome, IsSomeAnd, codes, string_bytes, unwrap_or}
 use Rattle.std.specs.Fs.{metadata_len, file_type, IsFile}
 use Rattle.std.specs.declared.fs.attrs.Metadata.{Metadata}
 use Rattle.std.specs.Option.{option_map_or}
@@ -54,6 +54,10 @@ IsOpenedOf file place least (Some found) = (least ≤ metadata_len found → IsO
 -- of a database's files those that the system found are regular ones
 abbrev pub AreRegular : Beheld → Type 0
 AreRegular found = IsFile (file_type found.db) × IfSome found.wal (λ m. IsFile (file_type m)) × IfSome found.journal (λ m. IsFile (file_type m))
+
+-- the file that was opened; none where it isn't there
+abbrev pub file_of : {F : Type 0} → OpenedFile F → Option F
+file_of file = option_map (λ opened. opened.0) file.file
 
 -- the bytes of an opened file, none of one that isn't there
 abbrev pub opened_bytes : {F : Type 0} → (bytes : F → List ℕ) → OpenedFile F → List ℕ

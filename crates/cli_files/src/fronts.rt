@@ -1,6 +1,7 @@
 //! Whether the frames of a log that count still stand.
 ghost use Rattle.std.specs.Prelude.{◌≡◌, IfErr, IfOk};
 ghost use Rattle.cli_facts.specs.Fronts.{HasSalts};
+ghost use Rattle.cli_facts.specs.Readings.{AreSame};
 ghost use Rattle.cli_facts.specs.declared.outcome.Refusal.TheVariants.{FileChanged};
 ghost use Rattle.cli_files.specs.Refusals.{IsFromWatch};
 ghost use Rattle.cli_files.specs.Watches.{AreRead, FrontStands, header_of, place_of};
@@ -80,9 +81,18 @@ where
     }
 }
 
+/// What was looked at of files that are as they were before.
+#[derive(Clone, Copy, Debug, PartialEq, Eq)]
+pub struct Seen {
+    /// What each of them is now.
+    pub readings: Readings,
+    /// The head of the last frame that counts, if one does.
+    pub head: Option<FrameHead>,
+}
+
 /// FileChanged where files aren't as they were before, or the frames up to this front don't stand any more. Where only
-/// the logs are read, the database file needn't be readable; what couldn't be read before isn't as it was. The head of
-/// the last frame that counts, as it was looked at, if one does.
+/// the logs are read, the database file needn't be readable; what couldn't be read before isn't as it was. What was
+/// looked at of them.
 pub fn as_before<R: Files, E: Write>(
     rt: &R,
     paths: &Paths,
@@ -90,15 +100,20 @@ pub fn as_before<R: Files, E: Write>(
     only_logs: bool,
     front: Option<Front>,
     notes: &mut Notes<'_, E>,
-) -> Result<Option<FrameHead>, Refusal>
+) -> Result<Seen, Refusal>
 where
     R::File: SystemFile,
     ensures read { IfOk result (λ _. AreRead only_logs before.now) }
-    ensures stands { IfOk result (FrontStands (header_of before.now.wal) front) }
+    ensures same { IfOk result (λ seen. AreSame before.now seen.readings) }
+    ensures stands { IfOk result (λ seen. FrontStands (header_of before.now.wal) front seen.head) }
     ensures refused { IfErr result IsFromWatch }
 {
     let after = readings_of(rt, paths, only_logs, notes)?;
     unchanged(before, &after, Ok(()))?;
     let header = header_of(before.wal);
-    still_standing(rt, paths.wal.as_str(), header, front, notes)
+    let head = still_standing(rt, paths.wal.as_str(), header, front, notes)?;
+    Ok(Seen {
+        readings: after,
+        head,
+    })
 }

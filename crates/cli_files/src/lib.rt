@@ -15,7 +15,7 @@ mod place;
 mod progress;
 mod watch;
 
-pub use fronts::{FrameHead, as_before};
+pub use fronts::{FrameHead, Seen, as_before};
 pub use hints::{ToldRefusal, tell_dropped, tell_length, told};
 pub use in_use::{OpenElsewhere, is_index_live, tell_unread};
 pub use journals::names_super_journal;

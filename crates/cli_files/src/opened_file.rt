@@ -1,7 +1,7 @@
 //! A real file as the bytes of a database or a log.
-ghost use Rattle.std.specs.Prelude.{◌≡◌, ◌↔◌, ◌+◌, ◌<◌, ◌≤◌, length, IsOk, IsSome, OnOk};
+ghost use Rattle.std.specs.Prelude.{◌≡◌, ◌+◌, ◌<◌, ◌≤◌, length, IsOk, OnOk};
 ghost use Rattle.sqview.specs.Laid.{part_or_zeros};
-ghost use Rattle.cli_files.specs.Files.{IsMissing, IsOpenedAt, IsSteady, NeverFails, opened_bytes};
+ghost use Rattle.cli_files.specs.Files.{IsMissing, IsOpenedAt, IsSteady, NeverFails, file_of, opened_bytes};
 
 use crate::place::Place;
 use cli_facts::{SystemFile, read_up_to};
@@ -41,7 +41,7 @@ impl<'a, F> OpenedFile<'a, F> {
 
     /// The file as it was opened; none where it is missing.
     pub fn into_file(self) -> Option<F>
-        ensures { IsSome result ↔ IsSome self.entry.file }
+        ensures { result ≡ file_of self.entry }
     {
         let OpenedFile { file, length: _ } = self;
         match file {
