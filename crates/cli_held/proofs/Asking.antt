@@ -12,7 +12,8 @@ use Rattle.cli_held.specs.declared.line.Hidden.{Hidden}
 use Rattle.cli_held.specs.declared.line.Hidden.TheVariants as hidden
 use Rattle.cli_held.specs.declared.todo.Todo.{Todo}
 use Rattle.cli_held.specs.declared.todo.Todo.TheVariants.{Run, Tell, Refuse}
-use Rattle.cli_held.specs.Todo.{AreLeft, AreSome, AreUnder, IsHidden, IsBare, IsPrepared, SaysNothing, texts}
+use Rattle.cli_held.specs.Prepared.{IsPrepared, RunsFor}
+use Rattle.cli_held.specs.Todo.{AreLeft, AreSome, AreUnder, IsHidden, IsBare, SaysNothing, texts}
 use Rattle.cli_held.specs.declared.todo.Locks.{Locks}
 use Rattle.cli_held.specs.declared.todo.Locks.TheVariants as locks
 use Rattle.cli_held.specs.internal.Asking.{AreAs, IsUnder, IsUnheld, KeepsAsking}
@@ -61,28 +62,30 @@ module _ (words left : List (List ℕ)) (only : (word : List ℕ) → Contains l
   under_as locks.NotThere is = let told = subst (IsHidden words) is.1 stands in (told.0, told.1 ∙ ap Some is.2)
   under_as (locks.Held h) is = ((subst (IsHidden words) is.1 stands).0, is.2)
 
-  pub kept_prepared : (said ≡ None → SaysNothing words → left ≡ words) → (todo : Todo) → KeepsAsking said left todo → IsPrepared words todo
-  kept_prepared plain (Run done under wait) asks = (
+  pub kept_prepared : (said ≡ None → SaysNothing words → left ≡ words) → (wait : ℕ) → RunsFor words wait → (todo : Todo) → KeepsAsking said left wait todo → IsPrepared words todo
+  kept_prepared plain wait runs (Run done under n) asks = (
     λ forced. ⊎_elim (λ said. inl (only _ said)) (λ held. inr (inr held)) (asks.0.0 forced),
     asks.0.1,
     left_as plain (texts done.items) asks.1,
     under_as under asks.2,
+    subst (RunsFor words) (sym asks.3) runs,
   )
-  kept_prepared plain (Tell line) asks = absurd asks
-  kept_prepared plain (Refuse done why) asks =
+  kept_prepared plain wait runs (Tell line) asks = absurd asks
+  kept_prepared plain wait runs (Refuse done why) asks =
       let told = subst (IsHidden words) asks.1.1 stands in
       (told.0, left_as plain (texts done.items) asks.0, (asks.1.0.now, told.1, asks.1.2))
 
   -- words that are carried out without locks
-  pub unheld_prepared : Contains words (codes "--no-lock") → (said ≡ None → SaysNothing words → ⊥) → (todo : Todo) → IsUnheld left todo → IsPrepared words todo
-  unheld_prepared unlocked never (Run done under wait) is = (
+  pub unheld_prepared : Contains words (codes "--no-lock") → (said ≡ None → SaysNothing words → ⊥) → RunsFor words 0 → (todo : Todo) → IsUnheld left todo → IsPrepared words todo
+  unheld_prepared unlocked never runs (Run done under wait) is = (
     λ forced. inr (inl unlocked),
     λ held. absurd (cc (is.0, held)),
     record { only = some_of_words (texts done.items) is.1; plain = λ bare nothing. absurd (never (not_hidden words said bare stands) nothing) },
     subst (AreUnder words) (sym is.0) tt,
+    subst (RunsFor words) (sym is.2) runs,
   )
-  unheld_prepared unlocked never (Tell line) is = absurd is
-  unheld_prepared unlocked never (Refuse done why) is = absurd is
+  unheld_prepared unlocked never runs (Tell line) is = absurd is
+  unheld_prepared unlocked never runs (Refuse done why) is = absurd is
 
 -- locks that are held are told of
 pub told_want : (want : Option Want) (under : Held) → MatchOption want (under ≡ holds.Nothing) (λ w. IsTold w under) → (under ≡ holds.Nothing → ⊥) → (w : Want) × TellsSo w under

@@ -1,3 +1,4 @@
 mod Asking
 mod Words
 mod Saying
+mod WantedLocks

@@ -1,4 +1,4 @@
--- What is to be done with a command line (own).
+-- What words say of whoever starts the program, of locks, and of what is left of them (own).
 use Rattle.std.specs.Prelude.{◌≡◌, ◌≢◌, ◌⊎◌, ℕ, false, List, map, codes, slice_get, Option, Some, None}
 use Rattle.std.specs.Borrow.{Bor}
 use Rattle.std.specs.List.{Contains}
@@ -11,8 +11,6 @@ use Rattle.cli_held.specs.declared.line.Hidden.TheVariants as hidden
 use Rattle.cli_held.specs.declared.line.Line.{Line}
 use Rattle.cli_held.specs.declared.todo.Locks.{Locks}
 use Rattle.cli_held.specs.declared.todo.Locks.TheVariants as locks
-use Rattle.cli_held.specs.declared.todo.Todo.{Todo}
-use Rattle.cli_held.specs.declared.todo.Todo.TheVariants.{Run, Tell, Refuse}
 use Rattle.cli_held.specs.declared.todo.Why.{Why}
 use Rattle.cli_held.specs.declared.todo.Why.TheVariants as whys
 
@@ -68,10 +66,3 @@ IsReason word whys.InUse = (word ≢ codes "no-locks") × (word ≢ codes "file-
 -- that was said before the command
 abbrev pub IsSaidWhy : (words : List (List ℕ)) → Why → Type 0
 IsSaidWhy words why = (word : List ℕ) × (slice_get words 2 ≡ Some word) × IsReason word why
-
--- These are carried out, as words that ask nobody only where they may be; locks are held only where some are.
-abbrev pub IsPrepared : (words : List (List ℕ)) → Todo → Type 0
-IsPrepared words (Run done under wait) = (Contains (texts done.items) (codes "--force") → MayAskNobody words under) × (under ≢ locks.Held held.Nothing)
-    × AreLeft words (texts done.items) × AreUnder words under
-IsPrepared words (Tell line) = slice_get words 1 ≡ Some (codes "--locks")
-IsPrepared words (Refuse done why) = (slice_get words 1 ≡ Some (codes "--refused")) × AreLeft words (texts done.items) × IsSaidWhy words why

@@ -3,6 +3,7 @@ use Rattle.std.specs.Prelude.{◌≡◌, true, false, Some, None, List, ℕ}
 use Rattle.std.specs.Borrow.{Bor}
 use Rattle.sqlocks.specs.declared.plan.Want.{Want}
 use Rattle.sqlocks.specs.declared.plan.Want.TheVariants.{Read, Recover as ToRecover}
+use Rattle.cli_words.specs.Line.{Asks}
 use Rattle.cli_words.specs.declared.requests.Request.{Request}
 use Rattle.cli_words.specs.declared.requests.Request.TheVariants.{Show, Check, Rows, Cells, Diff, DeletedDiff, Recover, Report, Salvage, Version}
 
@@ -19,6 +20,10 @@ Wants (Salvage of to places options) want file = (want ≡ Read) × (file.now �
 Wants (Recover of (Some to) force options) want file = (want ≡ Read) × (file.now ≡ of.now)
 Wants (Recover of None force options) want file = (want ≡ ToRecover) × (force ≡ false) × (file.now ≡ of.now)
 Wants Version want file = ⊥
+
+-- what these words ask for wants them on this file
+abbrev pub IsWanted : (words : List (List ℕ)) → Want → (file : Bor (List ℕ)) → Type 0
+IsWanted words want file = (request : Request) × Asks words request × Wants request want file
 
 -- a forced recovery in place and the version want none
 abbrev pub WantsNone : Request → Type 0

@@ -1,7 +1,9 @@
 //! What is to be done with a command line.
-ghost use Rattle.std.specs.Prelude.{◌≡◌, ◌≢◌, IfOk, IsTrue, MatchOption, Some};
+ghost use Rattle.std.specs.Prelude.{◌≡◌, ◌≢◌, IfOk, IfSome, IsTrue, MatchOption, Some, false, string_bytes, unwrap_or};
 ghost use Rattle.cli_held.specs.Held.{IsTold};
-ghost use Rattle.cli_held.specs.Todo.{AreSome, IsPrepared, IsReason, texts};
+ghost use Rattle.cli_held.specs.Prepared.{IsPrepared, IsToldOf, default_wait, number_of, wanting_text};
+ghost use Rattle.cli_held.specs.Todo.{AreSome, IsReason, texts};
+ghost use Rattle.cli_held.specs.Wants.{IsWanted};
 ghost use Rattle.cli_held.specs.internal.Asking.{IsUnheld, KeepsAsking};
 
 use crate::fdinfo::{Held, held_by};
@@ -9,7 +11,7 @@ use crate::line::{Hidden, Line, line_of};
 use crate::wants::wanted;
 use cli_args::request;
 use sqlocks::Want;
-use std::alloc::Global;
+use std::alloc::{AllocError, Global};
 use std::rt::Files;
 use std::{fs, io};
 
@@ -54,16 +56,20 @@ pub enum Todo<'a> {
     Refuse(Vec<&'a str>, Why),
 }
 
-/// The path of the file that a path leads to.
-fn resolved<R: Files + AllocGlobal>(rt: &R, file: &str) -> io::Result<String> {
+/// The path of the file that a path leads to, and whether that is a link. One that is none is left as it is given.
+fn resolved<R: Files + AllocGlobal>(rt: &R, file: &str) -> io::Result<(String, bool)>
+    ensures { IfOk result (λ found. found.1 ≡ false → string_bytes found.0 ≡ file.now) }
+{
     if fs::symlink_metadata(rt, file)?.is_symlink() {
-        return Ok(fs::canonicalize(rt, file)?.into_string());
+        return Ok((fs::canonicalize(rt, file)?.into_string(), true));
     }
-    Ok(String::from_str(rt.alloc(), file)?)
+    Ok((String::from_str(rt.alloc(), file)?, false))
 }
 
 /// What words want locks for, and on which file; none where they aren't understood, or want none.
-fn wanted_by<'a>(alloc: Global, words: &'a [&'a str]) -> Option<(Want, &'a str)> {
+fn wanted_by<'a>(alloc: Global, words: &'a [&'a str]) -> Option<(Want, &'a str)>
+    ensures { IfSome result (λ found. IsWanted (texts words.entry.now) found.0 found.1) }
+{
     match request(alloc, words) {
         Ok(request) => wanted(&request),
         Err(_) => None,
@@ -71,7 +77,9 @@ fn wanted_by<'a>(alloc: Global, words: &'a [&'a str]) -> Option<(Want, &'a str)>
 }
 
 /// How long is waited for locks, in seconds.
-fn waits(want: Want, wait: Option<u32>) -> u32 {
+fn waits(want: Want, wait: Option<u32>) -> u32
+    ensures { result ≡ unwrap_or wait (default_wait want) }
+{
     match (wait, want) {
         (Some(seconds), _) => seconds,
         (None, Want::Read) => READER_WAITS,
@@ -79,25 +87,49 @@ fn waits(want: Want, wait: Option<u32>) -> u32 {
     }
 }
 
-/// Which locks are wanted on this file, in a line: 0 for a reader and 1 for a recovery, for how many seconds they are
-/// waited for, and the path of the file.
-fn told<R: Files + AllocGlobal>(rt: &R, want: Want, wait: u32, file: &str) -> io::Result<String> {
-    let path = resolved(rt, file)?;
-    let number = match want {
+/// The number that says what locks are wanted for: 0 for a reader and 1 for a recovery.
+fn number_of(want: Want) -> u32
+    ensures { result ≡ number_of want }
+{
+    match want {
         Want::Read => 0,
         Want::Recover => 1,
-    };
-    Ok(format!(in rt.alloc(); "{number} {wait} {path}\n")?)
+    }
 }
 
-/// The line that says which locks these words ask for; nothing where they ask for none, or the file isn't there.
-fn asked_for<R: Files + AllocGlobal>(rt: &R, line: &Line<'_>) -> io::Result<String> {
-    if !line.is_unlocked {
-        if let Some((want, file)) = wanted_by(rt.alloc(), line.words.as_slice()) {
-            return told(rt, want, waits(want, line.wait), file);
-        }
+/// Which locks are wanted on the file of this path, in a line: the number that says what for, for how many seconds they
+/// are waited for, and the path.
+fn told(alloc: Global, want: Want, wait: u32, path: &str) -> Result<String, AllocError>
+    ensures { IfOk result (λ line. string_bytes line ≡ wanting_text want wait path.now) }
+{
+    let number = number_of(want);
+    format!(in alloc; "{number} {wait} {path}\n")
+}
+
+/// The line that says which locks these words ask for; nothing where they ask for none.
+fn asked_for<R: Files + AllocGlobal>(rt: &R, line: &Line<'_>) -> io::Result<String>
+    ensures { IfOk result (λ text. IsToldOf line.now (string_bytes text)) }
+{
+    if line.is_unlocked {
+        return Ok(String::new(rt.alloc()));
     }
-    Ok(String::new(rt.alloc()))
+    match wanted_by(rt.alloc(), line.words.as_slice()) {
+        Some((want, file)) => {
+            let (path, _) = resolved(rt, file)?;
+            Ok(told(rt.alloc(), want, waits(want, line.wait), path.as_str())?)
+        }
+        None => Ok(String::new(rt.alloc())),
+    }
+}
+
+/// The same; nothing also where the file isn't there.
+fn told_line<R: Files + AllocGlobal>(rt: &R, line: &Line<'_>) -> String
+    ensures { IsToldOf line.now (string_bytes result) }
+{
+    match asked_for(rt, line) {
+        Ok(text) => text,
+        Err(_) => String::new(rt.alloc()),
+    }
 }
 
 /// The locks that words want which are held by open files of these numbers.
@@ -110,7 +142,7 @@ fn held_for<R: Files + AllocGlobal>(
 {
     match wanted_by(rt.alloc(), words) {
         Some((want, file)) => {
-            let path = resolved(rt, file)?;
+            let (path, _) = resolved(rt, file)?;
             Ok((Some(want), held_by(rt, numbers, want, path.as_str())?))
         }
         None => Ok((None, Held::Nothing)),
@@ -162,7 +194,7 @@ fn to_run<'a, R: Files + AllocGlobal>(
     numbers: &str,
     wait: u32,
 ) -> io::Result<Todo<'a>>
-    ensures { IfOk result (KeepsAsking (Some (Hidden.Held numbers.entry)) (texts words.entry.items)) }
+    ensures { IfOk result (KeepsAsking (Some (Hidden.Held numbers.entry)) (texts words.entry.items) wait) }
 {
     match held_for(rt, words.as_slice(), numbers) {
         Ok((want, held)) if held != Held::Nothing => Ok(Todo::Run {
@@ -193,7 +225,7 @@ fn reason_of(word: &str) -> Why
 
 /// What is to be done with words whose locks can't be had.
 fn without<'a>(alloc: Global, words: Vec<&'a str>, why: &str, wait: u32) -> Todo<'a>
-    ensures { KeepsAsking (Some (Hidden.Refused why.entry)) (texts words.entry.items) result }
+    ensures { KeepsAsking (Some (Hidden.Refused why.entry)) (texts words.entry.items) wait result }
 {
     match (want_of(alloc, words.as_slice()), reason_of(why)) {
         (None, _) => Todo::Run {
@@ -229,7 +261,7 @@ fn ready<'a, R: Files + AllocGlobal>(
     words: Vec<&'a str>,
     wait: u32,
 ) -> io::Result<Todo<'a>>
-    ensures { IfOk result (KeepsAsking hidden.entry (texts words.entry.items)) }
+    ensures { IfOk result (KeepsAsking hidden.entry (texts words.entry.items) wait) }
 {
     match hidden {
         Some(Hidden::Held(numbers)) => to_run(rt, words, numbers, wait),
@@ -249,7 +281,7 @@ pub fn prepared<'a, R: Files + AllocGlobal>(rt: &R, words: &'a [&'a str]) -> io:
 {
     let line = line_of(rt.alloc(), words)?;
     if line.hidden == Some(Hidden::Locks) {
-        return Ok(Todo::Tell(asked_for(rt, &line).unwrap_or(String::new(rt.alloc()))));
+        return Ok(Todo::Tell(told_line(rt, &line)));
     }
     let wait = waits(Want::Read, line.wait);
     let Line {

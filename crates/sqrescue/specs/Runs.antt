@@ -5,7 +5,8 @@ use Rattle.std.specs.List.{Contains}
 use Rattle.cli_facts.specs.Statuses.{status_code}
 use Rattle.cli_facts.specs.declared.status.Status.{Status}
 use Rattle.cli_facts.specs.declared.status.Status.TheVariants as statuses
-use Rattle.cli_held.specs.Todo.{IsPrepared, texts}
+use Rattle.cli_held.specs.Prepared.{IsPrepared}
+use Rattle.cli_held.specs.Todo.{texts}
 use Rattle.cli_held.specs.declared.todo.Todo.{Todo}
 use Rattle.cli_held.specs.declared.todo.Todo.TheVariants.{Run, Tell, Refuse}
 use Rattle.cli_files.specs.declared.opened_file.OpenedFile.{OpenedFile}

@@ -33,14 +33,14 @@ IsUnder hidden (locks.Held held) = (numbers : Bor (List ℕ)) × (hidden ≡ Som
 abbrev pub IsWhy : Option Hidden → Why → Type 0
 IsWhy hidden why = (word : Bor (List ℕ)) × (hidden ≡ Some (Refused word)) × IsReason word.now why
 
--- they are carried out so, or are refused
-abbrev pub KeepsAsking : Option Hidden → (words : List (List ℕ)) → Todo → Type 0
-KeepsAsking hidden words (Run done under wait) = AsksAs words (texts done.items) under × AreAs hidden words (texts done.items) × IsUnder hidden under
-KeepsAsking hidden words (Tell line) = ⊥
-KeepsAsking hidden words (Refuse done why) = AreAs hidden words (texts done.items) × IsWhy hidden why
+-- they are carried out so, and read again for so many seconds, or are refused
+abbrev pub KeepsAsking : Option Hidden → (words : List (List ℕ)) → (wait : ℕ) → Todo → Type 0
+KeepsAsking hidden words wait (Run done under said) = AsksAs words (texts done.items) under × AreAs hidden words (texts done.items) × IsUnder hidden under × (said ≡ wait)
+KeepsAsking hidden words wait (Tell line) = ⊥
+KeepsAsking hidden words wait (Refuse done why) = AreAs hidden words (texts done.items) × IsWhy hidden why
 
--- some of these words are carried out while nothing is held
+-- some of these words are carried out at once, while nothing is held
 abbrev pub IsUnheld : (words : List (List ℕ)) → Todo → Type 0
-IsUnheld words (Run done under wait) = (under ≡ locks.None) × AreSome words (texts done.items)
+IsUnheld words (Run done under wait) = (under ≡ locks.None) × AreSome words (texts done.items) × (wait ≡ 0)
 IsUnheld words (Tell line) = ⊥
 IsUnheld words (Refuse done why) = ⊥

@@ -8,4 +8,4 @@ use Rattle.cli_held.proofs.todo.to_run.Goals as goal
 pub returns-in_ok-asking_nobody-in-Ok : goal.returns-in_ok-asking_nobody-in-Ok
 returns-in_ok-asking_nobody-in-Ok g c =
     let asks : AsksAs (texts c.args.words.items) (texts c.in_ok-asking_nobody-in-Ok.field-0.items) (Held c.in-Ok.held) = search rules in
-    (asks, search rules, (c.args.numbers, refl, told_want c.in-Ok.want c.in-Ok.held c.in-Ok.ensures (λ e. asks.1 (ap Held e))))
+    (asks, search rules, (c.args.numbers, refl, told_want c.in-Ok.want c.in-Ok.held c.in-Ok.ensures (λ e. asks.1 (ap Held e))), refl)
