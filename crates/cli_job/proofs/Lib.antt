@@ -1,2 +1,3 @@
 pub mod FaultsFound
 pub mod OpenedLooks
+pub mod FilesAsBefore

@@ -11,7 +11,7 @@ use Rattle.cli_facts.specs.declared.outcome.Refusal.TheVariants.{InUse, NoSuchCo
 use Rattle.cli_words.specs.declared.requests.Options.{Options}
 use Rattle.cli_files.specs.Files.{AreBeside, path_of}
 use Rattle.cli_files.specs.Refusals.{IsFromWatch}
-use Rattle.cli_files.specs.Watches.{longest_left, tick}
+use Rattle.cli_files.specs.Watches.{AreRead, longest_left, tick}
 use Rattle.cli_facts.specs.declared.readings.Readings.{Readings}
 use Rattle.cli_held.specs.declared.fdinfo.Held.TheVariants as held
 use Rattle.cli_held.specs.declared.todo.Locks.{Locks}
@@ -86,3 +86,10 @@ IsBefore Still before = before ≡ None
 IsBefore Dated before = (now : Readings) × (before ≡ Some (readings.Dated now))
 IsBefore Undated before = (now : Readings) × (before ≡ Some (readings.Undated now))
 IsBefore (Indexed head) before = before ≡ Some (readings.Indexed head)
+
+-- Files that were looked at before could be read then: both logs and, unless only they are read, the database file.
+abbrev pub WereRead : (only_logs : Bool) → Option Before → Type 0
+WereRead only_logs (Some (readings.Dated before)) = AreRead only_logs before
+WereRead only_logs (Some (readings.Undated before)) = AreRead false before
+WereRead only_logs (Some (readings.Indexed head)) = Unit {0}
+WereRead only_logs None = Unit {0}

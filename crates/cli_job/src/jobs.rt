@@ -1,16 +1,17 @@
 //! A command as it is carried out: what it finds of files that don't change meanwhile.
 ghost use Rattle.std.specs.Prelude.{◌≡◌, ◌⊎◌, Err, IfErr, IfOk, IsErrAnd, OnOk};
 ghost use Rattle.std.specs.Duration.{as_nanos};
+ghost use Rattle.cli_facts.specs.Readings.{AreSame};
 ghost use Rattle.cli_files.specs.Files.{opened_bytes};
 ghost use Rattle.cli_files.specs.Refusals.{IsFromSystem, IsFromWatch};
 ghost use Rattle.cli_job.specs.Opened.{AreFresh, AreOpenedFor, GivesBytes, IsUnopenedFor, Looks, Settles, all_opened};
-ghost use Rattle.cli_job.specs.Sources.{IsBefore};
+ghost use Rattle.cli_job.specs.Sources.{IsBefore, WereRead};
 ghost use Rattle.cli_job.specs.internal.Jobs.{young_of};
 
 use crate::commands::{Command, Finding, Wants, find};
 use crate::metered::{Metered, db_metered};
 use crate::opening::{logs_alone, open_all};
-use crate::sources::{Before, Source, before_of, still_as_before, wait_for};
+use crate::sources::{Before, Looked, Source, before_of, still_as_before, wait_for};
 use cli_facts::{Front, NoteWriter, Notes, Readings, Refusal, SystemFile, unchanged};
 use cli_files::{Count, OpenedFile, readings_of};
 use cli_show::{Contents, read_ahead};
@@ -53,12 +54,15 @@ fn young(before: Option<Before>, wait: Duration) -> Option<Readings>
 }
 
 /// An answer, if the files are still as they were, and else what they are refused by.
-fn if_still<T: Drop>(still: Result<(), Refusal>, answer: Result<T, Refusal>) -> Result<T, Refusal>
+fn if_still<T: Drop>(
+    still: Result<Option<Looked>, Refusal>,
+    answer: Result<T, Refusal>,
+) -> Result<T, Refusal>
     ensures ok { OnOk still (result ≡ answer) }
     ensures err { IfErr still (λ refusal. result ≡ Err refusal) }
 {
     match still {
-        Ok(()) => answer,
+        Ok(_) => answer,
         Err(refusal) => Err(refusal),
     }
 }
@@ -119,7 +123,8 @@ where
         before_of(self.rt, &source.paths, source.watch, only_logs, notes)
     }
 
-    /// An answer, if the files are as they were before, and the frames up to this front still stand.
+    /// An answer, if the files are as they were before, and the frames up to this front still stand. What couldn't be
+    /// read before isn't as it was.
     pub fn standing<T: Drop, E: Write>(
         &self,
         before: &Option<Before>,
@@ -127,7 +132,8 @@ where
         answer: Result<T, Refusal>,
         notes: &mut Notes<'_, E>,
     ) -> Result<T, Refusal>
-        ensures { (result ≡ answer) ⊎ IsErrAnd result IsFromWatch }
+        ensures stands { (result ≡ answer) ⊎ IsErrAnd result IsFromWatch }
+        ensures read { IfOk result (λ _. WereRead of.0 before.now) }
     {
         let still = still_as_before(self.rt, &self.source.paths, before, of, notes);
         if_still(still, answer)
@@ -245,6 +251,7 @@ where
         before: &Readings,
         notes: &mut Notes<'_, E>,
     ) -> Result<Readings, Refusal>
+        ensures same { IfOk result (AreSame before.now) }
         ensures refused { IfErr result IsFromWatch }
     {
         let now = readings_of(self.rt, &self.source.paths, false, notes)?;

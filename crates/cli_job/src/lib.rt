@@ -17,5 +17,5 @@ pub use commands::{Command, Finding, Wants};
 pub use jobs::{Counted, Job};
 pub use metered::{Metered, all_ahead, all_metered, both_ahead};
 pub use opening::{open_all, open_seen};
-pub use outputs::{judge_name, kept, named};
+pub use outputs::{Folders, judge_name, kept, named};
 pub use sources::{Before, Source, Watch, alone, source_of, wait_for};

@@ -1,34 +1,46 @@
 //! A file that a command makes beside what it prints.
 ghost use Rattle.std.specs.Prelude.{◌≡◌, Err, IfErr, IfOk};
 ghost use Rattle.cli_facts.specs.declared.outcome.Refusal.TheVariants.{FileFailed};
-ghost use Rattle.cli_files.specs.Files.{HasNameBeside};
+ghost use Rattle.cli_files.specs.Files.{HasNameBeside, IsOneFolder};
 
 use crate::answers::Answer;
 use crate::jobs::Job;
-use cli_facts::{Notes, Quoted, Refusal, SystemFile};
+use cli_facts::{Identity, Notes, Quoted, Refusal, SystemFile};
 use cli_files::{NewFile, discard_file, end_file, folder_identity, is_log_of, remove};
 use cli_show::ShowError;
 use std::io::Write;
 use std::rt::Files;
 
-/// Refused where a path names a log of the database, which is told.
+/// By what the system knows the folder of a file that is to be made, and that of the database; none where it doesn't
+/// say.
+#[derive(Clone, Copy, Debug, PartialEq, Eq)]
+pub struct Folders {
+    pub of_file: Option<Identity>,
+    pub of_database: Option<Identity>,
+}
+
+/// Refused by `FileFailed` where a path names a log of the database, which is told. The folders that were looked at.
 pub fn judge_name<R: Files, M, E: Write>(
     job: &Job<'_, R, M>,
     to: &str,
     notes: &Notes<'_, E>,
-) -> Result<(), Refusal>
+) -> Result<Folders, Refusal>
+    ensures apart { IfOk result (λ folders. ¬ (HasNameBeside job.now.source.now.paths to.now
+        × IsOneFolder folders.of_file folders.of_database)) }
     ensures named { IfErr result (λ _. HasNameBeside job.now.source.now.paths to.now) }
     ensures refused { IfErr result (λ refusal. refusal ≡ FileFailed) }
 {
     let paths = &job.source.paths;
-    let folder = folder_identity(job.rt, to);
-    let of_database = folder_identity(job.rt, paths.db.as_str());
-    if is_log_of(paths, to, folder, of_database) {
+    let folders = Folders {
+        of_file: folder_identity(job.rt, to),
+        of_database: folder_identity(job.rt, paths.db.as_str()),
+    };
+    if is_log_of(paths, to, folders.of_file, folders.of_database) {
         let to = Quoted(to);
         notes.explain(&format_args!("{to}: a log's name"));
         return Err(Refusal::FileFailed);
     }
-    Ok(())
+    Ok(folders)
 }
 
 /// Gives a file that was written its name, or discards it.

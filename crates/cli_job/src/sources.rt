@@ -4,11 +4,12 @@ ghost use Rattle.cli_files.specs.Refusals.{IsFromSystem, IsFromWatch};
 ghost use Rattle.cli_job.specs.Sources.{AtFile, AtFront, IsAloneOf, IsBefore, IsFrontUnder, IsReadAt, IsSourceOf};
 ghost use Rattle.std.specs.Duration.{as_nanos};
 ghost use Rattle.cli_job.specs.Sources.{IsUnsourced, IsWaitFor, IsWatchUnder};
-ghost use Rattle.cli_job.specs.internal.Watches.{AreUndated, IsUndated, StandsYet};
+ghost use Rattle.cli_files.specs.Watches.{AreRead};
+ghost use Rattle.cli_job.specs.internal.Watches.{AreSameUndated, AreUndated, IsAsBefore, IsUndated, StandsYet};
 
 use cli_facts::{Front, Notes, Reading, Readings, Refusal, SystemFile, read_or_zeros, unchanged};
 use cli_files::{
-    Paths, as_before, is_index_live, look_at, paths_of, readings_of, time_to_wait, told,
+    Paths, Seen, as_before, is_index_live, look_at, paths_of, readings_of, time_to_wait, told,
 };
 use cli_held::{Held, Locks, frames_named};
 use cli_words::Options;
@@ -109,15 +110,10 @@ where
 }
 
 /// Whether what was read up to the front of an index that said this still stands, now that it says this.
-fn stands_yet(before: &IndexHead, now: &Option<IndexHead>) -> bool
+fn stands_yet(before: &IndexHead, now: &IndexHead) -> bool
     ensures { IsTrue result ↔ StandsYet before.now now.now }
 {
-    match now {
-        Some(now) => {
-            now.salt1 == before.salt1 && now.salt2 == before.salt2 && now.attempted <= before.frames
-        }
-        None => false,
-    }
+    now.salt1 == before.salt1 && now.salt2 == before.salt2 && now.attempted <= before.frames
 }
 
 /// Whether a database file's header names the write-ahead log (fileformat2, 1.3.3).
@@ -322,33 +318,45 @@ fn all_undated(readings: Readings) -> Readings
     }
 }
 
-/// Refused where the files aren't as they were before, whenever they were changed.
+/// What was looked at of files that are as they were before.
+#[derive(Clone, Copy)]
+pub(crate) enum Looked {
+    /// What each of them is, and the head of the frame at the front.
+    Dated(Seen),
+    /// What each of them is, whenever it was changed.
+    Undated(Readings),
+    /// What the index of the log says.
+    Indexed(IndexHead),
+}
+
+/// Refused where the files aren't as they were before, whenever they were changed. What they are now.
 fn as_they_were<R: Files, E: Write>(
     rt: &R,
     paths: &Paths,
     before: &Readings,
     notes: &mut Notes<'_, E>,
-) -> Result<(), Refusal>
+) -> Result<Readings, Refusal>
 where
     R::File: SystemFile,
+    ensures read { IfOk result (λ _. AreRead false before.now) }
+    ensures same { IfOk result (AreSameUndated before.now) }
     ensures refused { IfErr result IsFromWatch }
 {
     let after = readings_of(rt, paths, false, notes)?;
     unchanged(&all_undated(*before), &all_undated(after), Ok(()))?;
-    Ok(())
+    Ok(after)
 }
 
-/// Refused where what was read up to the front of an index that said this doesn't stand any more.
-fn as_indexed<R: Files>(rt: &R, paths: &Paths, before: &IndexHead) -> Result<(), Refusal>
+/// Refused where what was read up to the front of an index that said this doesn't stand any more. What it says now.
+fn as_indexed<R: Files>(rt: &R, paths: &Paths, before: &IndexHead) -> Result<IndexHead, Refusal>
 where
     R::File: SystemFile,
+    ensures stands { IfOk result (StandsYet before.now) }
     ensures refused { IfErr result IsFromWatch }
 {
-    let now = head_in(rt, paths.shm.as_str());
-    if stands_yet(before, &now) {
-        Ok(())
-    } else {
-        Err(Refusal::FileChanged)
+    match head_in(rt, paths.shm.as_str()) {
+        Some(now) if stands_yet(before, &now) => Ok(now),
+        _ => Err(Refusal::FileChanged),
     }
 }
 
@@ -364,26 +372,36 @@ pub fn wait_for<C: Clock>(clock: &C, before: &Option<Before>) -> Duration
 }
 
 /// Refused where the files aren't as they were before, or the frames up to this front don't stand any more. Where only
-/// the logs are read, the database file needn't be readable.
+/// the logs are read, the database file needn't be readable. What was looked at of them, which is nothing where they
+/// stay so.
 pub(crate) fn still_as_before<R: Files, E: Write>(
     rt: &R,
     paths: &Paths,
     before: &Option<Before>,
     of: (bool, Option<Front>),
     notes: &mut Notes<'_, E>,
-) -> Result<(), Refusal>
+) -> Result<Option<Looked>, Refusal>
 where
     R::File: SystemFile,
+    ensures looked { IfOk result (IsAsBefore of.0 of.1 before.now) }
     ensures refused { IfErr result IsFromWatch }
 {
     let (only_logs, front) = of;
     match before {
         Some(Before::Dated(readings)) => {
-            as_before(rt, paths, readings, only_logs, front, notes)?;
-            Ok(())
+            match as_before(rt, paths, readings, only_logs, front, notes) {
+                Ok(seen) => Ok(Some(Looked::Dated(seen))),
+                Err(refusal) => Err(refusal),
+            }
         }
-        Some(Before::Undated(readings)) => as_they_were(rt, paths, readings, notes),
-        Some(Before::Indexed(head)) => as_indexed(rt, paths, head),
-        None => Ok(()),
+        Some(Before::Undated(readings)) => match as_they_were(rt, paths, readings, notes) {
+            Ok(now) => Ok(Some(Looked::Undated(now))),
+            Err(refusal) => Err(refusal),
+        },
+        Some(Before::Indexed(head)) => match as_indexed(rt, paths, head) {
+            Ok(now) => Ok(Some(Looked::Indexed(now))),
+            Err(refusal) => Err(refusal),
+        },
+        None => Ok(None),
     }
 }

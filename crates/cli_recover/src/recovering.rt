@@ -1,7 +1,7 @@
 //! The recovery of a database file from the log beside it.
-ghost use Rattle.std.specs.Prelude.{◌≡◌, ◌⊎◌, IfErr, IfOk, MatchResult, None, Ok, true};
+ghost use Rattle.std.specs.Prelude.{◌≡◌, ◌⊎◌, IfErr, IfOk, MatchResult, None, Ok, Some, true};
 ghost use Rattle.sqview.specs.Logs.{CountsAnswer};
-ghost use Rattle.cli_files.specs.Files.{opened_bytes};
+ghost use Rattle.cli_files.specs.Files.{file_of, opened_bytes};
 ghost use Rattle.cli_files.specs.Refusals.{IsFromSystem};
 ghost use Rattle.cli_show.specs.Contents.{AreGiven, KeepsBytes};
 ghost use Rattle.cli_show.specs.Limits.{limits_named};
@@ -276,6 +276,7 @@ fn planned_of<F: SystemFile + Drop, M: Count>(
     scan: Option<Scan>,
 ) -> Result<Planned<F>, Refusal>
     ensures plan { IfOk result (λ planned. planned.plan ≡ plan) }
+    ensures db { IfOk result (λ planned. file_of files.entry.db.file ≡ Some planned.db) }
     ensures refused { IfErr result IsFromSystem }
 {
     let Contents { db, wal, .. } = files;

@@ -13,4 +13,4 @@ returns-in-Err-clause-refused g c =
     let gives = GivesBytes g.R.File.SystemFile.bytes g.R.File.SystemFile.keeps_word g.R.File.SystemFile.never_fails in
     let source = c.args.job.now.source.now in
     subst (λ (r : Refusal). IsUnmade bytes gives source r) (sym c.told.ensures)
-    (fell bytes gives source c.found_in-found.result (Err c.in-Err.refusal) c.found_in-found.ensures.refused c.in-Err.ensures)
+    (fell bytes gives source c.found_in-found.result (Err c.in-Err.refusal) c.found_in-found.ensures.refused c.in-Err.ensures.stands)

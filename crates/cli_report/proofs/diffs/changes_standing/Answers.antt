@@ -12,7 +12,7 @@ returns g c =
     let gives = GivesBytes g.R.File.SystemFile.bytes g.R.File.SystemFile.keeps_word g.R.File.SystemFile.never_fails in
     let source = c.args.job.now.source.now in
     diffs_stand bytes gives source (up_to c.args.difference source.options.at) c.changes_now-printed.result c.standing.result
-    (subst (λ (d : Difference). Diffs bytes gives source d c.changes_now-printed.result) c.up_to-meant.ensures c.changes_now-printed.ensures) c.standing.ensures
+    (subst (λ (d : Difference). Diffs bytes gives source d c.changes_now-printed.result) c.up_to-meant.ensures c.changes_now-printed.ensures) c.standing.ensures.stands
 
 pub returns-in_err-before : goal.returns-in_err-before
 returns-in_err-before g c = inr (search rules)
