@@ -1,7 +1,7 @@
 """Databases that sqlite3 makes, and bytes that are changed in them where they are likely to matter."""
 import os
 
-from common import sqlite
+from lib import sqlite
 
 # Fields of the header that `check` looks at.
 HEADER = [0, 16, 17, 20, 21, 22, 23, *range(24, 40), 55, 67, *range(92, 96)]

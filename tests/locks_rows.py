@@ -1,6 +1,7 @@
 """What SQLite sees while the launcher's locks are held, and what the launcher does where it doesn't get them."""
 import os, random, re, shutil, signal, socket, sqlite3, subprocess, sys, time
 
+from lib import TOP, path_of, skip
 from world_runs import IS_ROOT, Stopped
 from locks_runs import *
 
@@ -270,15 +271,12 @@ def no_program_beside_it():
 
 
 def linked(source):
-    """The program of this C source with held.c and what was proved, linked as by locks/build, but dynamically."""
-    page = subprocess.run(["rt", "doc"], capture_output=True, text=True, check=True).stdout.strip()
-    kit, name = os.path.dirname(page), os.path.splitext(os.path.basename(source))[0]
-    subprocess.run([os.path.join(kit, "toolchain/bin/llvm-ar"), "x", os.path.join(kit, "c/liblibc_c.a"), "heap.pic.o"],
-                   check=True)
-    proved = os.path.join(common.top, "crates/sqlocks_c/out/libsqlocks_c.a")
-    sources = [os.path.join(common.top, it) for it in (source, "locks/held.c")]
+    """The program of this C source with held.c and what was proved, which the C library has too; linked dynamically,
+    as locks/build doesn't."""
+    name = os.path.splitext(os.path.basename(source))[0]
+    sources, archive = [TOP / source, TOP / "locks/held.c"], os.path.join(path_of("library"), "libsqrescue.a")
     flags = ["-O2", "-Wall", "-Wextra", "-Werror", "-pthread"]
-    subprocess.run(["gcc", *flags, *sources, proved, "heap.pic.o", "-o", name], check=True)
+    subprocess.run(["gcc", *flags, *sources, archive, "-o", name], check=True)
     return os.path.abspath(name)
 
 
@@ -301,7 +299,7 @@ def as_a_process():
             answer = launched("check a.db --wait 0", by=beside, before=before)
             yield is_("valgrind: in use", answer == (3, "", IN_USE), answer)
     else:
-        print("skipped: valgrind, which isn't here")
+        skip("the launcher under valgrind", "valgrind isn't here")
     with locked("a.db", 1, PENDING, 512):
         child = subprocess.Popen([launcher, "check", "a.db", "--wait", "60"], stdout=subprocess.PIPE,
                                  preexec_fn=lambda: signal.signal(signal.SIGINT, signal.SIG_DFL))

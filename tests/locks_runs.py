@@ -2,8 +2,8 @@
 and other processes with locks and databases."""
 import contextlib, fcntl, json, os, shutil, sqlite3, struct, subprocess, sys, tempfile, time
 
-import common
 import world_processes as processes
+from lib import path_of
 from world_runs import Answer, SECONDS, program, test, wrong
 
 PENDING, SHARED, SHARED_LENGTH, WRITE, READ0, READ4, CONNECTIONS = 1 << 30, (1 << 30) + 2, 510, 120, 123, 127, 128
@@ -16,7 +16,7 @@ holder = tempfile.TemporaryDirectory()
 os.chmod(holder.name, 0o755)
 
 
-def installed(name, beside, made=os.environ.get("LAUNCHER", os.path.join(common.top, "bin", "sqrescue-locked"))):
+def installed(name, beside, made=path_of("sqrescue-locked")):
     """The launcher in a folder of its own, with this beside it, or nothing."""
     top = os.path.join(holder.name, name)
     os.makedirs(os.path.join(top, "bin"))

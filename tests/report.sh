@@ -2,25 +2,11 @@
 # on its console, and pictures at FOLDER. Run as: bash tests/report.sh FOLDER; needs chromium and sqlite3. Not a part of
 # the gate.
 set -u
-top=$(cd "$(dirname "$0")/.." && pwd)
-sqrescue=$top/bin/sqrescue
 pictures=${1:?names no folder for the pictures}
-folder=$(mktemp -d)
-trap 'rm -rf "$folder"' EXIT
-passed=0
-failed=0
+. "$(dirname "$0")/lib.sh"
 . "$top/tests/makers.sh"
-
-check() { # NAME COMMAND..: the command succeeds
-  local name=$1
-  shift
-  if "$@"; then
-    passed=$((passed + 1))
-  else
-    failed=$((failed + 1))
-    echo "failed: $name"
-  fi
-}
+located sqrescue sqrescue
+need chromium sqlite3
 
 shot() { # PAGE PICTURE [OPTION]: a picture of a page; says no error of its scripts
   local said
@@ -38,5 +24,4 @@ for name in ledger bad; do
   check "$name: light" shot "$folder/$name.html" "$pictures/$name.png"
   check "$name: dark" shot "$folder/$name.html" "$pictures/$name-dark.png" --force-dark-mode
 done
-echo "$passed passed, $failed failed"
-[ "$failed" = 0 ]
+ends

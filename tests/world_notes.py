@@ -1,7 +1,7 @@
 """Notes, the options that decide, and what can't be written."""
 import contextlib, os, pty, re, shutil, sqlite3, subprocess, tempfile
 import world_processes as processes
-from common import preloaded, top
+from lib import TOP, preloaded
 from samples import JOURNAL_MAGIC, PAGE, first_page, head_of, journal_of, leaf, log_of, put, words
 from world_files import fifo, folder, link
 from world_runs import (
@@ -377,7 +377,7 @@ def helps():
     for command, told in ("salvage", "; - prints it"), ("report", "; - prints it"), ("recover", "; - is a name"):
         out = run(f"{command} --help").out
         yield f"help of {command}: --to -", None if re.search(f"--to <OUT>.*{told}", out) else f"{out!r}"
-    page = read(os.path.join(top, "docs", "sqrescue.1")).decode()
+    page = read(TOP / "docs/sqrescue.1").decode()
     for word in "Fl -force", "in use", "file changed", "Fl -super-journal", "Fl -version", "Fl -verbose":
         yield f"manual page: {word}", None if word in page else "it isn't named"
 

@@ -1,6 +1,7 @@
 """What the parts of tests/world share: runs of the program, what is wrong with them, and the files that they run on."""
-import common, os, re, shutil, signal, stat, subprocess, tempfile, time, typing
+import os, re, shutil, signal, stat, subprocess, tempfile, time, typing
 import world_processes as processes
+from lib import path_of, preloaded
 from samples import JOURNAL_MAGIC, first_page, journal_of, log_of, words
 
 SECONDS = 20  # that a run may take
@@ -17,9 +18,9 @@ TESTS = []
 # The program stands in a folder that every user may look into.
 holder = tempfile.TemporaryDirectory()
 os.chmod(holder.name, 0o755)
-program = shutil.copy(os.environ.get("SQRESCUE", common.sqrescue), os.path.join(holder.name, "sqrescue"))
+program = shutil.copy(path_of("sqrescue"), os.path.join(holder.name, "sqrescue"))
 os.chmod(program, 0o755)
-library = common.preloaded(holder.name, "world")
+library = preloaded(holder.name, "world")
 
 
 def test(rows):
