@@ -145,6 +145,14 @@ def lacks(what, why):
         skip(what, why)
 
 
+def corpus(what):
+    """The folder of other people's databases that CORPUS names; None, and this part is skipped, if it names none."""
+    named = os.environ.get("CORPUS")
+    if not named:
+        skip(what, "CORPUS names no folder of databases")
+    return Path(named) if named else None
+
+
 def leave(why):
     """Ends the test, which can't run."""
     lacks("all of tests/" + os.path.basename(sys.argv[0]), why)
