@@ -20,6 +20,7 @@ abbrev pub columns_listed : (rowid : Option (List ℕ)) → List (List ℕ) → 
 columns_listed (Some rowid) names = codes "(" ++ (rowid ++ (columns_text names ++ codes ")"))
 columns_listed None names = []
 
--- What stands before the values of an INSERT into this table.
+-- What is written before the values of an INSERT into this table. OR ABORT overrides each ON CONFLICT clause of the table's text
+-- (SQLite's lang_conflict), so a row that breaks a constraint is an error and never dropped.
 abbrev pub insert_text : (table : List ℕ) → (rowid : Option (List ℕ)) → List (List ℕ) → List ℕ
-insert_text table rowid names = codes "INSERT INTO " ++ (between_marks 34 table ++ (columns_listed rowid names ++ codes " VALUES("))
+insert_text table rowid names = codes "INSERT OR ABORT INTO " ++ (between_marks 34 table ++ (columns_listed rowid names ++ codes " VALUES("))

@@ -10,7 +10,7 @@ use Rattle.hex.specs.Hex.{encode_lower}
 use Rattle.sqval.specs.Datum.{Datum, null, integer, real, text, blob}
 use Rattle.cli_row_text.specs.declared.form.Form.{Form}
 use Rattle.sqdeep.specs.declared.text.Encoding.{Encoding}
-use Rattle.sqtext.specs.Texts.{IsTextOf, has_zero}
+use Rattle.sqtext.specs.Texts.{IsTextOf, has_nul_or_cr}
 use Rattle.cli_row_text.specs.declared.form.Notation.{Notation}
 use Rattle.cli_row_text.specs.declared.form.Notation.TheVariants.{Json, Csv, Sql}
 
@@ -81,11 +81,12 @@ blob_text Json bytes = tagged_hex (codes "blob") bytes
 blob_text Csv bytes = hex_literal bytes
 blob_text Sql bytes = hex_literal bytes
 
--- A text in UTF-8 can stand as it is: in SQL where it has no zero byte, at which the text of a statement ends.
+-- A text in UTF-8 is written as it is. In SQL it must have no NUL, which ends a statement's text, and no CR, which sqlite3's
+-- shell drops before an LF.
 abbrev pub Stands : Notation → (utf8 : List ℕ) → Type 0
 Stands Json utf8 = Unit {0}
 Stands Csv utf8 = Unit {0}
-Stands Sql utf8 = has_zero utf8 ≡ false
+Stands Sql utf8 = has_nul_or_cr utf8 ≡ false
 
 -- A text of a database stands as its characters in UTF-8 where it is one in the database's encoding that can.
 abbrev pub IsPlain : Form → (bytes utf8 : List ℕ) → Type 0

@@ -53,7 +53,7 @@ pub fn write_insert<W: Write>(
     ensures { OnOk result (Appends (W.contents out.old) (W.contents out.new)
         (insert_text table.now (rowid_name rowid.entry) (map (λ n. n.items) names.now))) }
 {
-    out.write_all(b"INSERT INTO ")?;
+    out.write_all(b"INSERT OR ABORT INTO ")?;
     write_between(out, b'"', table)?;
     write_columns(out, rowid, names)?;
     out.write_all(b" VALUES(")

@@ -11,7 +11,7 @@ ghost use Rattle.cli_row_text.specs.Lines.{hex_literal};
 ghost use Rattle.cli_row_text.specs.Lines.{is_safe};
 ghost use Rattle.cli_row_text.specs.Lines.{integer_text, json_integer, tagged_integer, null_text, float_of, IsReal};
 ghost use Rattle.std.specs.Char.{encode_utf8};
-ghost use Rattle.sqtext.specs.Texts.{IsTextOf, has_zero};
+ghost use Rattle.sqtext.specs.Texts.{IsTextOf, has_nul_or_cr};
 ghost use Rattle.sqtext.specs.internal.Utf16.{IsUtf16Of};
 ghost use Rattle.cli_row_text.specs.Lines.{blob_text, plain_text, other_text, wide_text, IsText};
 ghost use Rattle.cli_row_text.specs.Lines.{IsPlain, Stands};
@@ -23,7 +23,7 @@ use cli_text::write_hex;
 use memchr::memchr;
 use ryu::Buffer;
 use sqdeep::Encoding;
-use sqtext::{has_nul, split_char};
+use sqtext::{has_nul_or_cr, split_char};
 use sqval::Value;
 use std::io::{self, Write};
 
@@ -348,14 +348,14 @@ fn write_real<W: Write>(out: &mut W, notation: Notation, bytes: [u8; 8]) -> io::
     out.write_all(buffer.format_finite(number).as_bytes())
 }
 
-/// Whether a text stands as its characters, which has the character NUL or not.
-fn can_stand(notation: Notation, nul: bool) -> bool
-    ensures yes { IsTrue result → (text : List ℕ) → nul ≡ has_zero text → Stands notation text }
-    ensures not { result ≡ false → (text : List ℕ) → nul ≡ has_zero text → ¬ Stands notation text }
+/// Whether a text is written as its characters. `found` is whether NUL or CR is among them.
+fn can_stand(notation: Notation, found: bool) -> bool
+    ensures yes { IsTrue result → (text : List ℕ) → found ≡ has_nul_or_cr text → Stands notation text }
+    ensures not { result ≡ false → (text : List ℕ) → found ≡ has_nul_or_cr text → ¬ Stands notation text }
 {
     match notation {
         Notation::Json | Notation::Csv => true,
-        Notation::Sql => !nul,
+        Notation::Sql => !found,
     }
 }
 
@@ -364,8 +364,8 @@ fn is_plain(form: Form, bytes: &[u8]) -> bool
     ensures yes { IsTrue result → (text : List ℕ) × IsPlain form bytes.now text }
     ensures not { result ≡ false → (text : List ℕ) → ¬ IsPlain form bytes.now text }
 {
-    match has_nul(form.encoding, bytes) {
-        Some(nul) => can_stand(form.notation, nul),
+    match has_nul_or_cr(form.encoding, bytes) {
+        Some(found) => can_stand(form.notation, found),
         None => false,
     }
 }

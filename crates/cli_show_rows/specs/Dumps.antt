@@ -77,7 +77,7 @@ abbrev pub IsVirtualText : Notation → Object → List ℕ → Type 0
 IsVirtualText Json o t = t ≡ []
 IsVirtualText Csv o t = t ≡ []
 IsVirtualText Sql o t =
-    (line : List ℕ) × IsLine script_form (codes "INSERT INTO sqlite_schema(type,name,tbl_name,rootpage,sql) VALUES(") [] None (virtual_row o) line
+    (line : List ℕ) × IsLine script_form (codes "INSERT OR ABORT INTO sqlite_schema(type,name,tbl_name,rootpage,sql) VALUES(") [] None (virtual_row o) line
     × (t ≡ codes "PRAGMA writable_schema=ON;\n" ++ (line ++ codes "PRAGMA writable_schema=OFF;\n"))
 
 abbrev pub IsVirtualPrinted : Notation → Object → (before after : Option (List ℕ)) → Type 0
@@ -118,9 +118,10 @@ encoding_text Utf8 = []
 encoding_text Utf16Le = codes "PRAGMA encoding='UTF-16le';\n"
 encoding_text Utf16Be = codes "PRAGMA encoding='UTF-16be';\n"
 
--- A dump in SQL is one transaction, in the database's encoding.
+-- A script in SQL is one transaction, in the database's encoding. Loading it checks no foreign key and runs no CHECK: SQLite runs
+-- each function that a CHECK names, also one that writes files (SQLite's pragma, "ignore_check_constraints").
 abbrev pub start_text : Encoding → List ℕ
-start_text encoding = encoding_text encoding ++ codes "PRAGMA foreign_keys=OFF;\nBEGIN TRANSACTION;\n"
+start_text encoding = encoding_text encoding ++ codes "PRAGMA foreign_keys=OFF;\nPRAGMA ignore_check_constraints=ON;\nBEGIN TRANSACTION;\n"
 
 abbrev pub begin_text : Notation → Encoding → List ℕ
 begin_text Json encoding = []

@@ -133,7 +133,7 @@ fn write_made<W: Write>(out: &mut W, notation: Notation, table: &Object) -> io::
 /// The INSERT of a virtual table's row into the schema.
 fn write_virtual_line<W: Write>(out: &mut W, object: &Object) -> io::Result<()>
     ensures { OnOk result ((t : List ℕ) × IsLine script_form
-        (codes "INSERT INTO sqlite_schema(type,name,tbl_name,rootpage,sql) VALUES(") [] None (virtual_row object.now) t
+        (codes "INSERT OR ABORT INTO sqlite_schema(type,name,tbl_name,rootpage,sql) VALUES(") [] None (virtual_row object.now) t
         × Appends (W.contents out.old) (W.contents out.new) t) }
 {
     let name = Value::Text(&object.name);
@@ -148,7 +148,7 @@ fn write_virtual_line<W: Write>(out: &mut W, object: &Object) -> io::Result<()>
         notation: Notation::Sql,
         encoding: Encoding::Utf8,
     };
-    let insert = b"INSERT INTO sqlite_schema(type,name,tbl_name,rootpage,sql) VALUES(";
+    let insert = b"INSERT OR ABORT INTO sqlite_schema(type,name,tbl_name,rootpage,sql) VALUES(";
     write_line(out, form, insert, &[], None, &values)
 }
 
@@ -192,7 +192,7 @@ pub fn write_start<W: Write>(out: &mut W, encoding: Encoding) -> io::Result<()>
     ensures { OnOk result (Appends (W.contents out.old) (W.contents out.new) (start_text encoding)) }
 {
     write_encoding(out, encoding)?;
-    out.write_all(b"PRAGMA foreign_keys=OFF;\nBEGIN TRANSACTION;\n")
+    out.write_all(b"PRAGMA foreign_keys=OFF;\nPRAGMA ignore_check_constraints=ON;\nBEGIN TRANSACTION;\n")
 }
 
 /// What a dump begins with.

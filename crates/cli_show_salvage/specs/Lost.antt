@@ -31,7 +31,7 @@ root_text None = codes "NULL"
 root_text (Some root) = decimal root
 
 abbrev pub head_text : (name : List ℕ) → List ℕ
-head_text name = codes "INSERT INTO " ++ (between_marks 34 name ++ codes "(rootpgno,pgno,nfield,id")
+head_text name = codes "INSERT OR ABORT INTO " ++ (between_marks 34 name ++ codes "(rootpgno,pgno,nfield,id")
 
 -- the root of the row's tree, its page, and how many values it has
 abbrev pub where_text : (root : Option ℕ) → (p n : ℕ) → List ℕ

@@ -69,7 +69,7 @@ fn write_names<W: Write>(out: &mut W, count: usize) -> io::Result<()>
 fn write_head<W: Write>(out: &mut W, name: &[u8]) -> io::Result<()>
     ensures { OnOk result (Appends (W.contents out.old) (W.contents out.new) (head_text name.now)) }
 {
-    out.write_all(b"INSERT INTO ")?;
+    out.write_all(b"INSERT OR ABORT INTO ")?;
     write_between(out, b'"', name)?;
     out.write_all(b"(rootpgno,pgno,nfield,id")
 }

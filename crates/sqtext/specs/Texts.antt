@@ -1,5 +1,5 @@
 -- Texts in the encodings of a database, and in UTF-8 (fileformat2, 1.3.13; the Unicode Standard, 3.9).
-use Rattle.std.specs.Prelude.{◌≡◌, ◌≢◌, ◌⊎◌, ℕ, ◌/◌, ◌%◌, ◌==◌, Bool, true, false, List, [], ◌∷◌, ◌++◌}
+use Rattle.std.specs.Prelude.{◌≡◌, ◌≢◌, ◌⊎◌, ℕ, ◌/◌, ◌%◌, ◌==◌, ◌||◌, Bool, true, false, List, [], ◌∷◌, ◌++◌}
 use Rattle.std.specs.List.{flat_map, list_any}
 use Rattle.std.specs.Char.{IsScalar}
 use Rattle.std.specs.Char.Escape.{encode_utf16}
@@ -42,6 +42,6 @@ IsStoredAs encoding text bytes = IsTextOf encoding bytes text ⊎ ((¬ IsUtf8 te
 abbrev pub BeginsWithNoChar : (big : Bool) → List ℕ → Type 0
 BeginsWithNoChar big bytes = (c : ℕ) (rest : List ℕ) → IsScalar c → bytes ≢ utf16_bytes big c ++ rest
 
--- some byte of a text in UTF-8 is zero, and so it has the character NUL
-abbrev pub has_zero : List ℕ → Bool
-has_zero = list_any (λ b. b == 0)
+-- some byte of a text in UTF-8 is zero or 13, and so it has the character NUL or CR
+abbrev pub has_nul_or_cr : List ℕ → Bool
+has_nul_or_cr = list_any (λ b. b == 0 || b == 13)

@@ -6,5 +6,5 @@ mod text;
 mod utf16;
 
 pub use stored::encoded;
-pub use text::{decoded, encoding_named, has_nul};
+pub use text::{decoded, encoding_named, has_nul_or_cr};
 pub use utf16::split_char;

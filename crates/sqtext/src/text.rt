@@ -2,7 +2,7 @@
 ghost use Rattle.std.specs.Prelude.{◌≡◌, ◌++◌, ◌||◌, ℕ, List, IfOk, MatchOption, false, true};
 ghost use Rattle.std.specs.Char.{encode_utf8, IsScalar};
 ghost use Rattle.sqdeep.specs.Texts.{encoding_named};
-ghost use Rattle.sqtext.specs.Texts.{IsNoText, IsReadAs, IsTextOf, has_zero};
+ghost use Rattle.sqtext.specs.Texts.{IsNoText, IsReadAs, IsTextOf, has_nul_or_cr};
 ghost use Rattle.sqtext.specs.internal.Utf16.{IsNoUtf16, IsUtf16Of, IsUtf16ReadAs};
 
 use crate::utf16::split_char;
@@ -21,52 +21,52 @@ pub fn encoding_named(number: u32) -> Encoding
     }
 }
 
-/// Whether bytes have a zero.
-fn has_zero(bytes: &[u8]) -> bool
-    ensures { result ≡ has_zero bytes.now }
+/// Whether bytes have a zero or a 13.
+fn bytes_have_nul_or_cr(bytes: &[u8]) -> bool
+    ensures { result ≡ has_nul_or_cr bytes.now }
 {
-    bytes.contains(&0)
+    bytes.iter().any(|b| *b == 0 || *b == b'\r')
 }
 
-/// Whether it or the character has one.
-fn has_more(zero: bool, c: char) -> bool
-    ensures { result ≡ (zero || has_zero (encode_utf8 c)) }
+/// Whether NUL or CR was found, or is the character.
+fn found_or_is(found: bool, c: char) -> bool
+    ensures { result ≡ (found || has_nul_or_cr (encode_utf8 c)) }
 {
     let mut buffer = [0u8; 4];
     let text = c.encode_utf8(&mut buffer);
-    zero || has_zero(text.as_bytes())
+    found || bytes_have_nul_or_cr(text.as_bytes())
 }
 
-/// Whether a text of UTF-16 has the character NUL.
-fn utf16_has_nul(big: bool, bytes: &[u8]) -> Option<bool>
+/// Whether a text of UTF-16 has the character NUL or CR.
+fn utf16_has_nul_or_cr(big: bool, bytes: &[u8]) -> Option<bool>
     ensures { MatchOption result (IsNoUtf16 big bytes.now)
-        (λ zero. (text : List ℕ) × IsUtf16Of big bytes.now text × (zero ≡ has_zero text)) }
+        (λ found. (text : List ℕ) × IsUtf16Of big bytes.now text × (found ≡ has_nul_or_cr text)) }
 {
     let mut rest = bytes;
-    let mut zero = false;
+    let mut found = false;
     'chars: while !rest.is_empty() {
         let (c, others) = match split_char(big, rest) {
-            Some(found) => found,
+            Some(split) => split,
             None => return None,
         };
-        zero = has_more(zero, c);
+        found = found_or_is(found, c);
         rest = others;
     }
-    Some(zero)
+    Some(found)
 }
 
-/// Whether a text has the character NUL. None where the bytes are no text in this encoding.
-pub fn has_nul(encoding: Encoding, bytes: &[u8]) -> Option<bool>
+/// Whether a text has the character NUL or CR. None if the bytes are no text in this encoding.
+pub fn has_nul_or_cr(encoding: Encoding, bytes: &[u8]) -> Option<bool>
     ensures { MatchOption result (IsNoText encoding bytes.now)
-        (λ zero. (text : List ℕ) × IsTextOf encoding bytes.now text × (zero ≡ has_zero text)) }
+        (λ found. (text : List ℕ) × IsTextOf encoding bytes.now text × (found ≡ has_nul_or_cr text)) }
 {
     match encoding {
         Encoding::Utf8 => match str::from_utf8(bytes) {
-            Ok(_) => Some(has_zero(bytes)),
+            Ok(_) => Some(bytes_have_nul_or_cr(bytes)),
             Err(_) => None,
         },
-        Encoding::Utf16Le => utf16_has_nul(false, bytes),
-        Encoding::Utf16Be => utf16_has_nul(true, bytes),
+        Encoding::Utf16Le => utf16_has_nul_or_cr(false, bytes),
+        Encoding::Utf16Be => utf16_has_nul_or_cr(true, bytes),
     }
 }
 

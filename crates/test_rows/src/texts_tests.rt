@@ -1,6 +1,6 @@
 //! Worked texts: the expected bytes were written by hand from the Unicode Standard, 3.9.
 use sqdeep::Encoding;
-use sqtext::{decoded, encoded, encoding_named, has_nul, split_char};
+use sqtext::{decoded, encoded, encoding_named, has_nul_or_cr, split_char};
 use std::test::Fail;
 
 /// U+10437, the standard's example of a pair.
@@ -38,8 +38,9 @@ fn characters(rt: HostRuntime) -> Result<(), Fail> {
         split_char(false, b"a\x00b").is_some_and(|(c, rest)| c == 'a' && rest == b"b".as_slice())
     );
     assert!(rt; split_char(false, b"a").is_none());
-    assert!(rt; has_nul(Encoding::Utf16Le, b"a\x00") == Some(false));
-    assert!(rt; has_nul(Encoding::Utf16Le, b"a\x00\x00\x00") == Some(true));
-    assert!(rt; has_nul(Encoding::Utf16Le, b"a").is_none());
+    assert!(rt; has_nul_or_cr(Encoding::Utf16Le, b"a\x00") == Some(false));
+    assert!(rt; has_nul_or_cr(Encoding::Utf16Le, b"a\x00\x00\x00") == Some(true));
+    assert!(rt; has_nul_or_cr(Encoding::Utf16Le, b"\r\x00") == Some(true));
+    assert!(rt; has_nul_or_cr(Encoding::Utf16Le, b"a").is_none());
     Ok(())
 }

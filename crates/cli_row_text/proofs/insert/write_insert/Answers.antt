@@ -18,5 +18,5 @@ returns g c =
     let columns = columns_listed (rowid_name c.args.rowid) names in
     let end = codes " VALUES(" in
     on_ok c.write_all-2.result (Appends listed new end) (Appends old new (insert_text c.args.table.now (rowid_name c.args.rowid) names))
-    (λ last. Appends-trans old begun new (codes "INSERT INTO ") (table ++ (columns ++ end)) c.in_ok-write_all.ensures.bytes
+    (λ last. Appends-trans old begun new (codes "INSERT OR ABORT INTO ") (table ++ (columns ++ end)) c.in_ok-write_all.ensures.bytes
     (Appends-trans begun named new table (columns ++ end) c.in_ok-write_between.ensures (Appends-trans named listed new columns end c.in_ok-write_columns.ensures last))) c.write_all-2.ensures.bytes

@@ -10,7 +10,7 @@ pub returns : goal.returns
 returns g c =
     let old = g.W.Write.contents c.args.out.now in
     let new = g.W.Write.contents c.write_line.new.out in
-    let insert = codes "INSERT INTO sqlite_schema(type,name,tbl_name,rootpage,sql) VALUES(" in
+    let insert = codes "INSERT OR ABORT INTO sqlite_schema(type,name,tbl_name,rootpage,sql) VALUES(" in
     let name = c.args.object.now.name.items in
     let named = subst (λ (n : List ℕ). OnOk c.write_line.result ((t : List ℕ) × IsLine script_form insert [] None
     (text (codes "table") ∷ text n ∷ text n ∷ integer (pos 0) ∷ text c.deref-2.result.now ∷ []) t × Appends old new t))

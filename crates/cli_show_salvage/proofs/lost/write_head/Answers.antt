@@ -11,5 +11,5 @@ returns g c =
     let named = g.W.Write.contents c.write_between.new.out in
     let new = g.W.Write.contents c.write_all-2.new.self in
     let name = between_marks 34 c.args.name.now in
-    on_ok_weaker c.write_all-2.result (λ last. Appends-trans old begun new (codes "INSERT INTO ") (name ++ codes "(rootpgno,pgno,nfield,id") c.in_ok-write_all.ensures.bytes
+    on_ok_weaker c.write_all-2.result (λ last. Appends-trans old begun new (codes "INSERT OR ABORT INTO ") (name ++ codes "(rootpgno,pgno,nfield,id") c.in_ok-write_all.ensures.bytes
     (Appends-trans begun named new name (codes "(rootpgno,pgno,nfield,id") c.in_ok-write_between.ensures last)) c.write_all-2.ensures.bytes

@@ -1,13 +1,13 @@
 use Rattle.std.proofs.Common.{◌≡◌, ℕ, List, length}
-use Rattle.sqtext.specs.Texts.{has_zero}
+use Rattle.sqtext.specs.Texts.{has_nul_or_cr}
 use Rattle.sqtext.proofs.TextsRead.{IsReadTo}
-use Rattle.sqtext.proofs.text.utf16_has_nul.Given as goal
+use Rattle.sqtext.proofs.text.utf16_has_nul_or_cr.Given as goal
 
 abbrev pub invariant-chars : goal.invariant-chars
 invariant-chars l = record {
   done : List ℕ;
   read : IsReadTo l.big l.bytes l.rest done;
-  zero : l.zero ≡ has_zero done;
+  found : l.found ≡ has_nul_or_cr done;
 }
 
 abbrev pub decreases-chars : goal.decreases-chars
