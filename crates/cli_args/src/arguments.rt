@@ -49,7 +49,7 @@ pub(crate) fn verbose_arg<'a>(alloc: Global) -> Arg<'a> {
     flag(
         alloc,
         "verbose",
-        "Says on standard error which files are read, which log counts, and why a command is refused",
+        "Print notes on standard error: files read, log used, why refused",
     )
     .short('v')
 }
@@ -60,7 +60,7 @@ pub(crate) fn super_journal_arg<'a>(alloc: Global) -> Arg<'a> {
         alloc,
         "super-journal",
         "STATE",
-        "Says whether the super-journal that a journal names is there; the journal counts only where it is",
+        "Whether the super-journal exists",
     )
     .require_equals(true)
     .value_parser(answers)
@@ -70,7 +70,7 @@ pub(crate) fn json_arg<'a>(alloc: Global) -> Arg<'a> {
     flag(
         alloc,
         "json",
-        "Prints a JSON object a line; a refusal is one too, on standard output",
+        "Print each line as a JSON object, and a refusal too",
     )
 }
 
@@ -79,7 +79,7 @@ pub(crate) fn at_arg<'a>(alloc: Global) -> Arg<'a> {
         alloc,
         "at",
         "M",
-        "Takes the database as it was at commit frame M of the write-ahead log; 0: without the log",
+        "Use the database as of commit frame M; 0: without the log",
     )
     .value_parser(value_parser!(u32))
 }
@@ -88,7 +88,7 @@ pub(crate) fn large_arg<'a>(alloc: Global) -> Arg<'a> {
     flag(
         alloc,
         "large",
-        "Takes a database above 1,073,741,824 bytes, and a log above 2,097,152 frames",
+        "Accept a database above 1 GiB, or a log above 2,097,152 frames",
     )
 }
 
@@ -96,7 +96,7 @@ pub(crate) fn pointer_maps_arg<'a>(alloc: Global) -> Arg<'a> {
     flag(
         alloc,
         "pointer-maps",
-        "Takes a database with auto-vacuum too, and checks its pointer maps",
+        "Accept a database with auto-vacuum, and check its pointer maps",
     )
 }
 
@@ -107,28 +107,28 @@ pub(crate) fn shown_maps_arg<'a>(alloc: Global) -> Made<Arg<'a>> {
 }
 
 pub(crate) fn page_arg<'a>(alloc: Global) -> Made<Arg<'a>> {
-    let page = option(alloc, "page", "N", "Shows this page instead");
+    let page = option(alloc, "page", "N", "Print page N instead");
     let page = Ok(page.value_parser(value_parser!(u32).range(1..)));
     without(without(without(page, "log"), "commits"), "pages")
 }
 
 pub(crate) fn pages_arg<'a>(alloc: Global) -> Made<Arg<'a>> {
-    let help = "Shows what each page is used for instead, and checks the database";
+    let help = "Print the use of each page instead, and check the database";
     let pages = Ok(flag(alloc, "pages", help));
     without(without(pages, "log"), "commits")
 }
 
 pub(crate) fn log_arg<'a>(alloc: Global) -> Made<Arg<'a>> {
-    without(Ok(flag(alloc, "log", "Shows the log instead")), "at")
+    without(Ok(flag(alloc, "log", "Print the log instead")), "at")
 }
 
 pub(crate) fn all_arg<'a>(alloc: Global) -> Made<Arg<'a>> {
-    let help = "Shows behind the log what stands behind its stop, which is no part of the database";
+    let help = "Also list the frames or records after the valid log";
     only_with(flag(alloc, "all", help), "log")
 }
 
 pub(crate) fn commits_arg<'a>(alloc: Global) -> Made<Arg<'a>> {
-    let help = "Shows the commits in the write-ahead log instead";
+    let help = "List the commits in the write-ahead log instead";
     without(without(Ok(flag(alloc, "commits", help)), "log"), "at")
 }
 
@@ -138,8 +138,7 @@ pub(crate) fn copy_arg<'a>(alloc: Global) -> Arg<'a> {
         alloc,
         "to",
         "OUT",
-        "Makes the file OUT instead, which holds what FILE would, and writes neither FILE nor its logs; \
-         - is a name like any other",
+        "Write the recovered database to a new file OUT; leave FILE alone",
     )
 }
 
@@ -147,7 +146,7 @@ pub(crate) fn force_arg<'a>(alloc: Global) -> Arg<'a> {
     flag(
         alloc,
         "force",
-        "Goes on while another process has the file locked, which may leave it malformed",
+        "Go on if another process has FILE locked; it may become malformed",
     )
 }
 
@@ -157,7 +156,7 @@ pub(crate) fn wait_arg<'a>(alloc: Global) -> Arg<'a> {
         alloc,
         "wait",
         "SECONDS",
-        "Waits so long for SQLite's locks that others hold; 5 if not given, and 0 to recover FILE itself",
+        "Wait up to SECONDS for locks that others hold; default 5, in place 0",
     )
     .value_parser(value_parser!(u32))
 }
@@ -167,7 +166,7 @@ pub(crate) fn no_lock_arg<'a>(alloc: Global) -> Arg<'a> {
     flag(
         alloc,
         "no-lock",
-        "Takes none of SQLite's locks: nobody else may write FILE and its logs meanwhile",
+        "Take no locks; you must make sure that nobody else writes",
     )
 }
 
@@ -177,7 +176,7 @@ pub(crate) fn report_arg<'a>(alloc: Global) -> Arg<'a> {
         alloc,
         "to",
         "OUT",
-        "Makes the file OUT, which a browser shows without a network; - prints it instead",
+        "Write the new file OUT, one HTML page; - prints it instead",
     )
     .required(true)
 }
@@ -188,7 +187,7 @@ pub(crate) fn script_file_arg<'a>(alloc: Global) -> Arg<'a> {
         alloc,
         "to",
         "OUT",
-        "Makes the file OUT, a script of SQL, which sqlite3 reads; - prints it instead",
+        "Write the new file OUT, SQL for sqlite3 -safe; - prints it instead",
     )
     .required(true)
 }
@@ -198,7 +197,7 @@ pub(crate) fn places_arg<'a>(alloc: Global) -> Arg<'a> {
     flag(
         alloc,
         "places",
-        "Writes down the page and the cell of each row, as a comment",
+        "Add a comment with page and cell before each row",
     )
 }
 
@@ -207,7 +206,7 @@ pub(crate) fn changes_arg<'a>(alloc: Global) -> Arg<'a> {
     flag(
         alloc,
         "changes",
-        "Shows the rows that each commit of the write-ahead log changed, too",
+        "Also show the rows that each commit of the log changed",
     )
 }
 
@@ -216,7 +215,7 @@ pub(crate) fn deep_arg<'a>(alloc: Global) -> Arg<'a> {
     flag(
         alloc,
         "deep",
-        "Checks what the pages hold, too: each record, the schema, and each index against its table",
+        "Also check records, schema, indexes, NOT NULL and column types",
     )
 }
 
@@ -226,7 +225,7 @@ pub(crate) fn table_arg<'a>(alloc: Global) -> Arg<'a> {
         alloc,
         "table",
         "NAME",
-        "Prints the rows of this table alone, as SQLite compares names",
+        "Print only this table; the case of ASCII letters is ignored",
     )
 }
 
@@ -236,7 +235,7 @@ pub(crate) fn changed_table_arg<'a>(alloc: Global) -> Arg<'a> {
         alloc,
         "table",
         "NAME",
-        "Prints the changes of this table alone, as SQLite compares names; several times: of each",
+        "Print only the changes of this table; may be given several times",
     )
     .action(ArgAction::Append)
 }
@@ -247,7 +246,7 @@ pub(crate) fn from_arg<'a>(alloc: Global) -> Arg<'a> {
         alloc,
         "from",
         "M",
-        "Compares from commit frame M of the write-ahead log on; 0 if not given: from the file without its log",
+        "Compare from commit frame M; default: 0, FILE without its log",
     )
     .value_parser(value_parser!(u32))
 }
@@ -258,65 +257,59 @@ pub(crate) fn until_arg<'a>(alloc: Global) -> Arg<'a> {
         alloc,
         "to",
         "N",
-        "Compares up to commit frame N; up to the last one if not given, or to what a hot journal rolls back to",
+        "Compare up to commit frame N; default: the current database",
     )
     .value_parser(value_parser!(u32))
 }
 
 /// Whether the changes of each commit are printed.
 pub(crate) fn each_commit_arg<'a>(alloc: Global) -> Made<Arg<'a>> {
-    let help =
-        "Prints what each commit of the write-ahead log changed against the one before it, from M to N";
+    let help = "Print the changes of each commit after M and up to N";
     without(Ok(flag(alloc, "commits", help)), "sql")
 }
 
 /// The same as `sql_arg`, of changes.
 pub(crate) fn script_arg<'a>(alloc: Global) -> Made<Arg<'a>> {
-    let help = "Prints SQL that makes the new rows of the old ones";
+    let help = "Print SQL that turns the old rows into the new ones";
     without(Ok(flag(alloc, "sql", help)), "json")
 }
 
 pub(crate) fn csv_arg<'a>(alloc: Global) -> Made<Arg<'a>> {
-    let help =
-        "Prints comma-separated values, a line a row, which is what it does where no form is named";
+    let help = "Print comma-separated values, a line per row; this is the default";
     without(without(Ok(flag(alloc, "csv", help)), "json"), "sql")
 }
 
 pub(crate) fn sql_arg<'a>(alloc: Global) -> Made<Arg<'a>> {
-    let help = "Prints SQL that makes the same rows; of all tables, the whole database";
+    let help = "Print SQL that recreates the rows; without --table the database";
     without(Ok(flag(alloc, "sql", help)), "json")
 }
 
 /// Whether places are printed for rows.
 pub(crate) fn cells_arg<'a>(alloc: Global) -> Made<Arg<'a>> {
-    let help =
-        "Prints where each row stands: its page, its cell there, and the log's frame with that page";
+    let help = "Print page, cell and log frame of each row, and not its values";
     without(without(Ok(flag(alloc, "places", help)), "csv"), "sql")
 }
 
 /// Whether deleted rows are printed.
 pub(crate) fn deleted_arg<'a>(alloc: Global) -> Made<Arg<'a>> {
-    let help =
-        "Prints what still stands of deleted rows, page by page; it may never have been a row";
+    let help = "Print cells that look like deleted rows; some may never have been";
     let arg = without(without(Ok(flag(alloc, "deleted", help)), "csv"), "sql");
     without(without(arg, "places"), "table")
 }
 
 /// Whether all that stands of deleted rows is printed.
 pub(crate) fn all_deleted_arg<'a>(alloc: Global) -> Made<Arg<'a>> {
-    let help =
-        "Prints behind them those in frames of the log that aren't shown: later ones, and ones written over";
+    let help = "Also search superseded and uncommitted frames of the log";
     only_with(flag(alloc, "all", help), "deleted")
 }
 
 /// Whether the changes of deleted rows' cells are printed.
 pub(crate) fn deleted_changes_arg<'a>(alloc: Global) -> Made<Arg<'a>> {
-    let help =
-        "Prints which cells of deleted rows, as rows --deleted finds them, went and came instead";
+    let help = "Print which cells of rows --deleted went and came instead";
     let arg = without(without(Ok(flag(alloc, "deleted", help)), "sql"), "commits");
     without(arg, "table")
 }
 
 pub(crate) fn version_arg<'a>(alloc: Global) -> Arg<'a> {
-    flag(alloc, "version", "Prints the version").short('V')
+    flag(alloc, "version", "Print the version").short('V')
 }

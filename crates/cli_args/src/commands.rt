@@ -45,7 +45,7 @@ fn base_command<'a>(
 }
 
 fn show_command<'a>(alloc: Global) -> Made<Command<'a>> {
-    let about = "Shows the header of the database as its log has it; writes nothing";
+    let about = "Print the header of the database, a page, or the log; write nothing";
     let command = base_command(
         alloc,
         "show",
@@ -63,7 +63,7 @@ fn show_command<'a>(alloc: Global) -> Made<Command<'a>> {
 }
 
 fn check_command<'a>(alloc: Global) -> Made<Command<'a>> {
-    let about = "Checks the database as its log has it; writes nothing";
+    let about = "Check the database together with its log; write nothing";
     let command = base_command(
         alloc,
         "check",
@@ -77,7 +77,7 @@ fn check_command<'a>(alloc: Global) -> Made<Command<'a>> {
 }
 
 fn rows_command<'a>(alloc: Global) -> Made<Command<'a>> {
-    let about = "Prints the rows of each table as the log has them; writes nothing";
+    let about = "Print the rows of each table; write nothing";
     let command = base_command(
         alloc,
         "rows",
@@ -95,7 +95,8 @@ fn rows_command<'a>(alloc: Global) -> Made<Command<'a>> {
 }
 
 fn diff_command<'a>(alloc: Global) -> Made<Command<'a>> {
-    let about = "Prints which rows the log changed, or a rollback would; writes nothing";
+    let about =
+        "Print the rows that the log changed, or that a rollback would change; write nothing";
     let command = base_command(
         alloc,
         "diff",
@@ -112,8 +113,7 @@ fn diff_command<'a>(alloc: Global) -> Made<Command<'a>> {
 }
 
 fn salvage_command<'a>(alloc: Global) -> Made<Command<'a>> {
-    let about =
-        "Makes SQL of the rows of a damaged database that can be read; writes neither FILE nor its logs";
+    let about = "Write the readable rows of a damaged database to OUT, as SQL; leave FILE alone";
     let command = base_command(
         alloc,
         "salvage",
@@ -128,8 +128,7 @@ fn salvage_command<'a>(alloc: Global) -> Made<Command<'a>> {
 
 fn recover_command<'a>(alloc: Global) -> Made<Command<'a>> {
     let about =
-        "Recovers the database: folds its write-ahead log into it, or rolls it back by its hot journal; \
-         nobody else may have it open meanwhile";
+        "Copy the write-ahead log into FILE, or roll back its hot journal; nobody else may use FILE";
     let at = only_with(at_arg(alloc), "to");
     let command = base_command(alloc, "recover", about, RECOVER, file_arg(alloc), at);
     let command = with_arg(command, Ok(copy_arg(alloc)));
@@ -137,8 +136,7 @@ fn recover_command<'a>(alloc: Global) -> Made<Command<'a>> {
 }
 
 fn report_command<'a>(alloc: Global) -> Made<Command<'a>> {
-    let about =
-        "Makes a page of HTML that shows the database and its log; writes neither FILE nor its logs";
+    let about = "Write an HTML page that shows the database and its log to OUT; leave FILE alone";
     let command = base_command(
         alloc,
         "report",
@@ -155,7 +153,7 @@ fn report_command<'a>(alloc: Global) -> Made<Command<'a>> {
 /// The program's command line.
 pub(crate) fn command<'a>(alloc: Global) -> Made<Command<'a>> {
     let command = Command::new(alloc, "sqrescue")
-        .about("Reads and recovers SQLite databases with their logs")
+        .about("Read, check and recover SQLite databases together with their logs")
         .after_help(ALL)
         .subcommand_required(true)
         .arg_required_else_help(true);
