@@ -96,7 +96,7 @@ fn version_flag<'a>(alloc: Global) -> Arg<'a>
         .long("version")
         .short('V')
         .action(ArgAction::SetTrue)
-        .help("Prints the version")
+        .help("Print the version")
 }
 
 /// A word that has to be there.
@@ -122,7 +122,11 @@ fn with<'a>(command: Command<'a>, arg: Arg<'a>) -> Result<Command<'a>, AllocErro
 fn with_trace<'a>(alloc: Global, command: Command<'a>) -> Result<Command<'a>, AllocError>
     ensures { IfOk result (λ c. app_of c ≡ with_trace (app_of command.entry)) }
 {
-    let trace = word(alloc, "TRACE", "What rig/record wrote");
+    let trace = word(
+        alloc,
+        "TRACE",
+        "The recording of a run, as rig/record wrote it",
+    );
     let command = with(command, trace)?;
     with(command, version_flag(alloc))
 }
@@ -140,19 +144,19 @@ fn with_disk<'a>(
         alloc,
         "sector",
         "BYTES",
-        "The size of a disk's sectors; 512 if left out",
+        "Sector size of the disk; default: 512",
         sectors,
     );
     let tears = flag(
         alloc,
         "tears",
-        "A sector that was being written may hold anything",
+        "A crash may leave anything in a sector that was being written",
     );
     let meta = option(
         alloc,
         "meta",
         "HOW",
-        "How names and lengths become durable: in parts, as a whole, or in the order of calls; whole if left out",
+        "Metadata durability; default whole",
         metas,
     );
     let command = with(command, sector)?;
@@ -168,14 +172,14 @@ fn with_draws<'a>(alloc: Global, command: Command<'a>) -> Result<Command<'a>, Al
         alloc,
         "images",
         "N",
-        "The most images at a point, 1000 if left out; all where they are no more, and torn ones beside them",
+        "Judge at most N images per point, and torn ones; default: 1000",
         ValueParser::unsigned(1, u64::MAX),
     );
     let seed = number_option(
         alloc,
         "seed",
         "S",
-        "The number that the draws begin with; 1 if left out",
+        "Number that starts the random draws; default: 1",
     );
     let command = with(command, images)?;
     with(command, seed)
@@ -199,14 +203,14 @@ fn with_points<'a>(
         alloc,
         "promise",
         "WHAT",
-        "What is known at a mark; full if left out",
+        "Promise of marks; default full",
         promises,
     );
     let commits = option(
         alloc,
         "commits",
         "WHERE",
-        "Commits are what the files show after each call, or at marks alone, each checked; calls if left out",
+        "When files show commits; default: calls",
         commits,
     );
     let command = with(command, every)?;
@@ -221,12 +225,12 @@ fn with_why<'a>(alloc: Global, command: Command<'a>) -> Result<Command<'a>, Allo
     let why = flag(
         alloc,
         "why",
-        "Tells of each image with a line behind which record the machine stopped, and which calls aren't down",
+        "Print for each listed image when the crash came, and what isn't on disk",
     );
     let shrink = flag(
         alloc,
         "shrink",
-        "Brings down what may be of such an image first, so that --why tells and --keep writes what matters alone",
+        "Minimise each failing image before reporting it",
     );
     let command = with(command, why)?;
     with(command, shrink)
@@ -240,25 +244,25 @@ fn with_chosen<'a>(alloc: Global, command: Command<'a>) -> Result<Command<'a>, A
         alloc,
         "part",
         "K/N",
-        "Judges of each N points in turn the K-th alone, and draws by the seed and each point's number",
+        "Judge only the K-th of every N points; draws depend on the point",
     );
     let lines = number_option(
         alloc,
         "lines",
         "N",
-        "The most images of which lines are written; behind them how many more there are",
+        "List at most N images, and then print how many more there are",
     );
     let point = number_option(
         alloc,
         "point",
         "P",
-        "Writes lines of point P alone, counted from 1",
+        "List only images of point P, counted from 1",
     );
     let image = number_option(
         alloc,
         "image",
         "I",
-        "Writes lines of image I of a point alone, counted from 0",
+        "List only image I of a point, counted from 0",
     );
     let command = with(command, part)?;
     let command = with(command, lines)?;
@@ -273,18 +277,18 @@ fn with_told<'a>(alloc: Global, command: Command<'a>) -> Result<Command<'a>, All
     let json = flag(
         alloc,
         "json",
-        "Prints each line as a JSON object, and a refusal as one, too",
+        "Print each line as a JSON object, and a refusal too",
     );
     let time = flag(
         alloc,
         "time",
-        "Tells on standard error how long it took, and how many images were judged",
+        "Print the time and the number of images on standard error",
     );
     let keep = text(
         alloc,
         "keep",
         "DIR",
-        "Writes images with something wrong, the first 1000, to DIR/pPOINT-iIMAGE.db, -wal and -journal",
+        "Save the first 1000 failing images as DIR/pPOINT-iIMAGE.db, -wal, -journal",
     );
     let command = with(command, json)?;
     let command = with(command, time)?;
@@ -317,7 +321,7 @@ fn command_with<'a>(
     ensures { IfOk result (λ c. app_of c ≡ line sectors.entry metas.entry promises.entry commits.entry) }
 {
     let command = Command::new(alloc, "sqcrash").about(
-        "Judges what crashes may leave of a recorded run of SQLite",
+        "Judge what a crash could leave of a recorded run of SQLite",
     );
     let command = with_trace(alloc, command)?;
     let command = with_disk(alloc, command, sectors, metas)?;
