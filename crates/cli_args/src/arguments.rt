@@ -1,11 +1,11 @@
-//! The arguments and options of the commands. Each step that clap takes stands in a function of its own, once.
+//! The arguments and options of the commands. Each step with clap has one function.
 use clap::{Arg, ArgAction, value_parser};
 use std::alloc::{AllocError, Global};
 
-/// What may want memory.
+/// What may need memory.
 pub(crate) type Made<T> = Result<T, AllocError>;
 
-/// An option that is there or isn't.
+/// An option without a value.
 fn flag<'a>(alloc: Global, name: &'a str, help: &'a str) -> Arg<'a> {
     Arg::new(alloc, name)
         .long(name)
@@ -22,7 +22,7 @@ fn option<'a>(alloc: Global, name: &'a str, value: &'a str, help: &'a str) -> Ar
         .help(help)
 }
 
-/// An argument that can't be given with this one.
+/// An argument that can't be given together with this one.
 fn without<'a>(arg: Made<Arg<'a>>, other: &'a str) -> Made<Arg<'a>> {
     arg?.conflicts_with(other)
 }
@@ -40,7 +40,7 @@ pub(crate) fn file_arg<'a>(alloc: Global) -> Arg<'a> {
         .help("The database file; its logs are FILE-wal and FILE-journal")
 }
 
-/// The same of a command that takes several. A line is read here with one of them alone.
+/// The file argument of a command that accepts several files. A line that is read here has only one of them.
 pub(crate) fn files_arg<'a>(alloc: Global) -> Arg<'a> {
     file_arg(alloc).num_args(1..)
 }
@@ -100,7 +100,7 @@ pub(crate) fn pointer_maps_arg<'a>(alloc: Global) -> Arg<'a> {
     )
 }
 
-/// The same for `show`, of which it is only understood with `--pages`.
+/// The option for pointer maps of `show`, which needs `--pages`.
 pub(crate) fn shown_maps_arg<'a>(alloc: Global) -> Made<Arg<'a>> {
     let maps = only_with(pointer_maps_arg(alloc), "pages");
     without(without(without(maps, "page"), "log"), "commits")
@@ -132,7 +132,7 @@ pub(crate) fn commits_arg<'a>(alloc: Global) -> Made<Arg<'a>> {
     without(without(Ok(flag(alloc, "commits", help)), "log"), "at")
 }
 
-/// Where `recover` leaves what it makes.
+/// Where `recover` writes its copy.
 pub(crate) fn copy_arg<'a>(alloc: Global) -> Arg<'a> {
     option(
         alloc,
@@ -150,7 +150,7 @@ pub(crate) fn force_arg<'a>(alloc: Global) -> Arg<'a> {
     )
 }
 
-/// How long is waited for SQLite's locks. It is taken off the line before it is read here.
+/// How long to wait for SQLite's locks. The line that is read here no longer has it.
 pub(crate) fn wait_arg<'a>(alloc: Global) -> Arg<'a> {
     option(
         alloc,
@@ -161,7 +161,7 @@ pub(crate) fn wait_arg<'a>(alloc: Global) -> Arg<'a> {
     .value_parser(value_parser!(u32))
 }
 
-/// Whether SQLite's locks are left out. It is taken off the line before it is read here.
+/// Whether to leave out SQLite's locks. The line that is read here no longer has it.
 pub(crate) fn no_lock_arg<'a>(alloc: Global) -> Arg<'a> {
     flag(
         alloc,
@@ -170,7 +170,7 @@ pub(crate) fn no_lock_arg<'a>(alloc: Global) -> Arg<'a> {
     )
 }
 
-/// Where `report` leaves the page that it makes.
+/// Where `report` writes its page.
 pub(crate) fn report_arg<'a>(alloc: Global) -> Arg<'a> {
     option(
         alloc,
@@ -181,7 +181,7 @@ pub(crate) fn report_arg<'a>(alloc: Global) -> Arg<'a> {
     .required(true)
 }
 
-/// Where `salvage` leaves the script that it makes.
+/// Where `salvage` writes its script.
 pub(crate) fn script_file_arg<'a>(alloc: Global) -> Arg<'a> {
     option(
         alloc,
@@ -192,7 +192,7 @@ pub(crate) fn script_file_arg<'a>(alloc: Global) -> Arg<'a> {
     .required(true)
 }
 
-/// Whether the script has places.
+/// Whether the script names places.
 pub(crate) fn places_arg<'a>(alloc: Global) -> Arg<'a> {
     flag(
         alloc,
@@ -201,7 +201,7 @@ pub(crate) fn places_arg<'a>(alloc: Global) -> Arg<'a> {
     )
 }
 
-/// What `report` shows besides.
+/// What else `report` shows.
 pub(crate) fn changes_arg<'a>(alloc: Global) -> Arg<'a> {
     flag(
         alloc,
@@ -210,7 +210,7 @@ pub(crate) fn changes_arg<'a>(alloc: Global) -> Arg<'a> {
     )
 }
 
-/// What `check` checks besides.
+/// What else `check` checks.
 pub(crate) fn deep_arg<'a>(alloc: Global) -> Arg<'a> {
     flag(
         alloc,
@@ -240,7 +240,7 @@ pub(crate) fn changed_table_arg<'a>(alloc: Global) -> Arg<'a> {
     .action(ArgAction::Append)
 }
 
-/// The commit from which on rows are compared.
+/// The first commit to compare.
 pub(crate) fn from_arg<'a>(alloc: Global) -> Arg<'a> {
     option(
         alloc,
@@ -251,7 +251,7 @@ pub(crate) fn from_arg<'a>(alloc: Global) -> Arg<'a> {
     .value_parser(value_parser!(u32))
 }
 
-/// The commit up to which rows are compared.
+/// The last commit to compare.
 pub(crate) fn until_arg<'a>(alloc: Global) -> Arg<'a> {
     option(
         alloc,
@@ -262,13 +262,13 @@ pub(crate) fn until_arg<'a>(alloc: Global) -> Arg<'a> {
     .value_parser(value_parser!(u32))
 }
 
-/// Whether the changes of each commit are printed.
+/// Whether to print the changes of each commit.
 pub(crate) fn each_commit_arg<'a>(alloc: Global) -> Made<Arg<'a>> {
     let help = "Print the changes of each commit after M and up to N";
     without(Ok(flag(alloc, "commits", help)), "sql")
 }
 
-/// The same as `sql_arg`, of changes.
+/// Whether to print changes as SQL.
 pub(crate) fn script_arg<'a>(alloc: Global) -> Made<Arg<'a>> {
     let help = "Print SQL that turns the old rows into the new ones";
     without(Ok(flag(alloc, "sql", help)), "json")
@@ -297,13 +297,13 @@ pub(crate) fn deleted_arg<'a>(alloc: Global) -> Made<Arg<'a>> {
     without(without(arg, "places"), "table")
 }
 
-/// Whether all that stands of deleted rows is printed.
+/// Whether to search the log for deleted rows as well.
 pub(crate) fn all_deleted_arg<'a>(alloc: Global) -> Made<Arg<'a>> {
     let help = "Also search superseded and uncommitted frames of the log";
     only_with(flag(alloc, "all", help), "deleted")
 }
 
-/// Whether the changes of deleted rows' cells are printed.
+/// Whether to print how the cells of deleted rows changed.
 pub(crate) fn deleted_changes_arg<'a>(alloc: Global) -> Made<Arg<'a>> {
     let help = "Print which cells of rows --deleted went and came instead";
     let arg = without(without(Ok(flag(alloc, "deleted", help)), "sql"), "commits");

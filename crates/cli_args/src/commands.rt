@@ -1,5 +1,5 @@
-//! The commands and their options. Each function takes and gives a `Result`, and none exits early: a command that is
-//! half made has much to let go.
+//! The commands and their options. Each function accepts and returns a `Result`, and none exits early: an unfinished
+//! command has much memory to free.
 use crate::arguments::{
     Made, all_arg, all_deleted_arg, at_arg, cells_arg, changed_table_arg, changes_arg, commits_arg,
     copy_arg, csv_arg, deep_arg, deleted_arg, deleted_changes_arg, each_commit_arg, file_arg,
@@ -24,7 +24,7 @@ fn with_command<'a>(command: Made<Command<'a>>, below: Made<Command<'a>>) -> Mad
     command?.subcommand(below)
 }
 
-/// A command with the file and the options that each has.
+/// A command with the file and the common options.
 fn base_command<'a>(
     alloc: Global,
     name: &'a str,

@@ -24,7 +24,7 @@ pub(crate) const CHECK: &str = "Examples:
 
 Exit status: 0 well formed; 1 damaged; 2 wrong command line; 3 refused.";
 
-/// After those of `show`.
+/// After the options of `show`.
 pub(crate) const SHOW: &str = "Examples:
   sqrescue show ledger.db            print the fields of the header
   sqrescue show ledger.db --page 3   print a page with its cells and their columns
@@ -33,7 +33,7 @@ pub(crate) const SHOW: &str = "Examples:
 
 Exit status: 0 done; 1 damaged (only with --pages); 2 wrong command line; 3 refused.";
 
-/// After those of `rows`.
+/// After the options of `rows`.
 pub(crate) const ROWS: &str = "Examples:
   sqrescue rows ledger.db --table entry  print a table as comma-separated values
   sqrescue rows ledger.db --json         print all tables, an object per row
@@ -41,7 +41,7 @@ pub(crate) const ROWS: &str = "Examples:
 
 Exit status: 0 done; 1 damaged; 2 wrong command line; 3 refused.";
 
-/// After those of `diff`.
+/// After the options of `diff`.
 pub(crate) const DIFF: &str = "Examples:
   sqrescue diff ledger.db                  print changed rows, such as + 5: 5,'Ada',7
   sqrescue diff ledger.db --from 4 --to 8  print the rows that changed between two commits
@@ -51,13 +51,13 @@ pub(crate) const DIFF: &str = "Examples:
 
 Exit status: 0 done; 1 damaged; 2 wrong command line; 3 refused.";
 
-/// After those of `salvage`.
+/// After the options of `salvage`.
 pub(crate) const SALVAGE: &str = "Example:
   sqrescue salvage ledger.db --to ledger.sql  then: sqlite3 -safe copy.db < ledger.sql
 
 Exit status: 0 done; 1 done, but the database is damaged; 2 wrong command line; 3 refused.";
 
-/// After those of `recover`.
+/// After the options of `recover`.
 pub(crate) const RECOVER: &str = "Examples:
   sqrescue recover ledger.db --to copy.db           look at the result first
   sqrescue recover ledger.db                        then recover the file in place
@@ -66,7 +66,7 @@ pub(crate) const RECOVER: &str = "Examples:
 Exit status: 0 done; 2 wrong command line; 3 refused: nothing was written, except after an
 I/O error. Then run it again.";
 
-/// After those of `report`.
+/// After the options of `report`.
 pub(crate) const REPORT: &str = "Examples:
   sqrescue report ledger.db --to report.html            show its pages, trees and log
   sqrescue report ledger.db --to report.html --changes  also show the rows that each commit changed
