@@ -156,10 +156,10 @@ def corpus(what):
 def leave(why):
     """Ends the test, which can't run."""
     lacks("all of tests/" + os.path.basename(sys.argv[0]), why)
-    ends()
+    finish()
 
 
-def ends():
+def finish():
     """Prints the counts, and ends the test. A test that did nothing has failed."""
     print(f"{passed} passed, {failed} failed" + (f", {skipped} skipped" if skipped else ""))
     sys.exit(failed > 0 or passed + skipped == 0)

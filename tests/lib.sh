@@ -29,7 +29,7 @@ leave() { # WHY: ends the test, which can't run; in the gate that is a failure
   else
     skip "all of tests/${0##*/}" "$1"
   fi
-  ends
+  finish
 }
 
 need() { # COMMAND..: ends the test if one of them isn't here
@@ -46,7 +46,7 @@ located() { # VARIABLE NAME: has the path of the program, or of the C library's 
   printf -v "$1" %s "$path"
 }
 
-ends() { # prints the counts, and ends the test; one that did nothing has failed
+finish() { # prints the counts, and ends the test; one that did nothing has failed
   local counts="$passed passed, $failed failed"
   [ "$skipped" = 0 ] || counts+=", $skipped skipped"
   echo "$counts"

@@ -24,4 +24,4 @@ for name in ledger bad; do
   check "$name: light" shot "$folder/$name.html" "$pictures/$name.png"
   check "$name: dark" shot "$folder/$name.html" "$pictures/$name-dark.png" --force-dark-mode
 done
-ends
+finish
