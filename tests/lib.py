@@ -70,7 +70,7 @@ def header_folder():
 
 
 def recorder(name):
-    """The script rig/NAME in a copy of rig/: so it leaves the recorder that it compiles beside the copy, not in bin/."""
+    """The script rig/NAME in a copy of rig/, so that it leaves the recorder that it compiles there, not in bin/."""
     need("gcc")
     shutil.copytree(TOP / "rig", Path(holder.name, "rig"))
     return os.path.join(holder.name, "rig", name)
