@@ -192,7 +192,9 @@ pub fn write_start<W: Write>(out: &mut W, encoding: Encoding) -> io::Result<()>
     ensures { OnOk result (Appends (W.contents out.old) (W.contents out.new) (start_text encoding)) }
 {
     write_encoding(out, encoding)?;
-    out.write_all(b"PRAGMA foreign_keys=OFF;\nPRAGMA ignore_check_constraints=ON;\nBEGIN TRANSACTION;\n")
+    out.write_all(
+        b"PRAGMA foreign_keys=OFF;\nPRAGMA ignore_check_constraints=ON;\nBEGIN TRANSACTION;\n",
+    )
 }
 
 /// What a dump begins with.

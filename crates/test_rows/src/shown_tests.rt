@@ -92,7 +92,9 @@ fn rows_of_a_table(rt: HostRuntime) -> Result<(), Fail> {
     let json = printed(rt.alloc(), Notation::Json, &mut source).ok_or("no rows")?;
     assert!(rt; json.as_slice() == b"{\"a\":7}\n".as_slice());
     let sql = printed(rt.alloc(), Notation::Sql, &mut source).ok_or("no rows")?;
-    assert!(rt; sql.as_slice() == b"INSERT OR ABORT INTO \"t\"(rowid,\"a\") VALUES(5,7);\n".as_slice());
+    assert!(rt;
+        sql.as_slice() == b"INSERT OR ABORT INTO \"t\"(rowid,\"a\") VALUES(5,7);\n".as_slice()
+    );
     let all = headed(rt.alloc(), &mut source).ok_or("no rows")?;
     assert!(rt; all.as_slice() == b"{\"table\":\"t\",\"columns\":[\"a\"]}\n{\"a\":7}\n".as_slice());
     Ok(())
