@@ -26,16 +26,6 @@ def compiled(folder, name):
     return program
 
 
-def preloaded(folder, name):
-    """The C file of the tests of this name, compiled by the kit's compiler as a library to be loaded into a program."""
-    library = os.path.join(folder, name + ".so")
-    page = subprocess.run(["rt", "doc"], capture_output=True, text=True, check=True).stdout.strip()
-    clang = os.path.join(os.path.dirname(page), "toolchain", "bin", "clang")
-    source = os.path.join(top, "tests", name + ".c")
-    subprocess.run([clang, "-O2", "-shared", "-fPIC", "-nostdlib", "-o", library, source], check=True)
-    return library
-
-
 def contents(folder):
     """The files of a folder with their bytes, and its links with the names that they lead to."""
     found = {}
