@@ -1,0 +1,4 @@
+pub mod PaddedPages
+pub mod PagesKept
+pub mod PagesLost
+pub mod GreatestSoFar

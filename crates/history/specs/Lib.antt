@@ -1,0 +1,4 @@
+pub mod Checkpoints
+pub mod Past
+pub mod Known
+pub mod Table
