@@ -3,7 +3,7 @@ use Rattle.std.specs.Prelude.{◌≡◌, ◌⊎◌, ℕ, ◌<◌, ◌≤◌, Lis
 use Rattle.sqval.specs.Bytes.{AreBytes}
 use Rattle.sqval.specs.Database.{Database, file_page, file_pages}
 use Rattle.sqval.specs.PageSize.{IsPageSize}
-use Rattle.sqwal.specs.Frames.{size_of, IsCommit}
+use Rattle.sqwal.specs.Frames.{page_of, size_of, IsCommit}
 use Rattle.sqwal.specs.View.{Unnamed}
 use Rattle.history.specs.Checkpoints.{zero_page, IsCopied, HasSmallCommit}
 use Rattle.history.specs.Past.{valid_count, IsDatabaseAt, IsOverFile, IsPast, IsUnknown}
@@ -62,3 +62,12 @@ DatabaseIsOne = (size : ℕ) (w : List ℕ) (m : ℕ) (before d e : Database) �
 abbrev pub PastIsNotUnknown : Type 0
 PastIsNotUnknown = (size : ℕ) (w : List ℕ) (front : ℕ) (file : List ℕ) (m : ℕ) (d : Database) → IsPoint size w m
     → IsPast size w front file m d → ¬ IsUnknown size w front file m
+
+-- frames up to the later commit name each page by which it exceeds so many
+abbrev pub NamesGrowth : (size : ℕ) → List ℕ → (n later more : ℕ) → Type 0
+NamesGrowth size w n later more = (p : ℕ) → n < p → p ≤ more → (i : ℕ) × (1 ≤ i) × (i ≤ later) × (page_of size w i ≡ p)
+
+-- In a log that names its growth what follows a known commit is known.
+abbrev pub LaterIsKnown : Type 0
+LaterIsKnown = (size : ℕ) (w : List ℕ) (front : ℕ) (file : List ℕ) (m n later more : ℕ) → m ≤ later → 1 ≤ later → NamesGrowth size w n later more
+    → IsKnown size w front file m n → IsKnown size w front file later more

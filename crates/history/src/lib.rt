@@ -5,5 +5,5 @@
 mod laws;
 mod table;
 
-pub use laws::known_or_lost;
+pub use laws::{known_or_lost, later_is_known};
 pub use table::Table;
