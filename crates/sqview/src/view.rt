@@ -1,5 +1,5 @@
 //! The database that a file and the log beside it show, as a source of pages.
-ghost use Rattle.std.specs.Prelude.{◌≡◌, ◌<◌, length, IsOk, OnOk};
+ghost use Rattle.std.specs.Prelude.{◌≡◌, ◌<◌, ◌≤◌, length, take, IsOk, OnOk};
 ghost use Rattle.sqval.specs.Database.{page};
 ghost use Rattle.sqpage.specs.Freelist.{IsPage};
 ghost use Rattle.sqview.specs.Laid.{part_or_zeros, place_of, laid};
@@ -59,6 +59,18 @@ impl<F> View<F> {
         ensures { result.now ≡ self.now.places.items }
     {
         &self.places
+    }
+
+    /// Leaves the first pages alone (own).
+    pub fn shorten(&mut self, count: u32)
+        requires { count ≤ self.old.count }
+        ensures count { self.new.count ≡ count }
+        ensures sizes { (self.new.page_size ≡ self.old.page_size) × (self.new.front ≡ self.old.front) }
+        ensures places { self.new.places.items ≡ take count self.old.places.items }
+        ensures files { (self.new.db ≡ self.old.db) × (self.new.log ≡ self.old.log) }
+    {
+        self.count = count;
+        self.places.truncate(count as usize);
     }
 
     /// Where page `p` begins in the log, 0 where the file's counts.

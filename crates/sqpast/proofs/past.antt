@@ -1,0 +1,5 @@
+-- What a file and its log say of what was there at earlier commits.
+pub mod FramesByPage
+pub mod BytesInPieces
+pub mod JudgedPages
+pub mod KnownViews
