@@ -51,7 +51,8 @@ pub fn least_commit(scan: &Scan, front: Front) -> u32
 /// Puts a frame before those that name the same page, if it is a page up to the last.
 fn link(first: &mut Vec<u32>, next: &mut Vec<u32>, page: u32, frame: u32)
     requires { (1 ≤ frame) × (frame ≤ length next.old.items) }
-    ensures lengths { (length first.new.items ≡ length first.old.items) × (length next.new.items ≡ length next.old.items) }
+    ensures lengths { (length first.new.items ≡ length first.old.items)
+        × (length next.new.items ≡ length next.old.items) }
     ensures chains { (size : ℕ) (w : List ℕ) (front pages : ℕ) → page ≡ page_of size w frame → 1 ≤ page
         → AreChainsFrom size w front pages frame first.old.items next.old.items
         → AreChainsFrom size w front pages (frame - 1) first.new.items next.new.items }

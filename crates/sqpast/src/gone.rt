@@ -28,7 +28,8 @@ fn until_named(first: u32) -> u32
     if first == 0 { u32::MAX } else { first }
 }
 
-/// A page may have been cut away if it is zeros: those after it are zeros or copied, and the smallest commit is shorter.
+/// A page may have been cut away if it is zeros: those after it are zeros or copied, and the smallest commit has fewer
+/// pages.
 fn may_be_cut(tail: bool, least: u32, p: usize) -> bool
     ensures { IsTrue result ↔ (IsTrue tail × (least < p)) }
 {
@@ -57,13 +58,16 @@ fn likeness<F: FileBytes>(
     p: usize,
     page: &mut [u8],
 ) -> Result<Likeness, SourceError>
-    requires { (1 ≤ p) × (p ≤ length chains.now.first.items) × (p ≤ 2 ^ 40) × (length page.old ≡ chains.now.page_size) }
+    requires { (1 ≤ p) × (p ≤ length chains.now.first.items) × (p ≤ 2 ^ 40)
+        × (length page.old ≡ chains.now.page_size) }
     ensures read { F.reads_right db.old × F.reads_right log.old → IfOk result (λ like. (front : ℕ)
         → AreChains (F.bytes log.old) front (length chains.now.first.items) chains.now
         → IsLike chains.now.page_size (F.bytes log.old) front (F.bytes db.old) p like) }
     ensures never_fails { F.gives_bytes db.old × F.gives_bytes log.old → IsOk result }
-    ensures still_right { F.reads_right db.old × F.reads_right log.old → F.reads_right db.new × F.reads_right log.new }
-    ensures still_gives { F.gives_bytes db.old × F.gives_bytes log.old → F.gives_bytes db.new × F.gives_bytes log.new }
+    ensures still_right { F.reads_right db.old × F.reads_right log.old
+        → F.reads_right db.new × F.reads_right log.new }
+    ensures still_gives { F.gives_bytes db.old × F.gives_bytes log.old
+        → F.gives_bytes db.new × F.gives_bytes log.new }
     ensures same_bytes { (F.bytes db.new ≡ F.bytes db.old) × (F.bytes log.new ≡ F.bytes log.old) }
 {
     db.read_at((p as u64 - 1) * u64::from(chains.page_size.get()), page)?;
@@ -73,7 +77,7 @@ fn likeness<F: FileBytes>(
     })
 }
 
-/// Judges page `p` of a file, behind which there is such a tail. It is read only if a frame names it, or if it may have
+/// Judges page `p` of a file, after which there is such a tail. It is read only if a frame names it, or if it may have
 /// been cut away.
 fn judge_page<F: FileBytes>(
     db: &mut F,
@@ -83,15 +87,18 @@ fn judge_page<F: FileBytes>(
     tail: bool,
     page: &mut [u8],
 ) -> Result<Judged, SourceError>
-    requires { (1 ≤ p) × (p ≤ length chains.now.first.items) × (p ≤ 2 ^ 40) × (length page.old ≡ chains.now.page_size) }
+    requires { (1 ≤ p) × (p ≤ length chains.now.first.items) × (p ≤ 2 ^ 40)
+        × (length page.old ≡ chains.now.page_size) }
     ensures read { F.reads_right db.old × F.reads_right log.old → IfOk result (λ judged. (front : ℕ)
         → AreChains (F.bytes log.old) front (length chains.now.first.items) chains.now
         → p ≤ file_pages chains.now.page_size (F.bytes db.old)
         → IsTail chains.now.page_size (F.bytes log.old) front (F.bytes db.old) chains.now.least p tail
         → IsJudged chains.now.page_size (F.bytes log.old) front (F.bytes db.old) chains.now.least p judged) }
     ensures never_fails { F.gives_bytes db.old × F.gives_bytes log.old → IsOk result }
-    ensures still_right { F.reads_right db.old × F.reads_right log.old → F.reads_right db.new × F.reads_right log.new }
-    ensures still_gives { F.gives_bytes db.old × F.gives_bytes log.old → F.gives_bytes db.new × F.gives_bytes log.new }
+    ensures still_right { F.reads_right db.old × F.reads_right log.old
+        → F.reads_right db.new × F.reads_right log.new }
+    ensures still_gives { F.gives_bytes db.old × F.gives_bytes log.old
+        → F.gives_bytes db.new × F.gives_bytes log.new }
     ensures same_bytes { (F.bytes db.new ≡ F.bytes db.old) × (F.bytes log.new ≡ F.bytes log.old) }
 {
     let first = chains.first[p - 1];
@@ -128,8 +135,10 @@ pub fn until<F: FileBytes>(
         × AreUntil chains.now.page_size (F.bytes log.old) front (F.bytes db.old) list.items) }
     ensures refused { IfErr result IsSource }
     ensures read { F.gives_bytes db.old × F.gives_bytes log.old → IsRead result }
-    ensures still_right { F.reads_right db.old × F.reads_right log.old → F.reads_right db.new × F.reads_right log.new }
-    ensures still_gives { F.gives_bytes db.old × F.gives_bytes log.old → F.gives_bytes db.new × F.gives_bytes log.new }
+    ensures still_right { F.reads_right db.old × F.reads_right log.old
+        → F.reads_right db.new × F.reads_right log.new }
+    ensures still_gives { F.gives_bytes db.old × F.gives_bytes log.old
+        → F.gives_bytes db.new × F.gives_bytes log.new }
     ensures same_bytes { (F.bytes db.new ≡ F.bytes db.old) × (F.bytes log.new ≡ F.bytes log.old) }
 {
     let mut bytes = vec![in alloc; 0u8; chains.page_size.get() as usize]?;
