@@ -1,0 +1,3 @@
+pub mod Steps
+pub mod SameWord
+pub mod Chain

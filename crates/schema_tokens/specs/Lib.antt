@@ -1,0 +1,5 @@
+pub mod Bytes
+pub mod Runs
+pub mod Keywords
+pub mod Forms
+pub mod Pieces
