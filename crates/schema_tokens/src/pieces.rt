@@ -2,6 +2,7 @@
 ghost use Rattle.std.specs.Prelude.{◌≡◌, ◌==◌, ◌≤◌, not, length, take_while, filter, IfOk};
 ghost use Rattle.schema_tokens.specs.Pieces.{text_of, is_token, IsReading};
 
+use crate::bytes::after;
 use crate::forms::form;
 use crate::kinds::{Kind, Piece};
 use crate::runs::up_to;
@@ -31,7 +32,7 @@ pub fn read(alloc: Global, bytes: &[u8]) -> Result<Reading, AllocError>
     let text = text_of(bytes);
     let mut pieces = Vec::new(alloc);
     let mut at = 0;
-    while let Some(found) = form(&text[at..]) {
+    while let Some(found) = form(after(text, at)) {
         let to = at + found.length;
         pieces.push(Piece {
             kind: found.kind,
