@@ -1,8 +1,7 @@
 -- What a run's length is at a list's first element.
-use Rattle.std.proofs.Common.{◌≡◌, ◌≢◌, ℕ, ◌+◌, ◌<◌, ◌==◌, ◌&&◌, ◌||◌, Bool, true, false, cond, List, [], ◌∷◌, drop, get_or, length, refl, arith, ◌⊎◌}
+use Rattle.std.proofs.Common.{◌≡◌, ◌≢◌, ℕ, ◌+◌, ◌<◌, true, false, List, [], ◌∷◌, drop, get_or, length, refl, arith, ◌⊎◌}
 use Rattle.std.proofs.Math.Seq.{drop-length}
 use Rattle.std.proofs.lemmas.List.{drop_more}
-use Rattle.std.proofs.lemmas.Grind.{common_steps}
 use Rattle.schema_tokens.specs.Bytes.{is_word_byte}
 use Rattle.schema_tokens.specs.Runs.{quoted_bytes, name_bytes}
 

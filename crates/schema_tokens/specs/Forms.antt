@@ -3,7 +3,7 @@
 use Rattle.std.specs.Prelude.{ℕ, ◌<◌, ◌≤◌, ◌+◌, ◌%◌, ◌==◌, ◌||◌, ◌&&◌, Bool, true, false, not, if◌then◌else◌, nat_lt, List, length, take, drop, slice_index, Option, Some, None, is_some}
 use Rattle.std.specs.List.{prefix_len, list_any}
 use Rattle.std.specs.Char.{is_ascii_digit, is_ascii_hexdigit, is_ascii_whitespace}
-use Rattle.schema_tokens.specs.Bytes.{is_blank, begins_word, is_word_byte, is_digit, is_operator, is_operator_pair}
+use Rattle.schema_tokens.specs.Bytes.{is_blank, begins_word, is_word_byte, is_operator, is_operator_pair}
 use Rattle.schema_tokens.specs.Runs.{quoted_bytes, comment_bytes, digits_on, name_bytes}
 use Rattle.schema_tokens.specs.Keywords.{word_kind}
 use Rattle.schema_tokens.specs.declared.kinds.Kind.{Kind}

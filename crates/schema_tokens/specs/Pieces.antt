@@ -1,11 +1,9 @@
 -- A text as tokens and spaces, one after another (tokenize.c, `sqlite3RunParser`).
-use Rattle.std.specs.Prelude.{◌≡◌, ℕ, ◌+◌, ◌<◌, ◌==◌, Bool, true, false, not, List, [], ◌∷◌, drop, take_while, Option, Some, None}
+use Rattle.std.specs.Prelude.{◌≡◌, ℕ, ◌+◌, ◌<◌, ◌==◌, Bool, true, false, not, List, [], ◌∷◌, drop, take_while, Some, None}
 use Rattle.schema_tokens.specs.Forms.{form}
 use Rattle.schema_tokens.specs.declared.kinds.Kind.{Kind}
 use Rattle.schema_tokens.specs.declared.kinds.Kind.TheVariants.{Blanks, ByteOrderMark, LineComment, BlockComment}
-use Rattle.schema_tokens.specs.declared.kinds.Form.{Form}
 use Rattle.schema_tokens.specs.declared.kinds.Piece.{Piece}
-use Rattle.schema_tokens.specs.declared.pieces.Reading.{Reading}
 
 -- a text ends at its first NUL
 unfoldable pub text_of : List ℕ → List ℕ
@@ -23,10 +21,14 @@ abbrev pub ArePieces : (text : List ℕ) (from : ℕ) → List Piece → (to : �
 ArePieces text from [] to = from ≡ to
 ArePieces text from (p ∷ ps) to = (from < p.to) × IsPieceAt text from p × ArePieces text p.to ps to
 
--- All pieces from the text's first byte on, up to where no form begins. There is one such reading of each text.
-pub record IsReading (bytes : List ℕ) (r : Reading) : Type 0 where
-  pub pieces : ArePieces (text_of bytes) 0 r.pieces.items r.end
-  pub ends : form (drop r.end (text_of bytes)) ≡ None
+-- All pieces from the text's first byte on, up to where no form begins.
+pub record IsReading (bytes : List ℕ) (ps : List Piece) (end : ℕ) : Type 0 where
+  pub pieces : ArePieces (text_of bytes) 0 ps end
+  pub stops : form (drop end (text_of bytes)) ≡ None
+
+-- no other pieces are a reading of these bytes
+abbrev pub IsOnlyReading : (bytes : List ℕ) → List Piece → (end : ℕ) → Type 0
+IsOnlyReading bytes ps end = (qs : List Piece) (to : ℕ) → IsReading bytes qs to → (qs ≡ ps) × (to ≡ end)
 
 -- no blank, comment or byte order mark
 abbrev pub is_token : Piece → Bool

@@ -1,6 +1,6 @@
 //! A text's tokens, one after another.
 ghost use Rattle.std.specs.Prelude.{◌≡◌, ◌==◌, ◌≤◌, not, length, take_while, filter, IfOk};
-ghost use Rattle.schema_tokens.specs.Pieces.{text_of, is_token, IsReading};
+ghost use Rattle.schema_tokens.specs.Pieces.{text_of, is_token, IsReading, IsOnlyReading};
 
 use crate::bytes::after;
 use crate::forms::form;
@@ -26,8 +26,10 @@ pub fn text_of(bytes: &[u8]) -> &[u8]
 }
 
 /// The tokens and spaces of a text. Each byte is read at most four times.
+#[tactic(auto, using(crate::proofs::Chain::only))]
 pub fn read(alloc: Global, bytes: &[u8]) -> Result<Reading, AllocError>
-    ensures { IfOk result (λ r. IsReading bytes.now r) }
+    ensures reading { IfOk result (λ r. IsReading bytes.now r.pieces.items r.end) }
+    ensures only { IfOk result (λ r. IsOnlyReading bytes.now r.pieces.items r.end) }
 {
     let text = text_of(bytes);
     let mut pieces = Vec::new(alloc);

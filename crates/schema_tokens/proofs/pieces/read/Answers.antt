@@ -1,5 +1,5 @@
 -- The piece that is pushed is the next one.
-use Rattle.std.proofs.Common.{◌≡◌, ℕ, ◌+◌, ◌<◌, ◌≤◌, length, drop, sym, refl, arith, List, [], ◌∷◌, ◌++◌}
+use Rattle.std.proofs.Common.{◌+◌, ◌<◌, ◌≤◌, length, sym, refl, arith}
 use Rattle.std.proofs.lemmas.Grind.{common_steps}
 use Rattle.schema_tokens.specs.Pieces.{IsPieceAt}
 use Rattle.schema_tokens.proofs.Chain.{one_more}
@@ -13,7 +13,7 @@ loop-found-preserved c =
     let reach : at + found.length ≤ length c.text_of-text.result.now = grind (arith, common_steps, fits, c.after.ensures, c.loop-found.invariant.within) in
     let next : at < at + found.length = omega (arith, fits.0) in
     let is_piece : IsPieceAt c.text_of-text.result.now at (record { kind = found.kind; from = at; to = at + found.length }) =
-      record { begins = refl; length = found.length; ends = refl; is_form = rw (sym c.after.ensures) (sym c.in-Some.ensures.value) } in
+    record { begins = refl; length = found.length; ends = refl; is_form = rw (sym c.after.ensures) (sym c.in-Some.ensures.value) } in
     record {
       within = reach;
       so_far = rw c.in_ok-push.ensures.items (one_more c.text_of-text.result.now 0 c.loop-found.pieces.items at (record { kind = found.kind; from = at; to = at + found.length }) c.loop-found.invariant.so_far next is_piece);

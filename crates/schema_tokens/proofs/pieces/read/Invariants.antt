@@ -1,4 +1,4 @@
-use Rattle.std.proofs.Common.{◌≡◌, ◌-◌, ◌≤◌, length}
+use Rattle.std.proofs.Common.{◌-◌, ◌≤◌, length}
 use Rattle.schema_tokens.specs.Pieces.{ArePieces}
 use Rattle.schema_tokens.proofs.pieces.read.Given as goal
 
