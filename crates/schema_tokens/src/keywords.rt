@@ -164,7 +164,7 @@ pub fn is_same_word(a: &[u8], b: &[u8]) -> bool
     a.eq_ignore_ascii_case(b)
 }
 
-fn is_listed(words: &[&[u8]], word: &[u8]) -> bool
+pub fn is_listed(words: &[&[u8]], word: &[u8]) -> bool
     ensures { result ≡ list_any (λ k. is_same_word k.now word.now) words.now }
 {
     words.iter().any(|k| is_same_word(k, word))

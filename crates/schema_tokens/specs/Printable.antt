@@ -1,0 +1,184 @@
+-- Which texts of a schema may be in a script that sqlite3 reads, and how (own). `ts` are a text's tokens.
+use Rattle.std.specs.Prelude.{◌≡◌, ℕ, ◌+◌, ◌-◌, ◌==◌, ◌||◌, ◌&&◌, Bool, true, false, not, if◌then◌else◌, nat_lt, nat_le, List, [], ◌∷◌, length, take, drop, slice_index, slice_get, codes, Option, Some, None}
+use Rattle.std.specs.List.{prefix_len, list_any}
+use Rattle.std.specs.Option.{option_map_or}
+use Rattle.schema_tokens.specs.Bytes.{is_blank, is_word_byte}
+use Rattle.schema_tokens.specs.Keywords.{is_same_word}
+use Rattle.schema_tokens.specs.Names.{name_of}
+use Rattle.schema_tokens.specs.Pieces.{is_token}
+use Rattle.schema_tokens.specs.Statements.{bytes_of, is_word, is_open, head_of, table_at}
+use Rattle.schema_tokens.specs.declared.kinds.Kind.{Kind}
+use Rattle.schema_tokens.specs.declared.kinds.Kind.TheVariants.{ByteOrderMark, Open, Close, Comma, Semicolon, Variable}
+use Rattle.schema_tokens.specs.declared.kinds.Piece.{Piece}
+use Rattle.schema_tokens.specs.declared.heads.Object.{Object}
+use Rattle.schema_tokens.specs.declared.heads.Object.TheVariants.{Table, Virtual, Index, View, Trigger}
+use Rattle.schema_tokens.specs.declared.heads.Head.{Head}
+use Rattle.schema_tokens.specs.declared.printable.Row.{Row}
+use Rattle.schema_tokens.specs.declared.printable.Why.{Why}
+use Rattle.schema_tokens.specs.declared.printable.Why.TheVariants.{NotWhole, NotCreate, OtherInRow, NotPlain, ReservedName, SemicolonInside, HasVariable, UnknownModule, ReturnInQuotes, EndsInComment, EndsSafeMode}
+use Rattle.schema_tokens.specs.declared.printable.TheConstants.{MODULES, UNSAFE}
+
+abbrev pub is_semicolon_kind : Kind → Bool
+is_semicolon_kind Semicolon = true
+is_semicolon_kind _ = false
+
+abbrev pub is_variable_kind : Kind → Bool
+is_variable_kind Variable = true
+is_variable_kind _ = false
+
+-- the tokens of a statement: all but a `;` that is the last
+unfoldable pub statement : List Piece → List Piece
+statement ts =
+    if option_map_or (λ p. is_semicolon_kind p.kind) (slice_get ts (length ts - 1)) false then take (length ts - 1) ts else ts
+
+-- how many tokens there are up to the first `;` that END directly follows, and with it
+abbrev pub end_at : (text : List ℕ) → List Piece → ℕ
+end_at text [] = 0
+end_at text (p ∷ ts) = if is_semicolon_kind p.kind && is_word text ts 0 (codes "END") then 1 else 1 + end_at text ts
+
+-- A trigger has a BEGIN before its first `;`, and its first END after a `;` is its last token.
+unfoldable pub has_body : (text : List ℕ) → List Piece → Bool
+has_body text ts =
+    nat_lt (prefix_len (λ p. not (is_same_word (codes "BEGIN") (bytes_of text p))) ts) (prefix_len (λ p. not (is_semicolon_kind p.kind)) ts)
+    && end_at text ts + 1 == length ts
+
+-- a trigger with its body, or another object without `;`
+abbrev pub is_one_statement : (text : List ℕ) → Object → List Piece → Bool
+is_one_statement text Trigger ts = has_body text ts
+is_one_statement text _ ts = not (list_any (λ p. is_semicolon_kind p.kind) ts)
+
+-- how deep in parentheses the token after this one is
+abbrev pub deeper : Kind → (depth : ℕ) → ℕ
+deeper Open depth = depth + 1
+deeper Close depth = depth - 1
+deeper _ depth = depth
+
+abbrev pub separates : Kind → (depth : ℕ) → ℕ
+separates Comma depth = if depth == 1 then 1 else 0
+separates _ depth = 0
+
+-- how many commas are in one pair of parentheses and no other
+abbrev pub commas : (depth : ℕ) → List Piece → ℕ
+commas depth [] = 0
+commas depth (p ∷ ts) = separates p.kind depth + commas (deeper p.kind depth) ts
+
+-- the name that a token is; none past the last
+unfoldable pub name_at : (text : List ℕ) → List Piece → (at : ℕ) → List ℕ
+name_at text ts at = option_map_or (λ p. name_of (bytes_of text p)) (slice_get ts at) []
+
+-- one of the modules that are part of SQLite, with at most 900 arguments
+unfoldable pub has_module : (text : List ℕ) → List Piece → (name : ℕ) → Bool
+has_module text ts name = list_any (λ m. is_same_word m.now (name_at text ts (name + 2))) MODULES && nat_le (commas 0 ts) 899
+
+-- some token has a CR
+unfoldable pub has_return : (text : List ℕ) → List Piece → Bool
+has_return text ts = list_any (λ p. list_any (λ b. b == 13) (bytes_of text p)) ts
+
+-- the name of a function that `-safe` refuses, before `(`
+abbrev pub is_unsafe_call : (token : List ℕ) (rest : List Piece) → Bool
+is_unsafe_call token rest = is_open rest 0 && list_any (λ w. is_same_word w.now (name_of token)) UNSAFE
+
+abbrev pub ends_safe_mode : (text : List ℕ) → List Piece → Bool
+ends_safe_mode text [] = false
+ends_safe_mode text (p ∷ ts) = is_unsafe_call (bytes_of text p) ts || ends_safe_mode text ts
+
+-- what sqlite_schema's row says of an object of this kind
+abbrev pub row_word : Object → List ℕ
+row_word Table = codes "table"
+row_word Virtual = codes "table"
+row_word Index = codes "index"
+row_word View = codes "view"
+row_word Trigger = codes "trigger"
+
+-- kind, name and table are those of the row, in any case
+unfoldable pub is_of_row : (text : List ℕ) → List Piece → Row → Head → (table : ℕ) → Bool
+is_of_row text ts row h table =
+    is_same_word (row_word h.object) row.kind.now && is_same_word row.name.now (name_at text ts h.name)
+    && is_same_word row.table.now (name_at text ts table)
+
+abbrev pub runs_at_insert : Object → Bool
+runs_at_insert Table = true
+runs_at_insert Index = true
+runs_at_insert _ = false
+
+abbrev pub is_virtual : Object → Bool
+is_virtual Virtual = true
+is_virtual _ = false
+
+-- where the last token ends
+unfoldable pub last_byte : List Piece → ℕ
+last_byte ts = option_map_or (λ p. p.to) (slice_get ts (length ts - 1)) 0
+
+-- its last two bytes are `/*`
+abbrev pub ends_in_comment : (text : List ℕ) → (last : ℕ) → Bool
+ends_in_comment text last = slice_index text (last - 2) == 47 && slice_index text (last - 1) == 42
+
+-- what the bytes of a text are refused for that makes no virtual table
+unfoldable pub refused_bytes : (text : List ℕ) → List Piece → Object → Option Why
+refused_bytes text ts object =
+    if has_return text ts then Some ReturnInQuotes
+    else (if ends_in_comment text (last_byte ts) then Some EndsInComment
+    else (if runs_at_insert object && ends_safe_mode text ts then Some EndsSafeMode
+    else None))
+
+unfoldable pub refused_object : (text : List ℕ) → List Piece → Head → Option Why
+refused_object text ts h =
+    if is_virtual h.object then (if has_module text ts h.name then None else Some UnknownModule)
+    else refused_bytes text ts h.object
+
+-- what a statement is refused for, whose head and whose table's name these are
+unfoldable pub refused_statement : (text : List ℕ) → List Piece → Row → Head → (table : ℕ) → Option Why
+refused_statement text ts row h table =
+    if not (is_of_row text ts row h table) then Some OtherInRow
+    else (if h.temporary || h.guarded || h.qualified then Some NotPlain
+    else (if is_same_word (codes "sqlite_") (take 7 (name_at text ts h.name)) then Some ReservedName
+    else (if not (is_one_statement text h.object ts) then Some SemicolonInside
+    else (if list_any (λ p. is_variable_kind p.kind) ts then Some HasVariable
+    else refused_object text ts h))))
+
+abbrev pub refused_table : (text : List ℕ) → List Piece → Row → Head → Option ℕ → Option Why
+refused_table text ts row h None = Some NotCreate
+refused_table text ts row h (Some table) = refused_statement text ts row h table
+
+abbrev pub refused_head : (text : List ℕ) → List Piece → Row → Option Head → Option Why
+refused_head text ts row None = Some NotCreate
+refused_head text ts row (Some h) = refused_table text ts row h (table_at text ts h.object h.name)
+
+-- What a text is refused for whose tokens these are, and which is read as far as `end`: it has to begin with its first
+-- token, and to be read to its end. The first reason that holds.
+unfoldable pub refused : (text : List ℕ) → List Piece → (end : ℕ) → Row → Option Why
+refused text ts end row =
+    if option_map_or (λ p. p.from == 0) (slice_get ts 0) false && end == length text
+    then refused_head text (statement ts) row (head_of text (statement ts))
+    else Some NotWhole
+
+-- a blank for the shell's lines, LF aside
+unfoldable pub is_line_blank : ℕ → Bool
+is_line_blank b = (is_blank b && not (b == 10)) || nat_le 128 b
+
+-- what the shell takes for `;` if it is alone on a line: `/`, but no `/*`, or `go`, but no longer word
+unfoldable pub is_terminator : List ℕ → Bool
+is_terminator s =
+    let rest = drop (prefix_len is_line_blank s) s in
+    (slice_index rest 0 == 47 && not (slice_index rest 1 == 42))
+    || ((slice_index rest 0 == 103 || slice_index rest 0 == 71)
+    && (slice_index rest 1 == 111 || slice_index rest 1 == 79)
+    && not (is_word_byte (slice_index rest 2)))
+
+-- whether one follows some LF
+abbrev pub has_terminator : List ℕ → Bool
+has_terminator [] = false
+has_terminator (b ∷ s) = (b == 10 && is_terminator s) || has_terminator s
+
+abbrev pub is_mark_kind : Kind → Bool
+is_mark_kind ByteOrderMark = true
+is_mark_kind _ = false
+
+-- a space with VT or CR, or a byte order mark
+unfoldable pub is_odd_space : (text : List ℕ) → Piece → Bool
+is_odd_space text p = not (is_token p) && (is_mark_kind p.kind || list_any (λ b. b == 11 || b == 13) (bytes_of text p))
+
+-- No line of the statement is taken for `;`, and between its tokens there is no odd space.
+unfoldable pub is_plain : (text : List ℕ) → List Piece → (last : ℕ) → Bool
+is_plain text ps last =
+    not (has_terminator (take last text)) && not (list_any (λ p. nat_le p.to last && is_odd_space text p) ps)
