@@ -1,11 +1,11 @@
 -- Which texts of a schema may be in a script that sqlite3 reads, and how (own). `ts` are a text's tokens.
-use Rattle.std.specs.Prelude.{◌≡◌, ℕ, ◌+◌, ◌-◌, ◌==◌, ◌||◌, ◌&&◌, Bool, true, false, not, if◌then◌else◌, nat_lt, nat_le, List, [], ◌∷◌, length, take, drop, slice_index, slice_get, codes, Option, Some, None}
-use Rattle.std.specs.List.{prefix_len, list_any}
+use Rattle.std.specs.Prelude.{◌≡◌, ℕ, ◌+◌, ◌-◌, ◌==◌, ◌||◌, ◌&&◌, Bool, true, false, not, if◌then◌else◌, nat_lt, nat_le, List, [], ◌∷◌, length, take, drop, slice_index, slice_get, filter, bytes_eq, codes, ◌⊎◌, Option, Some, None}
+use Rattle.std.specs.List.{prefix_len, list_any, list_all}
 use Rattle.std.specs.Option.{option_map_or}
 use Rattle.schema_tokens.specs.Bytes.{is_blank, is_word_byte}
 use Rattle.schema_tokens.specs.Keywords.{is_same_word}
 use Rattle.schema_tokens.specs.Names.{name_of}
-use Rattle.schema_tokens.specs.Pieces.{is_token}
+use Rattle.schema_tokens.specs.Pieces.{is_token, IsReading}
 use Rattle.schema_tokens.specs.Statements.{bytes_of, is_word, is_open, head_of, table_at}
 use Rattle.schema_tokens.specs.declared.kinds.Kind.{Kind}
 use Rattle.schema_tokens.specs.declared.kinds.Kind.TheVariants.{ByteOrderMark, Open, Close, Comma, Semicolon, Variable}
@@ -15,7 +15,9 @@ use Rattle.schema_tokens.specs.declared.heads.Object.TheVariants.{Table, Virtual
 use Rattle.schema_tokens.specs.declared.heads.Head.{Head}
 use Rattle.schema_tokens.specs.declared.printable.Row.{Row}
 use Rattle.schema_tokens.specs.declared.printable.Why.{Why}
-use Rattle.schema_tokens.specs.declared.printable.Why.TheVariants.{NotWhole, NotCreate, OtherInRow, NotPlain, ReservedName, SemicolonInside, HasVariable, UnknownModule, ReturnInQuotes, EndsInComment, EndsSafeMode}
+use Rattle.schema_tokens.specs.declared.printable.Why.TheVariants.{NotWhole, NotCreate, OtherInRow, NotPlain, ReservedName, SemicolonInside, HasVariable, UnknownModule, ReturnInQuotes, EndsInComment, EndsSafeMode, NotSpaced}
+use Rattle.schema_tokens.specs.declared.printable.Printed.{Printed}
+use Rattle.schema_tokens.specs.declared.printable.Printed.TheVariants.{AsItIs, Spaced, RowOfSchema, Comment}
 use Rattle.schema_tokens.specs.declared.printable.TheConstants.{MODULES, UNSAFE}
 
 abbrev pub is_semicolon_kind : Kind → Bool
@@ -182,3 +184,32 @@ is_odd_space text p = not (is_token p) && (is_mark_kind p.kind || list_any (λ b
 unfoldable pub is_plain : (text : List ℕ) → List Piece → (last : ℕ) → Bool
 is_plain text ps last =
     not (has_terminator (take last text)) && not (list_any (λ p. nat_le p.to last && is_odd_space text p) ps)
+
+abbrev pub makes_virtual_table : Option Head → Bool
+makes_virtual_table None = false
+makes_virtual_table (Some h) = is_virtual h.object
+
+-- Bytes with the tokens of a statement, of the same kinds, at the same places, with the same bytes. They are plain.
+pub record IsSpacing (text : List ℕ) (ts : List Piece) (spaced : List ℕ) : Type 0 where
+  pub pieces : List Piece
+  pub is_reading : IsReading spaced pieces (length spaced)
+  pub same_tokens : filter is_token pieces ≡ ts
+  pub same_bytes : list_all (λ p. bytes_eq (bytes_of spaced p) (bytes_of text p)) ts ≡ true
+  pub plain : is_plain spaced pieces (length spaced) ≡ true
+
+-- A text isn't refused. Whether it makes a virtual table, and whether it is plain.
+pub record IsAccepted (text : List ℕ) (ps : List Piece) (end : ℕ) (row : Row) (virtual plain : Bool) : Type 0 where
+  pub not_refused : refused text (filter is_token ps) end row ≡ None
+  pub is_virtual_table : makes_virtual_table (head_of text (statement (filter is_token ps))) ≡ virtual
+  pub is_plain_text : is_plain text ps (last_byte (statement (filter is_token ps))) ≡ plain
+
+-- How a text is printed that is read as these pieces up to `end`: as a comment, if it is refused, or if it isn't plain and
+-- no other blanks were found for it; as a row, if it makes a virtual table; as it is, if it is plain; or spaced.
+abbrev pub IsPrintedOf : (text : List ℕ) (ps : List Piece) (end : ℕ) → Row → Printed → Type 0
+IsPrintedOf text ps end row (Comment why) = (refused text (filter is_token ps) end row ≡ Some why) ⊎ ((why ≡ NotSpaced) × IsAccepted text ps end row false false)
+IsPrintedOf text ps end row RowOfSchema = (plain : Bool) × IsAccepted text ps end row true plain
+IsPrintedOf text ps end row AsItIs = IsAccepted text ps end row false true
+IsPrintedOf text ps end row (Spaced v) = IsAccepted text ps end row false false × IsSpacing text (statement (filter is_token ps)) v.items
+
+abbrev pub IsPrinted : (text : List ℕ) → Row → Printed → Type 0
+IsPrinted text row p = (ps : List Piece) (end : ℕ) → IsReading text ps end → IsPrintedOf text ps end row p

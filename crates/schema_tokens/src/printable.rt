@@ -1,10 +1,10 @@
 //! Which texts of a schema may be in a script, and how.
-ghost use Rattle.std.specs.Prelude.{◌≡◌, ◌+◌, ◌<◌, ◌≤◌, ◌&&◌, false, IfOk, length, not, ◌||◌, ◌==◌, slice_index, slice_get, take};
+ghost use Rattle.std.specs.Prelude.{◌≡◌, ◌↔◌, ◌+◌, ◌<◌, ◌≤◌, ◌&&◌, false, true, filter, nat_le, codes, bytes_eq, IsTrue, IfSome, IfOk, length, not, ◌||◌, ◌==◌, slice_index, slice_get, take};
 ghost use Rattle.std.specs.List.{list_any, prefix_len};
 ghost use Rattle.std.specs.Option.{option_map_or};
 ghost use Rattle.schema_tokens.specs.Keywords.{is_same_word};
-ghost use Rattle.schema_tokens.specs.Statements.{bytes_of};
-ghost use Rattle.schema_tokens.specs.Printable.{is_semicolon_kind, is_variable_kind, statement, end_at, has_body, is_one_statement, deeper, separates, commas, name_at, has_module, has_return, is_unsafe_call, ends_safe_mode, row_word, is_of_row, runs_at_insert, is_virtual, ends_in_comment, last_byte, refused_bytes, refused_object, refused_statement, refused, is_line_blank, is_terminator, has_terminator, is_odd_space, is_plain};
+ghost use Rattle.schema_tokens.specs.Statements.{bytes_of, head_of, table_at};
+ghost use Rattle.schema_tokens.specs.Printable.{is_semicolon_kind, is_variable_kind, statement, end_at, has_body, is_one_statement, deeper, separates, commas, name_at, has_module, has_return, is_unsafe_call, ends_safe_mode, row_word, is_of_row, runs_at_insert, is_virtual, ends_in_comment, last_byte, refused_bytes, refused_object, refused_statement, refused_head, refused, makes_virtual_table, IsSpacing, IsPrintedOf, IsPrinted, is_line_blank, is_terminator, has_terminator, is_odd_space, is_plain};
 
 use crate::bytes::{after, byte_at, is_blank, is_word_byte};
 use crate::heads::{
@@ -68,6 +68,21 @@ pub enum Why {
     EndsInComment,
     /// It calls a function that ends `sqlite3 -safe`.
     EndsSafeMode,
+    /// A line of it ends a statement in the shell, or it has blanks that the shell takes for none; others don't mend it.
+    NotSpaced,
+}
+
+/// How a text is printed.
+#[derive(Debug, Drop)]
+pub enum Printed {
+    /// Its bytes up to its last token.
+    AsItIs,
+    /// These bytes, which have the same tokens.
+    Spaced(Vec<u8>),
+    /// A row of sqlite_schema, since it makes a virtual table.
+    RowOfSchema,
+    /// A comment.
+    Comment(Why),
 }
 
 fn is_semicolon(piece: &Piece) -> bool
@@ -373,4 +388,110 @@ fn refused_object(
     } else {
         refused_bytes(alloc, text, tokens, head.object)
     }
+}
+
+#[tactic(auto, unfolding(crate::specs::Printable::refused_statement))]
+fn refused_statement(
+    alloc: Global,
+    text: &[u8],
+    tokens: &[Piece],
+    row: Row<'_>,
+    head: Head,
+    table: usize,
+) -> Result<Option<Why>, AllocError>
+    requires { head.name < 10 }
+    ensures { IfOk result (λ r. r ≡ refused_statement text.now tokens.now row.entry head table) }
+{
+    let same = is_of_row(alloc, text, tokens, row, head, table)?;
+    let name = name_at(alloc, text, tokens, head.name)?;
+    let object = refused_object(alloc, text, tokens, head)?;
+    Ok(if !same {
+        Some(Why::OtherInRow)
+    } else if head.temporary || head.guarded || head.qualified {
+        Some(Why::NotPlain)
+    } else if is_reserved(name.as_slice()) {
+        Some(Why::ReservedName)
+    } else if !is_one_statement(text, head.object, tokens) {
+        Some(Why::SemicolonInside)
+    } else if has_variable(tokens) {
+        Some(Why::HasVariable)
+    } else {
+        object
+    })
+}
+
+fn is_reserved(name: &[u8]) -> bool
+    ensures { result ≡ is_same_word (codes "sqlite_") (take 7 name.now) }
+{
+    is_same_word(b"sqlite_", &name[..name.len().min(7)])
+}
+
+fn refused_head(
+    alloc: Global,
+    text: &[u8],
+    tokens: &[Piece],
+    row: Row<'_>,
+) -> Result<Option<Why>, AllocError>
+    ensures { IfOk result (λ r. r ≡ refused_head text.now tokens.now row.entry (head_of text.now tokens.now)) }
+{
+    match head_of(text, tokens) {
+        None => Ok(Some(Why::NotCreate)),
+        Some(head) => match table_at(text, tokens, head.object, head.name) {
+            None => Ok(Some(Why::NotCreate)),
+            Some(table) => refused_statement(alloc, text, tokens, row, head, table),
+        },
+    }
+}
+
+fn begins_at_once(tokens: &[Piece]) -> bool
+    ensures { result ≡ option_map_or (λ p. p.from == 0) (slice_get tokens.now 0) false }
+{
+    match tokens.get(0) {
+        Some(token) => token.from == 0,
+        None => false,
+    }
+}
+
+#[tactic(auto, unfolding(crate::specs::Printable::refused))]
+fn refused(
+    alloc: Global,
+    text: &[u8],
+    tokens: &[Piece],
+    end: usize,
+    row: Row<'_>,
+) -> Result<Option<Why>, AllocError>
+    ensures { IfOk result (λ r. r ≡ refused text.now tokens.now end row.entry) }
+{
+    if begins_at_once(tokens) && end == text.len() {
+        refused_head(alloc, text, statement(tokens), row)
+    } else {
+        Ok(Some(Why::NotWhole))
+    }
+}
+
+fn has_odd_blank(bytes: &[u8]) -> bool
+    ensures { result ≡ list_any (λ b. b == 11 || b == 13) bytes.now }
+{
+    bytes.iter().any(|b| *b == 11 || *b == b'\r')
+}
+
+#[tactic(auto, unfolding(crate::specs::Printable::is_odd_space))]
+fn is_odd_space(text: &[u8], piece: &Piece) -> bool
+    ensures { result ≡ is_odd_space text.now piece.now }
+{
+    !is_token(piece)
+        && (matches!(piece.kind, Kind::ByteOrderMark) || has_odd_blank(bytes_of(text, piece)))
+}
+
+fn has_odd_space(text: &[u8], pieces: &[Piece], last: usize) -> bool
+    ensures { result ≡ list_any (λ p. nat_le p.to last && is_odd_space text.now p) pieces.now }
+{
+    pieces.iter().any(|p| p.to <= last && is_odd_space(text, p))
+}
+
+#[tactic(auto, unfolding(crate::specs::Printable::is_plain))]
+fn is_plain(text: &[u8], pieces: &[Piece], last: usize) -> bool
+    ensures { result ≡ is_plain text.now pieces.now last }
+{
+    !has_terminator(&text[..last.min(text.len())]) && !has_odd_space(text, pieces, last)
 }
