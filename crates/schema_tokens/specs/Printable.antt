@@ -13,12 +13,12 @@ use Rattle.schema_tokens.specs.declared.kinds.Piece.{Piece}
 use Rattle.schema_tokens.specs.declared.heads.Object.{Object}
 use Rattle.schema_tokens.specs.declared.heads.Object.TheVariants.{Table, Virtual, Index, View, Trigger}
 use Rattle.schema_tokens.specs.declared.heads.Head.{Head}
-use Rattle.schema_tokens.specs.declared.printable.Row.{Row}
-use Rattle.schema_tokens.specs.declared.printable.Why.{Why}
-use Rattle.schema_tokens.specs.declared.printable.Why.TheVariants.{NotWhole, NotCreate, OtherInRow, NotPlain, ReservedName, SemicolonInside, HasVariable, UnknownModule, ReturnInQuotes, EndsInComment, EndsSafeMode, NotSpaced}
-use Rattle.schema_tokens.specs.declared.printable.Printed.{Printed}
-use Rattle.schema_tokens.specs.declared.printable.Printed.TheVariants.{AsItIs, Spaced, RowOfSchema, Comment}
-use Rattle.schema_tokens.specs.declared.printable.TheConstants.{MODULES, UNSAFE}
+use Rattle.schema_tokens.specs.declared.refusals.Row.{Row}
+use Rattle.schema_tokens.specs.declared.refusals.Why.{Why}
+use Rattle.schema_tokens.specs.declared.refusals.Why.TheVariants.{NotWhole, NotCreate, OtherInRow, NotPlain, ReservedName, SemicolonInside, HasVariable, UnknownModule, ReturnInQuotes, EndsInComment, EndsSafeMode, NotSpaced}
+use Rattle.schema_tokens.specs.declared.refusals.Printed.{Printed}
+use Rattle.schema_tokens.specs.declared.refusals.Printed.TheVariants.{AsItIs, Spaced, RowOfSchema, Comment}
+use Rattle.schema_tokens.specs.declared.refusals.TheConstants.{MODULES, UNSAFE}
 
 abbrev pub is_semicolon_kind : Kind → Bool
 is_semicolon_kind Semicolon = true

@@ -10,9 +10,12 @@ mod lengths;
 mod names;
 mod numbers;
 mod pieces;
-mod printable;
+mod refusals;
 mod runs;
+mod spaced;
 
 pub use heads::{Head, Object, bytes_of, head_of, is_name, is_open, is_word, table_at};
 pub use kinds::{Form, Kind, Piece};
 pub use pieces::{Reading, is_token, read, text_of, tokens};
+pub use refusals::{Printed, Row, Why};
+pub use spaced::printable;

@@ -4,7 +4,7 @@ ghost use Rattle.std.specs.List.{list_any, prefix_len};
 ghost use Rattle.std.specs.Option.{option_map_or};
 ghost use Rattle.schema_tokens.specs.Keywords.{is_same_word};
 ghost use Rattle.schema_tokens.specs.Statements.{bytes_of, head_of, table_at};
-ghost use Rattle.schema_tokens.specs.Printable.{is_semicolon_kind, is_variable_kind, statement, end_at, has_body, is_one_statement, deeper, separates, commas, name_at, has_module, has_return, is_unsafe_call, ends_safe_mode, row_word, is_of_row, runs_at_insert, is_virtual, ends_in_comment, last_byte, refused_bytes, refused_object, refused_statement, refused_head, refused, makes_virtual_table, IsSpacing, IsPrintedOf, IsPrinted, is_line_blank, is_terminator, has_terminator, is_odd_space, is_plain};
+ghost use Rattle.schema_tokens.specs.Printable.{is_semicolon_kind, is_variable_kind, statement, end_at, has_body, is_one_statement, deeper, separates, commas, name_at, has_module, has_return, is_unsafe_call, ends_safe_mode, row_word, is_of_row, runs_at_insert, is_virtual, ends_in_comment, last_byte, refused_bytes, refused_object, refused_statement, refused_head, refused, is_line_blank, is_terminator, has_terminator, is_odd_space, is_plain};
 
 use crate::bytes::{after, byte_at, is_blank, is_word_byte};
 use crate::heads::{
@@ -115,7 +115,7 @@ fn is_semicolon_at(tokens: &[Piece], at: usize) -> bool
 
 /// The tokens without a `;` that is the last.
 #[tactic(auto, unfolding(crate::specs::Printable::statement))]
-fn statement(tokens: &[Piece]) -> &[Piece]
+pub fn statement(tokens: &[Piece]) -> &[Piece]
     ensures { result.now ≡ statement tokens.now }
 {
     let last = tokens.len().saturating_sub(1);
@@ -266,7 +266,7 @@ fn line_blanks(s: &[u8]) -> usize
 
 /// Whether the shell takes what comes next for `;` if it is alone on its line.
 #[tactic(auto, unfolding(crate::specs::Printable::is_terminator))]
-fn is_terminator(s: &[u8]) -> bool
+pub fn is_terminator(s: &[u8]) -> bool
     ensures { result ≡ is_terminator s.now }
 {
     let rest = after(s, line_blanks(s));
@@ -288,7 +288,7 @@ fn has_terminator(text: &[u8]) -> bool
 }
 
 #[tactic(auto, unfolding(crate::specs::Printable::last_byte))]
-fn last_byte(tokens: &[Piece]) -> usize
+pub fn last_byte(tokens: &[Piece]) -> usize
     ensures { result ≡ last_byte tokens.now }
 {
     match tokens.get(tokens.len().saturating_sub(1)) {
@@ -335,7 +335,7 @@ fn runs_at_insert(object: Object) -> bool
     matches!(object, Object::Table | Object::Index)
 }
 
-fn is_virtual(object: Object) -> bool
+pub fn is_virtual(object: Object) -> bool
     ensures { result ≡ is_virtual object }
 {
     matches!(object, Object::Virtual)
@@ -453,7 +453,7 @@ fn begins_at_once(tokens: &[Piece]) -> bool
 }
 
 #[tactic(auto, unfolding(crate::specs::Printable::refused))]
-fn refused(
+pub fn refused(
     alloc: Global,
     text: &[u8],
     tokens: &[Piece],
@@ -490,7 +490,7 @@ fn has_odd_space(text: &[u8], pieces: &[Piece], last: usize) -> bool
 }
 
 #[tactic(auto, unfolding(crate::specs::Printable::is_plain))]
-fn is_plain(text: &[u8], pieces: &[Piece], last: usize) -> bool
+pub fn is_plain(text: &[u8], pieces: &[Piece], last: usize) -> bool
     ensures { result ≡ is_plain text.now pieces.now last }
 {
     !has_terminator(&text[..last.min(text.len())]) && !has_odd_space(text, pieces, last)
