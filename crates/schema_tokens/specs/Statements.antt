@@ -1,6 +1,6 @@
 -- What a CREATE statement begins with (parse.y; lang_createtable, lang_createindex, lang_createview, lang_createtrigger,
 -- lang_createvtab). `ts` are the tokens of a text, without its spaces.
-use Rattle.std.specs.Prelude.{ℕ, ◌+◌, ◌-◌, ◌||◌, ◌&&◌, Bool, true, false, not, if◌then◌else◌, List, [], ◌∷◌, take, drop, slice_get, codes, Option, Some, None}
+use Rattle.std.specs.Prelude.{ℕ, ◌+◌, ◌-◌, ◌||◌, ◌&&◌, Bool, true, false, not, if◌then◌else◌, List, take, drop, slice_get, codes, Option, Some, None}
 use Rattle.std.specs.List.{position_or_len}
 use Rattle.std.specs.Option.{option_map, option_map_or}
 use Rattle.schema_tokens.specs.Keywords.{is_same_word}

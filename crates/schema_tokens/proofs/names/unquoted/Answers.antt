@@ -1,5 +1,5 @@
 -- A byte that isn't the quote is a byte of the name.
-use Rattle.std.proofs.Common.{◌≡◌, ◌+◌, ◌++◌, [], ◌∷◌, drop, get_or, sym, ◌∙◌, ap, append_assoc, arith}
+use Rattle.std.proofs.Common.{◌+◌, ◌++◌, [], ◌∷◌, drop, get_or, sym, ◌∙◌, ap, append_assoc, arith}
 use Rattle.schema_tokens.specs.Names.{unquoted}
 use Rattle.schema_tokens.proofs.Steps.{unquoted_other}
 use Rattle.schema_tokens.proofs.names.unquoted.Goals as goal
