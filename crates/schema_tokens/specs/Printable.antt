@@ -8,14 +8,14 @@ use Rattle.schema_tokens.specs.Names.{name_of}
 use Rattle.schema_tokens.specs.Pieces.{is_token, IsReading}
 use Rattle.schema_tokens.specs.Statements.{bytes_of, is_word, is_open, head_of, table_at}
 use Rattle.schema_tokens.specs.declared.kinds.Kind.{Kind}
-use Rattle.schema_tokens.specs.declared.kinds.Kind.TheVariants.{ByteOrderMark, Open, Close, Comma, Semicolon, Variable}
+use Rattle.schema_tokens.specs.declared.kinds.Kind.TheVariants.{Blanks, ByteOrderMark, Open, Close, Comma, Semicolon, Variable}
 use Rattle.schema_tokens.specs.declared.kinds.Piece.{Piece}
 use Rattle.schema_tokens.specs.declared.heads.Object.{Object}
 use Rattle.schema_tokens.specs.declared.heads.Object.TheVariants.{Table, Virtual, Index, View, Trigger}
 use Rattle.schema_tokens.specs.declared.heads.Head.{Head}
 use Rattle.schema_tokens.specs.declared.refusals.Row.{Row}
 use Rattle.schema_tokens.specs.declared.refusals.Why.{Why}
-use Rattle.schema_tokens.specs.declared.refusals.Why.TheVariants.{NotWhole, NotCreate, OtherInRow, NotPlain, ReservedName, SemicolonInside, HasVariable, UnknownModule, ReturnInQuotes, EndsInComment, EndsSafeMode, NotSpaced}
+use Rattle.schema_tokens.specs.declared.refusals.Why.TheVariants.{NotWhole, NotCreate, OtherInRow, NotPlain, ReservedName, SemicolonInside, NotComplete, HasVariable, UnknownModule, ReturnInQuotes, EndsInComment, EndsSafeMode, NotSpaced}
 use Rattle.schema_tokens.specs.declared.refusals.Printed.{Printed}
 use Rattle.schema_tokens.specs.declared.refusals.Printed.TheVariants.{AsItIs, Spaced, RowOfSchema, Comment}
 use Rattle.schema_tokens.specs.declared.refusals.TheConstants.{MODULES, UNSAFE}
@@ -63,6 +63,31 @@ separates _ depth = 0
 abbrev pub commas : (depth : ℕ) → List Piece → ℕ
 commas depth [] = 0
 commas depth (p ∷ ts) = separates p.kind depth + commas (deeper p.kind depth) ts
+
+-- How many tokens there are up to the `)` that closes the `(` at the front, and with it. More than there are, if none does.
+abbrev pub closing_at : (depth : ℕ) → List Piece → ℕ
+closing_at depth [] = 1
+closing_at depth (p ∷ ts) = if deeper p.kind depth == 0 then 1 else 1 + closing_at (deeper p.kind depth) ts
+
+-- a word of a table's options, or a comma
+unfoldable pub is_option : (text : List ℕ) → Piece → Bool
+is_option text p =
+    is_same_word (codes ",") (bytes_of text p) || is_same_word (codes "WITHOUT") (bytes_of text p)
+    || is_same_word (codes "ROWID") (bytes_of text p) || is_same_word (codes "STRICT") (bytes_of text p)
+
+-- What follows the name of a table: `(` .. `)` and options; of a virtual table, after USING and its module: nothing, or
+-- `(` .. `)`; of an index, after ON and its table: `(` .. `)`, and nothing or WHERE.
+unfoldable pub is_complete : (text : List ℕ) → List Piece → Object → (name : ℕ) → Bool
+is_complete text ts Table name =
+    let end = name + 1 + closing_at 0 (drop (name + 1) ts) in
+    nat_le end (length ts) && list_all (λ p. is_option text p) (drop end ts)
+is_complete text ts Virtual name =
+    length ts == name + 3 || (is_open ts (name + 3) && name + 3 + closing_at 0 (drop (name + 3) ts) == length ts)
+is_complete text ts Index name =
+    let end = name + 3 + closing_at 0 (drop (name + 3) ts) in
+    end == length ts || is_word text ts end (codes "WHERE")
+is_complete text ts View name = true
+is_complete text ts Trigger name = true
 
 -- the name that a token is; none past the last
 unfoldable pub name_at : (text : List ℕ) → List Piece → (at : ℕ) → List ℕ
@@ -135,8 +160,9 @@ refused_statement text ts row h table =
     else (if h.temporary || h.guarded || h.qualified then Some NotPlain
     else (if is_same_word (codes "sqlite_") (take 7 (name_at text ts h.name)) then Some ReservedName
     else (if not (is_one_statement text h.object ts) then Some SemicolonInside
+    else (if not (is_complete text ts h.object h.name) then Some NotComplete
     else (if list_any (λ p. is_variable_kind p.kind) ts then Some HasVariable
-    else refused_object text ts h))))
+    else refused_object text ts h)))))
 
 abbrev pub refused_table : (text : List ℕ) → List Piece → Row → Head → Option ℕ → Option Why
 refused_table text ts row h None = Some NotCreate
@@ -176,14 +202,25 @@ abbrev pub is_mark_kind : Kind → Bool
 is_mark_kind ByteOrderMark = true
 is_mark_kind _ = false
 
--- a space with VT or CR, or a byte order mark
-unfoldable pub is_odd_space : (text : List ℕ) → Piece → Bool
-is_odd_space text p = not (is_token p) && (is_mark_kind p.kind || list_any (λ b. b == 11 || b == 13) (bytes_of text p))
+abbrev pub is_blanks_kind : Kind → Bool
+is_blanks_kind Blanks = true
+is_blanks_kind _ = false
 
--- No line of the statement is taken for `;`, and between its tokens there is no odd space.
+-- one follows an LF of this space
+unfoldable pub is_before_terminator : (text : List ℕ) → Piece → Bool
+is_before_terminator text p =
+    has_terminator (bytes_of text p)
+    || (is_blanks_kind p.kind && list_any (λ b. b == 10) (bytes_of text p) && is_terminator (drop p.to text))
+
+-- a space with VT or CR, a byte order mark, or one with an LF that a terminator follows
+unfoldable pub is_odd_space : (text : List ℕ) → Piece → Bool
+is_odd_space text p =
+    not (is_token p)
+    && (is_mark_kind p.kind || list_any (λ b. b == 11 || b == 13) (bytes_of text p) || is_before_terminator text p)
+
+-- Up to its last byte a statement has no odd space.
 unfoldable pub is_plain : (text : List ℕ) → List Piece → (last : ℕ) → Bool
-is_plain text ps last =
-    not (has_terminator (take last text)) && not (list_any (λ p. nat_le p.to last && is_odd_space text p) ps)
+is_plain text ps last = not (list_any (λ p. nat_le p.to last && is_odd_space (take last text) p) ps)
 
 abbrev pub makes_virtual_table : Option Head → Bool
 makes_virtual_table None = false

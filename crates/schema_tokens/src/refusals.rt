@@ -1,10 +1,10 @@
 //! Which texts of a schema may be in a script, and how.
-ghost use Rattle.std.specs.Prelude.{◌≡◌, ◌↔◌, ◌+◌, ◌<◌, ◌≤◌, ◌&&◌, false, true, filter, nat_le, codes, bytes_eq, IsTrue, IfSome, IfOk, length, not, ◌||◌, ◌==◌, slice_index, slice_get, take};
-ghost use Rattle.std.specs.List.{list_any, prefix_len};
+ghost use Rattle.std.specs.Prelude.{◌≡◌, ◌^◌, ◌+◌, ◌<◌, ◌≤◌, ◌&&◌, false, true, filter, nat_le, codes, bytes_eq, IsTrue, IfSome, IfOk, length, not, ◌||◌, ◌==◌, slice_index, slice_get, take};
+ghost use Rattle.std.specs.List.{list_any, list_all, prefix_len};
 ghost use Rattle.std.specs.Option.{option_map_or};
 ghost use Rattle.schema_tokens.specs.Keywords.{is_same_word};
 ghost use Rattle.schema_tokens.specs.Statements.{bytes_of, head_of, table_at};
-ghost use Rattle.schema_tokens.specs.Printable.{is_semicolon_kind, is_variable_kind, statement, end_at, has_body, is_one_statement, deeper, separates, commas, name_at, has_module, has_return, is_unsafe_call, ends_safe_mode, row_word, is_of_row, runs_at_insert, is_virtual, ends_in_comment, last_byte, refused_bytes, refused_object, refused_statement, refused_head, refused, is_line_blank, is_terminator, has_terminator, is_odd_space, is_plain};
+ghost use Rattle.schema_tokens.specs.Printable.{is_semicolon_kind, is_variable_kind, statement, end_at, has_body, is_one_statement, deeper, separates, commas, closing_at, is_option, is_complete, name_at, has_module, has_return, is_unsafe_call, ends_safe_mode, row_word, is_of_row, runs_at_insert, is_virtual, ends_in_comment, last_byte, refused_bytes, refused_object, refused_statement, refused_head, refused, is_line_blank, is_terminator, has_terminator, is_before_terminator, is_odd_space, is_plain};
 
 use crate::bytes::{after, byte_at, is_blank, is_word_byte};
 use crate::heads::{
@@ -60,6 +60,8 @@ pub enum Why {
     ReservedName,
     /// It has a `;` that isn't its end, nor in the body of a trigger.
     SemicolonInside,
+    /// What follows the name isn't what follows the name of a table, a virtual table or an index.
+    NotComplete,
     HasVariable,
     /// A virtual table of another module, or with more than 900 arguments.
     UnknownModule,
@@ -193,6 +195,72 @@ fn commas(tokens: &[Piece]) -> usize
         }
     }
     count
+}
+
+fn depth_after(kind: Kind, depth: usize) -> usize
+    requires { depth < 2 ^ 63 }
+    ensures { result ≡ deeper kind depth }
+{
+    match kind {
+        Kind::Open => depth + 1,
+        Kind::Close => depth.saturating_sub(1),
+        _ => depth,
+    }
+}
+
+/// How many tokens there are up to the `)` that closes the `(` at the front, and with it; more than there are if none does.
+fn closing_at(tokens: &[Piece]) -> usize
+    ensures value { result ≡ closing_at 0 tokens.now }
+    ensures within { result ≤ length tokens.now + 1 }
+{
+    let mut depth = 0usize;
+    for (i, token) in tokens.iter().enumerate() {
+        depth = depth_after(token.kind, depth);
+        if depth == 0 {
+            return i + 1;
+        }
+    }
+    tokens.len() + 1
+}
+
+#[tactic(auto, unfolding(crate::specs::Printable::is_option))]
+fn is_option(text: &[u8], piece: &Piece) -> bool
+    ensures { result ≡ is_option text.now piece.now }
+{
+    let word = bytes_of(text, piece);
+    is_same_word(b",", word)
+        || is_same_word(b"WITHOUT", word)
+        || is_same_word(b"ROWID", word)
+        || is_same_word(b"STRICT", word)
+}
+
+fn are_options(text: &[u8], tokens: &[Piece]) -> bool
+    ensures { result ≡ list_all (λ p. is_option text.now p) tokens.now }
+{
+    tokens.iter().all(|p| is_option(text, p))
+}
+
+/// Whether what follows the name of a table, a virtual table or an index has the form of it.
+#[tactic(auto, unfolding(crate::specs::Printable::is_complete))]
+fn is_complete(text: &[u8], tokens: &[Piece], object: Object, name: usize) -> bool
+    requires { name < 10 }
+    ensures { result ≡ is_complete text.now tokens.now object name }
+{
+    match object {
+        Object::Table => {
+            let end = name + 1 + closing_at(later(tokens, name + 1));
+            end <= tokens.len() && are_options(text, later(tokens, end))
+        }
+        Object::Virtual => {
+            let end = name + 3 + closing_at(later(tokens, name + 3));
+            tokens.len() == name + 3 || (is_open(tokens, name + 3) && end == tokens.len())
+        }
+        Object::Index => {
+            let end = name + 3 + closing_at(later(tokens, name + 3));
+            end == tokens.len() || is_word(text, tokens, end, b"WHERE")
+        }
+        Object::View | Object::Trigger => true,
+    }
 }
 
 #[tactic(auto, unfolding(crate::specs::Printable::name_at))]
@@ -413,6 +481,8 @@ fn refused_statement(
         Some(Why::ReservedName)
     } else if !is_one_statement(text, head.object, tokens) {
         Some(Why::SemicolonInside)
+    } else if !is_complete(text, tokens, head.object, head.name) {
+        Some(Why::NotComplete)
     } else if has_variable(tokens) {
         Some(Why::HasVariable)
     } else {
@@ -475,12 +545,31 @@ fn has_odd_blank(bytes: &[u8]) -> bool
     bytes.iter().any(|b| *b == 11 || *b == b'\r')
 }
 
+fn has_line_feed(bytes: &[u8]) -> bool
+    ensures { result ≡ list_any (λ b. b == 10) bytes.now }
+{
+    bytes.iter().any(|b| *b == b'\n')
+}
+
+#[tactic(auto, unfolding(crate::specs::Printable::is_before_terminator))]
+fn is_before_terminator(text: &[u8], piece: &Piece) -> bool
+    ensures { result ≡ is_before_terminator text.now piece.now }
+{
+    let bytes = bytes_of(text, piece);
+    has_terminator(bytes)
+        || (matches!(piece.kind, Kind::Blanks)
+            && has_line_feed(bytes)
+            && is_terminator(after(text, piece.to)))
+}
+
 #[tactic(auto, unfolding(crate::specs::Printable::is_odd_space))]
 fn is_odd_space(text: &[u8], piece: &Piece) -> bool
     ensures { result ≡ is_odd_space text.now piece.now }
 {
     !is_token(piece)
-        && (matches!(piece.kind, Kind::ByteOrderMark) || has_odd_blank(bytes_of(text, piece)))
+        && (matches!(piece.kind, Kind::ByteOrderMark)
+            || has_odd_blank(bytes_of(text, piece))
+            || is_before_terminator(text, piece))
 }
 
 fn has_odd_space(text: &[u8], pieces: &[Piece], last: usize) -> bool
@@ -489,9 +578,10 @@ fn has_odd_space(text: &[u8], pieces: &[Piece], last: usize) -> bool
     pieces.iter().any(|p| p.to <= last && is_odd_space(text, p))
 }
 
+/// Whether no space of a statement, up to its last byte, means something else to the shell.
 #[tactic(auto, unfolding(crate::specs::Printable::is_plain))]
 pub fn is_plain(text: &[u8], pieces: &[Piece], last: usize) -> bool
     ensures { result ≡ is_plain text.now pieces.now last }
 {
-    !has_terminator(&text[..last.min(text.len())]) && !has_odd_space(text, pieces, last)
+    !has_odd_space(&text[..last.min(text.len())], pieces, last)
 }
