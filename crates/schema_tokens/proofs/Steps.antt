@@ -3,7 +3,6 @@ use Rattle.std.proofs.Common.{◌≡◌, ◌≢◌, ℕ, ◌+◌, ◌<◌, true,
 use Rattle.std.proofs.Math.Seq.{drop-length}
 use Rattle.std.proofs.lemmas.List.{drop_more}
 use Rattle.schema_tokens.specs.Bytes.{is_word_byte}
-use Rattle.schema_tokens.specs.Names.{unquoted}
 use Rattle.schema_tokens.specs.Runs.{quoted_bytes, name_bytes}
 
 -- a byte inside quotes that isn't the quote
@@ -41,10 +40,3 @@ name_end s n lt h e = let below : n < length s = omega arith in
 pub name_last : (s : List ℕ) (n : ℕ) → n + 1 ≡ length s → is_word_byte (get_or s n 0) ≡ false → name_bytes (drop n s) ≡ 0
 name_last s n last h = let below : n < length s = omega arith in
     rw (drop_more s n 0 below) (rw last (rw drop-length (rw h refl)))
-
-unquoted-other : (q x : ℕ) (s : List ℕ) → (x ≢ q) → unquoted q (x ∷ s) ≡ x ∷ unquoted q s
-unquoted-other q x [] h = grind arith
-unquoted-other q x (y ∷ s) h = grind arith
-
-pub unquoted_other : (q : ℕ) (s : List ℕ) (n : ℕ) → n < length s → (get_or s n 0 ≢ q) → unquoted q (drop n s) ≡ get_or s n 0 ∷ unquoted q (drop (n + 1) s)
-unquoted_other q s n lt h = rw (drop_more s n 0 lt) (unquoted-other q (get_or s n 0) (drop (n + 1) s) h)

@@ -7,9 +7,9 @@ use Rattle.schema_tokens.specs.Keywords.{is_same_word}
 use Rattle.schema_tokens.specs.declared.kinds.Kind.{Kind}
 use Rattle.schema_tokens.specs.declared.kinds.Kind.TheVariants.{Word, Fallback, Joining, Quoted, Text, Open, Dot}
 use Rattle.schema_tokens.specs.declared.kinds.Piece.{Piece}
-use Rattle.schema_tokens.specs.declared.heads.Object.{Object}
-use Rattle.schema_tokens.specs.declared.heads.Object.TheVariants.{Table, Virtual, Index, View, Trigger}
-use Rattle.schema_tokens.specs.declared.heads.Head.{Head}
+use Rattle.schema_print.specs.declared.heads.Object.{Object}
+use Rattle.schema_print.specs.declared.heads.Object.TheVariants.{Table, Virtual, Index, View, Trigger}
+use Rattle.schema_print.specs.declared.heads.Head.{Head}
 
 -- the bytes of a token
 abbrev pub bytes_of : (text : List ℕ) → Piece → List ℕ

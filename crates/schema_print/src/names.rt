@@ -1,8 +1,8 @@
 //! Names without their quotes.
 ghost use Rattle.std.specs.Prelude.{◌≡◌, IfOk};
-ghost use Rattle.schema_tokens.specs.Names.{unquoted, name_of};
+ghost use Rattle.schema_print.specs.Names.{unquoted, name_of};
 
-use crate::runs::up_to;
+use schema_tokens::up_to;
 use std::alloc::{AllocError, Global};
 
 /// What stands in quotes, each doubled quote once.

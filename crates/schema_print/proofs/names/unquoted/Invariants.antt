@@ -1,6 +1,6 @@
 use Rattle.std.proofs.Common.{◌≡◌, ◌-◌, ◌≤◌, ◌++◌, length, drop}
-use Rattle.schema_tokens.specs.Names.{unquoted}
-use Rattle.schema_tokens.proofs.names.unquoted.Given as goal
+use Rattle.schema_print.specs.Names.{unquoted}
+use Rattle.schema_print.proofs.names.unquoted.Given as goal
 
 abbrev pub invariant-loop-n : goal.invariant-loop-n
 invariant-loop-n l = record { within : l.n ≤ length l.s; rest : unquoted l.quote l.s ≡ l.out.items ++ unquoted l.quote (drop l.n l.s) }

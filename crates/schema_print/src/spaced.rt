@@ -2,16 +2,14 @@
 ghost use Rattle.std.specs.Prelude.{◌≡◌, ◌↔◌, bytes_eq, filter, length, true, IsTrue, IfSome, IfOk};
 ghost use Rattle.std.specs.List.{list_all};
 ghost use Rattle.schema_tokens.specs.Pieces.{is_token, IsReading};
-ghost use Rattle.schema_tokens.specs.Statements.{bytes_of, head_of};
-ghost use Rattle.schema_tokens.specs.Printable.{makes_virtual_table, IsSpacing, IsPrintedOf, IsPrinted};
+ghost use Rattle.schema_print.specs.Statements.{bytes_of, head_of};
+ghost use Rattle.schema_print.specs.Printable.{makes_virtual_table, IsSpacing, IsPrintedOf, IsPrinted};
 
-use crate::bytes::after;
 use crate::heads::{bytes_of, head_of};
-use crate::kinds::Piece;
-use crate::pieces::{is_token, read, tokens};
 use crate::refusals::{
     Printed, Row, Why, is_plain, is_terminator, is_virtual, last_byte, refused, statement,
 };
+use schema_tokens::{Piece, after, is_token, read, tokens};
 use std::alloc::{AllocError, Global};
 
 /// A byte of a space, in front of `rest`, as one that the shell reads as a space too.

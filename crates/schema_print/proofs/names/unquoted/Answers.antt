@@ -1,8 +1,8 @@
 -- A byte that isn't the quote is a byte of the name.
 use Rattle.std.proofs.Common.{◌+◌, ◌++◌, [], ◌∷◌, drop, get_or, sym, ◌∙◌, ap, append_assoc, arith}
-use Rattle.schema_tokens.specs.Names.{unquoted}
-use Rattle.schema_tokens.proofs.Steps.{unquoted_other}
-use Rattle.schema_tokens.proofs.names.unquoted.Goals as goal
+use Rattle.schema_print.specs.Names.{unquoted}
+use Rattle.schema_print.proofs.Steps.{unquoted_other}
+use Rattle.schema_print.proofs.names.unquoted.Goals as goal
 
 pub loop-n-preserved-then-s-n : goal.loop-n-preserved-then-s-n
 loop-n-preserved-then-s-n c =

@@ -3,17 +3,16 @@ ghost use Rattle.std.specs.Prelude.{◌≡◌, ◌^◌, ◌+◌, ◌<◌, ◌≤
 ghost use Rattle.std.specs.List.{list_any, list_all, prefix_len};
 ghost use Rattle.std.specs.Option.{option_map_or};
 ghost use Rattle.schema_tokens.specs.Keywords.{is_same_word};
-ghost use Rattle.schema_tokens.specs.Statements.{bytes_of, head_of, table_at};
-ghost use Rattle.schema_tokens.specs.Printable.{is_semicolon_kind, is_variable_kind, statement, end_at, has_body, is_one_statement, deeper, separates, commas, closing_at, is_option, is_complete, name_at, has_module, has_return, is_unsafe_call, ends_safe_mode, row_word, is_of_row, runs_at_insert, is_virtual, ends_in_comment, last_byte, refused_bytes, refused_object, refused_statement, refused_head, refused, is_line_blank, is_terminator, has_terminator, is_before_terminator, is_odd_space, is_plain};
+ghost use Rattle.schema_print.specs.Statements.{bytes_of, head_of, table_at};
+ghost use Rattle.schema_print.specs.Printable.{is_semicolon_kind, is_variable_kind, statement, end_at, has_body, is_one_statement, deeper, separates, commas, closing_at, is_option, is_complete, name_at, has_module, has_return, is_unsafe_call, ends_safe_mode, row_word, is_of_row, runs_at_insert, is_virtual, ends_in_comment, last_byte, refused_bytes, refused_object, refused_statement, refused_head, refused, is_line_blank, is_terminator, has_terminator, is_before_terminator, is_odd_space, is_plain};
 
-use crate::bytes::{after, byte_at, is_blank, is_word_byte};
 use crate::heads::{
     Head, Object, before_word, bytes_of, head_of, is_open, is_word, later, table_at,
 };
-use crate::keywords::{is_listed, is_same_word};
-use crate::kinds::{Kind, Piece};
 use crate::names::name_of;
-use crate::pieces::is_token;
+use schema_tokens::{
+    Kind, Piece, after, byte_at, is_blank, is_listed, is_same_word, is_token, is_word_byte,
+};
 use std::alloc::{AllocError, Global};
 
 /// The modules whose virtual tables are printed.

@@ -4,21 +4,21 @@ use Rattle.std.specs.List.{prefix_len, list_any, list_all}
 use Rattle.std.specs.Option.{option_map_or}
 use Rattle.schema_tokens.specs.Bytes.{is_blank, is_word_byte}
 use Rattle.schema_tokens.specs.Keywords.{is_same_word}
-use Rattle.schema_tokens.specs.Names.{name_of}
+use Rattle.schema_print.specs.Names.{name_of}
 use Rattle.schema_tokens.specs.Pieces.{is_token, IsReading}
-use Rattle.schema_tokens.specs.Statements.{bytes_of, is_word, is_open, head_of, table_at}
+use Rattle.schema_print.specs.Statements.{bytes_of, is_word, is_open, head_of, table_at}
 use Rattle.schema_tokens.specs.declared.kinds.Kind.{Kind}
 use Rattle.schema_tokens.specs.declared.kinds.Kind.TheVariants.{Blanks, ByteOrderMark, Open, Close, Comma, Semicolon, Variable}
 use Rattle.schema_tokens.specs.declared.kinds.Piece.{Piece}
-use Rattle.schema_tokens.specs.declared.heads.Object.{Object}
-use Rattle.schema_tokens.specs.declared.heads.Object.TheVariants.{Table, Virtual, Index, View, Trigger}
-use Rattle.schema_tokens.specs.declared.heads.Head.{Head}
-use Rattle.schema_tokens.specs.declared.refusals.Row.{Row}
-use Rattle.schema_tokens.specs.declared.refusals.Why.{Why}
-use Rattle.schema_tokens.specs.declared.refusals.Why.TheVariants.{NotWhole, NotCreate, OtherInRow, NotPlain, ReservedName, SemicolonInside, NotComplete, HasVariable, UnknownModule, ReturnInQuotes, EndsInComment, EndsSafeMode, NotSpaced}
-use Rattle.schema_tokens.specs.declared.refusals.Printed.{Printed}
-use Rattle.schema_tokens.specs.declared.refusals.Printed.TheVariants.{AsItIs, Spaced, RowOfSchema, Comment}
-use Rattle.schema_tokens.specs.declared.refusals.TheConstants.{MODULES, UNSAFE}
+use Rattle.schema_print.specs.declared.heads.Object.{Object}
+use Rattle.schema_print.specs.declared.heads.Object.TheVariants.{Table, Virtual, Index, View, Trigger}
+use Rattle.schema_print.specs.declared.heads.Head.{Head}
+use Rattle.schema_print.specs.declared.refusals.Row.{Row}
+use Rattle.schema_print.specs.declared.refusals.Why.{Why}
+use Rattle.schema_print.specs.declared.refusals.Why.TheVariants.{NotWhole, NotCreate, OtherInRow, NotPlain, ReservedName, SemicolonInside, NotComplete, HasVariable, UnknownModule, ReturnInQuotes, EndsInComment, EndsSafeMode, NotSpaced}
+use Rattle.schema_print.specs.declared.refusals.Printed.{Printed}
+use Rattle.schema_print.specs.declared.refusals.Printed.TheVariants.{AsItIs, Spaced, RowOfSchema, Comment}
+use Rattle.schema_print.specs.declared.refusals.TheConstants.{MODULES, UNSAFE}
 
 abbrev pub is_semicolon_kind : Kind → Bool
 is_semicolon_kind Semicolon = true
