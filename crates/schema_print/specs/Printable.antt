@@ -31,7 +31,8 @@ is_variable_kind _ = false
 -- the tokens of a statement: all but a `;` that is the last
 unfoldable pub statement : List Piece → List Piece
 statement ts =
-    if option_map_or (λ p. is_semicolon_kind p.kind) (slice_get ts (length ts - 1)) false then take (length ts - 1) ts else ts
+    if option_map_or (λ p. is_semicolon_kind p.kind) (slice_get ts (length ts - 1)) false then take (length ts - 1) ts
+    else ts
 
 -- how many tokens there are up to the first `;` that END directly follows, and with it
 abbrev pub end_at : (text : List ℕ) → List Piece → ℕ
@@ -41,7 +42,8 @@ end_at text (p ∷ ts) = if is_semicolon_kind p.kind && is_word text ts 0 (codes
 -- A trigger has a BEGIN before its first `;`, and its first END after a `;` is its last token.
 unfoldable pub has_body : (text : List ℕ) → List Piece → Bool
 has_body text ts =
-    nat_lt (prefix_len (λ p. not (is_same_word (codes "BEGIN") (bytes_of text p))) ts) (prefix_len (λ p. not (is_semicolon_kind p.kind)) ts)
+    nat_lt (prefix_len (λ p. not (is_same_word (codes "BEGIN") (bytes_of text p))) ts)
+    (prefix_len (λ p. not (is_semicolon_kind p.kind)) ts)
     && end_at text ts + 1 == length ts
 
 -- a trigger with its body, or another object without `;`
@@ -64,7 +66,8 @@ abbrev pub commas : (depth : ℕ) → List Piece → ℕ
 commas depth [] = 0
 commas depth (p ∷ ts) = separates p.kind depth + commas (deeper p.kind depth) ts
 
--- How many tokens there are up to the `)` that closes the `(` at the front, and with it. More than there are, if none does.
+-- How many tokens there are up to the `)` that closes the `(` at the front, and with it. If none does, more than there
+-- are.
 abbrev pub closing_at : (depth : ℕ) → List Piece → ℕ
 closing_at depth [] = 1
 closing_at depth (p ∷ ts) = if deeper p.kind depth == 0 then 1 else 1 + closing_at (deeper p.kind depth) ts
@@ -95,7 +98,8 @@ name_at text ts at = option_map_or (λ p. name_of (bytes_of text p)) (slice_get 
 
 -- one of the modules that are part of SQLite, with at most 900 arguments
 unfoldable pub has_module : (text : List ℕ) → List Piece → (name : ℕ) → Bool
-has_module text ts name = list_any (λ m. is_same_word m.now (name_at text ts (name + 2))) MODULES && nat_le (commas 0 ts) 899
+has_module text ts name =
+    list_any (λ m. is_same_word m.now (name_at text ts (name + 2))) MODULES && nat_le (commas 0 ts) 899
 
 -- some token has a CR
 unfoldable pub has_return : (text : List ℕ) → List Piece → Bool
@@ -240,13 +244,16 @@ pub record IsAccepted (text : List ℕ) (ps : List Piece) (end : ℕ) (row : Row
   pub is_virtual_table : makes_virtual_table (head_of text (statement (filter is_token ps))) ≡ virtual
   pub is_plain_text : is_plain text ps (last_byte (statement (filter is_token ps))) ≡ plain
 
--- How a text is printed that is read as these pieces up to `end`: as a comment, if it is refused, or if it isn't plain and
--- no other blanks were found for it; as a row, if it makes a virtual table; as it is, if it is plain; or spaced.
+-- How a text is printed that is read as these pieces up to `end`: as a comment, if it is refused, or if it isn't plain
+-- and no other blanks were found for it; as a row, if it makes a virtual table; as it is, if it is plain; or spaced.
 abbrev pub IsPrintedOf : (text : List ℕ) (ps : List Piece) (end : ℕ) → Row → Printed → Type 0
-IsPrintedOf text ps end row (Comment why) = (refused text (filter is_token ps) end row ≡ Some why) ⊎ ((why ≡ NotSpaced) × IsAccepted text ps end row false false)
+IsPrintedOf text ps end row (Comment why) =
+    (refused text (filter is_token ps) end row ≡ Some why)
+    ⊎ ((why ≡ NotSpaced) × IsAccepted text ps end row false false)
 IsPrintedOf text ps end row RowOfSchema = (plain : Bool) × IsAccepted text ps end row true plain
 IsPrintedOf text ps end row AsItIs = IsAccepted text ps end row false true
-IsPrintedOf text ps end row (Spaced v) = IsAccepted text ps end row false false × IsSpacing text (statement (filter is_token ps)) v.items
+IsPrintedOf text ps end row (Spaced v) =
+    IsAccepted text ps end row false false × IsSpacing text (statement (filter is_token ps)) v.items
 
 abbrev pub IsPrinted : (text : List ℕ) → Row → Printed → Type 0
 IsPrinted text row p = (ps : List Piece) (end : ℕ) → IsReading text ps end → IsPrintedOf text ps end row p

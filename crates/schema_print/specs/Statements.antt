@@ -1,5 +1,5 @@
--- What a CREATE statement begins with (parse.y; lang_createtable, lang_createindex, lang_createview, lang_createtrigger,
--- lang_createvtab). `ts` are the tokens of a text, without its spaces.
+-- What a CREATE statement begins with (parse.y; lang_createtable, lang_createindex, lang_createview,
+-- lang_createtrigger, lang_createvtab). `ts` are the tokens of a text, without its spaces.
 use Rattle.std.specs.Prelude.{ℕ, ◌+◌, ◌-◌, ◌||◌, ◌&&◌, Bool, true, false, not, if◌then◌else◌, List, take, drop, slice_get, codes, Option, Some, None}
 use Rattle.std.specs.List.{position_or_len}
 use Rattle.std.specs.Option.{option_map, option_map_or}
@@ -67,7 +67,8 @@ object_of text ts =
 
 unfoldable pub is_guarded : (text : List ℕ) → List Piece → (at : ℕ) → Bool
 is_guarded text ts at =
-    is_word text ts at (codes "IF") && is_word text ts (at + 1) (codes "NOT") && is_word text ts (at + 2) (codes "EXISTS")
+    is_word text ts at (codes "IF") && is_word text ts (at + 1) (codes "NOT")
+    && is_word text ts (at + 2) (codes "EXISTS")
 
 -- where the name is: behind IF NOT EXISTS; `schema.` may stand before it
 unfoldable pub head_of : (text : List ℕ) → List Piece → Option Head
@@ -77,22 +78,33 @@ head_of text ts =
     let first = (if guarded then at + 3 else at) in
     let qualified = is_dot ts (first + 1) in
     let name = (if qualified then first + 2 else first) in
-    if is_word text ts 0 (codes "CREATE") && is_name ts first && is_name ts name && not (is_word text ts first (codes "IF"))
-    then option_map (λ o. record { object = o; temporary = is_temporary text ts; guarded = guarded; qualified = qualified; name = name }) (object_of text ts)
+    if is_word text ts 0 (codes "CREATE") && is_name ts first && is_name ts name
+    && not (is_word text ts first (codes "IF"))
+    then option_map (λ o. record {
+      object = o;
+      temporary = is_temporary text ts;
+      guarded = guarded;
+      qualified = qualified;
+      name = name;
+    })
+    (object_of text ts)
     else None
 
 -- the first ON from a token on
 unfoldable pub on_at : (text : List ℕ) → List Piece → (from : ℕ) → ℕ
 on_at text ts from = from + position_or_len (λ p. is_same_word (codes "ON") (bytes_of text p)) (drop from ts)
 
--- The table that an object belongs to, itself if it is a table or a view; None where no such statement follows the name,
+-- The table that an object belongs to, itself if it is a table or a view; None if no such statement follows the name,
 -- as in CREATE TABLE .. AS SELECT.
 unfoldable pub table_at : (text : List ℕ) → List Piece → Object → (name : ℕ) → Option ℕ
 table_at text ts Table name = if is_open ts (name + 1) then Some name else None
-table_at text ts Virtual name = if is_word text ts (name + 1) (codes "USING") && is_name ts (name + 2) then Some name else None
-table_at text ts View name = if is_open ts (name + 1) || is_word text ts (name + 1) (codes "AS") then Some name else None
+table_at text ts Virtual name =
+    if is_word text ts (name + 1) (codes "USING") && is_name ts (name + 2) then Some name else None
+table_at text ts View name =
+    if is_open ts (name + 1) || is_word text ts (name + 1) (codes "AS") then Some name else None
 table_at text ts Index name =
-    if is_word text ts (name + 1) (codes "ON") && is_name ts (name + 2) && is_open ts (name + 3) then Some (name + 2) else None
+    if is_word text ts (name + 1) (codes "ON") && is_name ts (name + 2) && is_open ts (name + 3) then Some (name + 2)
+    else None
 table_at text ts Trigger name =
     let on = on_at text ts (name + 1) in
     if is_name ts (on + 1) then Some (on + 1) else None

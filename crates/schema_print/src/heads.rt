@@ -2,7 +2,8 @@
 ghost use Rattle.std.specs.Prelude.{◌≡◌, ◌<◌, ◌≤◌, ◌+◌, length, IfSome, drop, not};
 ghost use Rattle.std.specs.List.{prefix_len};
 ghost use Rattle.schema_tokens.specs.Keywords.{is_same_word};
-ghost use Rattle.schema_print.specs.Statements.{bytes_of, is_word, is_name, is_open, is_dot, is_temporary, object_at, object_of, is_guarded, head_of, on_at, table_at};
+ghost use Rattle.schema_print.specs.Statements.{bytes_of, is_word, is_name, is_open, is_dot, is_temporary};
+ghost use Rattle.schema_print.specs.Statements.{object_at, object_of, is_guarded, head_of, on_at, table_at};
 
 use schema_tokens::{Kind, Piece, after, is_same_word};
 

@@ -1,10 +1,18 @@
 //! Which texts of a schema may be in a script, and how.
-ghost use Rattle.std.specs.Prelude.{◌≡◌, ◌^◌, ◌+◌, ◌<◌, ◌≤◌, ◌&&◌, false, true, filter, nat_le, codes, bytes_eq, IsTrue, IfSome, IfOk, length, not, ◌||◌, ◌==◌, slice_index, slice_get, take};
+ghost use Rattle.std.specs.Prelude.{◌≡◌, ◌^◌, ◌+◌, ◌<◌, ◌≤◌, ◌&&◌, false, true, filter, nat_le, codes, bytes_eq};
+ghost use Rattle.std.specs.Prelude.{IsTrue, IfSome, IfOk, length, not, ◌||◌, ◌==◌, slice_index, slice_get, take};
 ghost use Rattle.std.specs.List.{list_any, list_all, prefix_len};
 ghost use Rattle.std.specs.Option.{option_map_or};
 ghost use Rattle.schema_tokens.specs.Keywords.{is_same_word};
 ghost use Rattle.schema_print.specs.Statements.{bytes_of, head_of, table_at};
-ghost use Rattle.schema_print.specs.Printable.{is_semicolon_kind, is_variable_kind, statement, end_at, has_body, is_one_statement, deeper, separates, commas, closing_at, is_option, is_complete, name_at, has_module, has_return, is_unsafe_call, ends_safe_mode, row_word, is_of_row, runs_at_insert, is_virtual, ends_in_comment, last_byte, refused_bytes, refused_object, refused_statement, refused_head, refused, is_line_blank, is_terminator, has_terminator, is_before_terminator, is_odd_space, is_plain};
+ghost use Rattle.schema_print.specs.Printable.{is_semicolon_kind, is_variable_kind, statement, end_at, has_body};
+ghost use Rattle.schema_print.specs.Printable.{is_one_statement, deeper, separates, commas, closing_at, is_option};
+ghost use Rattle.schema_print.specs.Printable.{is_complete, name_at, has_module, has_return, is_unsafe_call};
+ghost use Rattle.schema_print.specs.Printable.{ends_safe_mode, row_word, is_of_row, runs_at_insert, is_virtual};
+ghost use Rattle.schema_print.specs.Printable.{ends_in_comment, last_byte, refused_bytes, refused_object};
+ghost use Rattle.schema_print.specs.Printable.{refused_statement, refused_head, refused, is_line_blank};
+ghost use Rattle.schema_print.specs.Printable.{is_terminator, has_terminator, is_before_terminator, is_odd_space};
+ghost use Rattle.schema_print.specs.Printable.{is_plain};
 
 use crate::heads::{
     Head, Object, before_word, bytes_of, head_of, is_open, is_word, later, table_at,
@@ -69,7 +77,8 @@ pub enum Why {
     EndsInComment,
     /// It calls a function that ends `sqlite3 -safe`.
     EndsSafeMode,
-    /// A line of it ends a statement in the shell, or it has blanks that the shell takes for none; others don't mend it.
+    /// A line of it ends a statement in the shell, or the shell takes one of its blanks for none, and other blanks
+    /// don't mend that.
     NotSpaced,
 }
 
@@ -207,7 +216,8 @@ fn depth_after(kind: Kind, depth: usize) -> usize
     }
 }
 
-/// How many tokens there are up to the `)` that closes the `(` at the front, and with it; more than there are if none does.
+/// How many tokens there are up to the `)` that closes the `(` at the front, and with it; if none does, more than
+/// there are.
 fn closing_at(tokens: &[Piece]) -> usize
     ensures value { result ≡ closing_at 0 tokens.now }
     ensures within { result ≤ length tokens.now + 1 }

@@ -40,3 +40,6 @@ name_end s n lt h e = let below : n < length s = omega arith in
 pub name_last : (s : List ℕ) (n : ℕ) → n + 1 ≡ length s → is_word_byte (get_or s n 0) ≡ false → name_bytes (drop n s) ≡ 0
 name_last s n last h = let below : n < length s = omega arith in
     rw (drop_more s n 0 below) (rw last (rw drop-length (rw h refl)))
+
+-- what the bytes of a name come to at its next byte
+pub ruleset name_steps = (name_word, name_pair, name_end, name_last)

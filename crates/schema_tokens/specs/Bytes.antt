@@ -21,8 +21,12 @@ is_digit false b = is_ascii_digit b
 
 -- an operator of one byte: + * ~ % & = < > | - /
 unfoldable pub is_operator : ℕ → Bool
-is_operator b = b == 43 || b == 42 || b == 126 || b == 37 || b == 38 || b == 61 || b == 60 || b == 62 || b == 124 || b == 45 || b == 47
+is_operator b =
+    b == 43 || b == 42 || b == 126 || b == 37 || b == 38 || b == 61 || b == 60 || b == 62 || b == 124 || b == 45
+    || b == 47
 
 -- one of two bytes: == <= >= != <> << >> || ->
 unfoldable pub is_operator_pair : ℕ → ℕ → Bool
-is_operator_pair a b = (b == 61 && (a == 61 || a == 60 || a == 62 || a == 33)) || (a == 60 && (b == 62 || b == 60)) || (a == 62 && b == 62) || (a == 124 && b == 124) || (a == 45 && b == 62)
+is_operator_pair a b =
+    (b == 61 && (a == 61 || a == 60 || a == 62 || a == 33)) || (a == 60 && (b == 62 || b == 60)) || (a == 62 && b == 62)
+    || (a == 124 && b == 124) || (a == 45 && b == 62)

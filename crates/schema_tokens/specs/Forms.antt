@@ -30,7 +30,7 @@ begins_line_comment s = slice_index s 0 == 45 && slice_index s 1 == 45
 unfoldable pub begins_block_comment : List ℕ → Bool
 begins_block_comment s = slice_index s 0 == 47 && slice_index s 1 == 42 && nat_lt 2 (length s)
 
--- blanks, of which VT isn't the first; a byte order mark; `--` up to the next LF; `/*` up to the next `*/`, and with it.
+-- blanks that don't begin with VT; a byte order mark; `--` up to the next LF; `/*` up to the next `*/`, and with it.
 -- Both comments may also end with the text.
 unfoldable pub space_form : List ℕ → Option Form
 space_form s =
@@ -98,7 +98,7 @@ decimal_form s =
 unfoldable pub number_form : List ℕ → Option Form
 number_form s = if hexadecimal_length s == 0 then decimal_form s else form_of Integer (hexadecimal_length s)
 
--- after a name: nothing; or `(` and what isn't blank, up to the first `)`, and with it. Some, unless that `)` is missing.
+-- after a name: nothing; or `(` and what isn't blank, up to the first `)`, and with it. None, if that `)` is missing.
 unfoldable pub suffix_length : List ℕ → Option ℕ
 suffix_length s =
     let n = prefix_len (λ b. not (is_blank b || b == 41)) (drop 1 s) in
@@ -139,7 +139,9 @@ unfoldable pub begins_number : List ℕ → Bool
 begins_number s = is_ascii_digit (slice_index s 0) || (slice_index s 0 == 46 && is_ascii_digit (slice_index s 1))
 
 unfoldable pub begins_variable : List ℕ → Bool
-begins_variable s = slice_index s 0 == 63 || slice_index s 0 == 36 || slice_index s 0 == 64 || slice_index s 0 == 58 || slice_index s 0 == 35
+begins_variable s =
+    slice_index s 0 == 63 || slice_index s 0 == 36 || slice_index s 0 == 64 || slice_index s 0 == 58
+    || slice_index s 0 == 35
 
 -- '..' is a text, ".." `..` and [..] are names
 unfoldable pub literal_form : List ℕ → Option Form
@@ -153,4 +155,6 @@ literal_form s =
 
 -- what these bytes begin with: a space, a word, or what else the first byte tells; None where they begin with no token
 unfoldable pub form : List ℕ → Option Form
-form s = if is_some (space_form s) then space_form s else (if begins_word (slice_index s 0) then word_form s else literal_form s)
+form s =
+    if is_some (space_form s) then space_form s
+    else (if begins_word (slice_index s 0) then word_form s else literal_form s)

@@ -22,4 +22,5 @@ digits_on h (x ∷ s) = cond (is_digit h x || (x == 95 && is_digit h (slice_inde
 abbrev pub name_bytes : List ℕ → ℕ
 name_bytes [] = 0
 name_bytes (x ∷ []) = cond (is_word_byte x) 1 0
-name_bytes (x ∷ y ∷ s) = cond (is_word_byte x) (1 + name_bytes (y ∷ s)) (cond (x == 58 && y == 58) (2 + name_bytes s) 0)
+name_bytes (x ∷ y ∷ s) =
+    cond (is_word_byte x) (1 + name_bytes (y ∷ s)) (cond (x == 58 && y == 58) (2 + name_bytes s) 0)

@@ -1,6 +1,7 @@
 //! Which bytes SQL's tokens are made of.
 ghost use Rattle.std.specs.Prelude.{◌≡◌, ◌⊎◌, ◌<◌, slice_index, drop, length, IsTrue};
-ghost use Rattle.schema_tokens.specs.Bytes.{is_blank, begins_word, is_word_byte, is_digit, is_operator, is_operator_pair};
+ghost use Rattle.schema_tokens.specs.Bytes.{is_blank, begins_word, is_word_byte, is_digit, is_operator};
+ghost use Rattle.schema_tokens.specs.Bytes.{is_operator_pair};
 
 /// What is left after so many bytes.
 pub fn after(s: &[u8], n: usize) -> &[u8]

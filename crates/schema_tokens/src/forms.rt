@@ -1,6 +1,8 @@
 //! The forms of tokens.
 ghost use Rattle.std.specs.Prelude.{◌≡◌, ◌<◌, ◌≤◌, length, IsTrue};
-ghost use Rattle.schema_tokens.specs.Forms.{IsWithin, begins_byte_order_mark, begins_line_comment, begins_block_comment, space_form, word_form, mark_form, begins_variable, literal_form, form};
+ghost use Rattle.schema_tokens.specs.Forms.{IsWithin, begins_byte_order_mark, begins_line_comment};
+ghost use Rattle.schema_tokens.specs.Forms.{begins_block_comment, space_form, word_form, mark_form};
+ghost use Rattle.schema_tokens.specs.Forms.{begins_variable, literal_form, form};
 
 use crate::bytes::{after, begins_word, byte_at};
 use crate::keywords::word_kind;

@@ -105,7 +105,7 @@ pub fn digits_on(hexadecimal: bool, s: &[u8]) -> usize
 }
 
 /// How many bytes of words and pairs of colons.
-#[tactic(auto, using(crate::proofs::Steps::name_word, crate::proofs::Steps::name_pair, crate::proofs::Steps::name_end, crate::proofs::Steps::name_last))]
+#[tactic(auto, using(crate::proofs::Steps::name_steps))]
 pub fn name_bytes(s: &[u8]) -> usize
     ensures value { result ≡ name_bytes s.now }
     ensures within { result ≤ length s.now }
