@@ -2,14 +2,14 @@
    a program with it, loaded before the C library. Each call on one of the files is made first and then recorded, under
    one lock, so that the records stand in the order of the calls' effects; calls on other files, which may wait, are
    made without it. A record that can't be written ends the process with status 97: no trace is better than one with a
-   gap. */
+   gap. What can't be recorded is refused by a record of its own. */
 #define _GNU_SOURCE
 #include <signal.h>
 #include <sys/prctl.h>
 
 enum kind { BASE = 1, OPEN, CLOSE, WRITE, CUT, SYNC, UNLINK, RENAME, FOLDER_SYNC, MARK, NOT_HELD, END };
-enum file { DB, WAL, JOURNAL, FOLDER, MARKS, OTHER = 255 };
-enum not_held { SHARED_MAP = 1, FALLOCATE, VECTORED_WRITE, LINK };
+enum file { DB, WAL, JOURNAL, THE_FOLDER, THE_MARKS, OTHER = 255 };
+enum not_held { SHARED_MAP = 1, FALLOCATE, VECTORED_WRITE, LINK, STREAM = 6, UNSEEN };
 
 #include "calls.h"
 
@@ -21,26 +21,26 @@ struct head {
     uint64_t place, length;
 };
 
-/* A name in a folder, which is known by its device and its number there. */
+/* A name in a folder. */
 struct name {
     char path[NAME_ROOM];
     const char *last;
-    dev_t device;
-    ino_t folder;
+    struct identity above;
 };
 
 static struct name names[3], marks;
+static struct identity marks_are, trace_is;
 static uint32_t makings[3];                      /* how often this process saw the name made */
-static struct { uint8_t file; uint32_t making; } held[DESCRIPTORS]; /* by descriptor: 0, or the file and 1 */
+static const char *trace_path;
 
 /* ---- Records. */
 
 static void put_all(const void *bytes, size_t count) {
     const char *rest = bytes;
     while (count > 0) {
-        ssize_t done = syscall(SYS_write, trace, rest, count);
+        ssize_t done = next_syscall(SYS_write, trace, rest, count);
         if (done > 0) rest += done, count -= done;
-        else if (done == 0 || errno != EINTR) _exit(NO_TRACE);
+        else if (done == 0 || errno != EINTR) no_trace("the trace can't be written");
     }
 }
 
@@ -49,12 +49,12 @@ static void put(enum kind kind, enum file file, uint32_t making, int64_t answer,
                 const void *bytes) {
     if (trace < 0) return;
     int kept = errno;
-    struct head head = { kind, file, making, syscall(SYS_gettid), answer, place, length };
+    struct head head = { kind, file, making, next_syscall(SYS_gettid), answer, place, length };
     struct iovec parts[2] = { { &head, sizeof head }, { (void *)bytes, bytes ? length : 0 } };
     ssize_t done;
-    do done = syscall(SYS_writev, trace, parts, 2);
+    do done = next_syscall(SYS_writev, trace, parts, 2);
     while (done < 0 && errno == EINTR);
-    if (done < 0) _exit(NO_TRACE);
+    if (done < 0) no_trace("the trace can't be written");
     for (int i = 0; i < 2; i++) {
         size_t part = (size_t)done < parts[i].iov_len ? (size_t)done : parts[i].iov_len;
         put_all((char *)parts[i].iov_base + part, parts[i].iov_len - part);
@@ -66,9 +66,9 @@ static void put(enum kind kind, enum file file, uint32_t making, int64_t answer,
 /* ---- The files as they lie there when recording begins and when it ends. */
 
 static int open_to_read(enum file file, struct stat *state) {
-    int from = syscall(SYS_openat, AT_FDCWD, names[file].path, O_RDONLY | O_CLOEXEC);
+    int from = next_syscall(SYS_openat, AT_FDCWD, names[file].path, O_RDONLY | O_CLOEXEC);
     if (from >= 0 && fstat(from, state) == 0 && S_ISREG(state->st_mode)) return from;
-    if (from >= 0) syscall(SYS_close, from);
+    if (from >= 0) next_syscall(SYS_close, from);
     return -1;
 }
 
@@ -78,11 +78,11 @@ static void put_base(enum file file) {
     if (from < 0) return;
     char *bytes = malloc(state.st_size + 1);
     ssize_t count = 0, more;
-    if (!bytes) _exit(NO_TRACE);
+    if (!bytes) no_trace("no memory");
     while ((more = read(from, bytes + count, state.st_size - count)) > 0) count += more;
     put(BASE, file, 0, 0, 0, count, bytes);
     free(bytes);
-    syscall(SYS_close, from);
+    next_syscall(SYS_close, from);
 }
 
 /* The sum of docs/TRACE.md. */
@@ -101,21 +101,17 @@ static void put_end(enum file file) {
         sum = sum_of(sum, bytes, more);
         length += more;
     }
-    if (more < 0) _exit(NO_TRACE);
+    if (more < 0) no_trace("a file can't be read");
     put(END, file, 0, sum, from >= 0, length, NULL);
-    if (from >= 0) syscall(SYS_close, from);
+    if (from >= 0) next_syscall(SYS_close, from);
 }
 
 /* ---- Names. */
 
 static void set_name(struct name *name, const char *path, const char *more) {
-    struct stat state;
     snprintf(name->path, sizeof name->path, "%.*s%s", PATH_ROOM, path, more);
-    char *end = strrchr(name->path, '/'), kept = 0;
-    name->last = end ? end + 1 : name->path;
-    if (end) kept = end[1], end[1] = 0;
-    if (stat(end ? name->path : ".", &state) == 0) name->device = state.st_dev, name->folder = state.st_ino;
-    if (end) end[1] = kept;
+    name->last = last_of(AT_FDCWD, name->path, &name->above);
+    if (!name->last) name->last = "";
 }
 
 static void set_names(const char *path) {
@@ -124,118 +120,136 @@ static void set_names(const char *path) {
     free(real);
     set_name(&names[WAL], names[DB].path, "-wal");
     set_name(&names[JOURNAL], names[DB].path, "-journal");
+    device = names[DB].above.device;
 }
-
-static void start(void);
 
 /* Whether this is a child that has its parent's memory: what it does there isn't recorded. */
 static int is_apart(void) {
     if (!ready) start();
-    return trace < 0 || syscall(SYS_getpid) != process;
-}
-
-static int is_name(const struct name *name, const char *last, const struct stat *folder) {
-    return name->last && !strcmp(name->last, last) && name->device == folder->st_dev && name->folder == folder->st_ino;
+    return trace < 0 || next_syscall(SYS_getpid) != process;
 }
 
 /* The file that has this name: by the last part of the path, and the folder that the rest of it leads to. */
-static enum file named(int at, const char *path) {
-    struct stat state;
-    char part[NAME_ROOM];
+static int named(int at, const char *path) {
+    struct identity above;
     const char *end = strrchr(path, '/'), *last = end ? end + 1 : path;
-    size_t length = end ? (size_t)(end - path) + 1 : 0;
-    int known = marks.last && !strcmp(marks.last, last);
+    int known = 0;
     for (int i = DB; i <= JOURNAL; i++) known |= !strcmp(names[i].last, last);
-    if (!known || length >= sizeof part) return OTHER;
-    memcpy(part, path, length);
-    part[length] = 0;
-    if (fstatat(at, length ? part : ".", &state, 0) != 0) return OTHER;
-    for (int i = DB; i <= JOURNAL; i++) if (is_name(&names[i], last, &state)) return i;
-    return is_name(&marks, last, &state) ? MARKS : OTHER;
-}
-
-static int is_same(const struct stat *one, const struct stat *other) {
-    return one->st_dev == other->st_dev && one->st_ino == other->st_ino;
+    if (!known || !(last = last_of(at, path, &above))) return NONE;
+    for (int i = DB; i <= JOURNAL; i++) {
+        if (!strcmp(names[i].last, last) && is_same(&names[i].above, &above)) return i;
+    }
+    return NONE;
 }
 
 /* The file that a path leads to, also by a link. */
-static enum file reached(int at, const char *path) {
-    struct stat link, state, other;
-    enum file file = named(at, path);
-    if (file != OTHER || fstatat(at, path, &link, AT_SYMLINK_NOFOLLOW) != 0) return file;
-    if (!S_ISLNK(link.st_mode) && link.st_nlink == 1) return OTHER;
-    if (fstatat(at, path, &state, 0) != 0) return OTHER;
-    for (int i = DB; i <= JOURNAL; i++) if (stat(names[i].path, &other) == 0 && is_same(&state, &other)) return i;
-    return marks.last && stat(marks.path, &other) == 0 && is_same(&state, &other) ? MARKS : OTHER;
+static int reached(int at, const char *path) {
+    struct stat link;
+    struct identity is, other;
+    int file = named(at, path);
+    if (file != NONE || fstatat(at, path, &link, AT_SYMLINK_NOFOLLOW) != 0) return file;
+    if ((!S_ISLNK(link.st_mode) && link.st_nlink == 1) || !identify(at, path, &is)) return NONE;
+    for (int i = DB; i <= JOURNAL; i++) {
+        if (identify(AT_FDCWD, names[i].path, &other) && is_same(&is, &other)) return i;
+    }
+    return NONE;
 }
 
-static enum file file_by(enum file (*find)(int, const char *), int at, const char *path) {
+static int file_by(int (*find)(int, const char *), int at, const char *path) {
     int kept = errno;
-    enum file file = path && !is_apart() ? find(at, path) : OTHER;
+    int file = path && *path && !is_apart() ? find(at, path) : NONE;
     errno = kept;
     return file;
 }
 
-/* The folder of the files, where a descriptor is of that. */
-static enum file folder_of(int descriptor) {
-    struct stat state;
-    int kept = errno;
-    int is = fstat(descriptor, &state) == 0 && state.st_dev == names[DB].device && state.st_ino == names[DB].folder;
+static int is_marks(int at, const char *path) {
+    struct identity is;
+    if (!marks.last || is_apart()) return 0;
+    return !strcmp(path, marks.path) || (identify(at, path, &is) && is_same(&is, &marks_are));
+}
+
+/* A file and which making of its name it is, as one number; and the two of one. */
+static int code_of(int file) { return (int)(makings[file] << 2) + file; }
+static enum file file_of(int code) { return code & 3; }
+static uint32_t making_of(int code) { return (uint32_t)code >> 2; }
+
+static int held_by(int descriptor, const char *call) {
+    struct identity is;
+    char path[PATH_ROOM];
+    int kept = errno, code = NONE;
+    (void)call;
+    if (is_apart() || !identify(descriptor, "", &is)) return errno = kept, NONE;
+    if (marks.last && is_same(&is, &marks_are)) code = MARKS;
+    else if (S_ISDIR(is.mode)) code = is_same(&is, &names[DB].above) ? FOLDER : NONE;
+    else if (S_ISREG(is.mode) && !is_same(&is, &trace_is) && !recall(&is, &code)) {
+        int was_removed = path_of(descriptor, path), file = *path && !was_removed ? reached(AT_FDCWD, path) : NONE;
+        code = file == NONE ? NONE : code_of(file);
+        remember(&is, code);
+    }
     errno = kept;
-    return is ? FOLDER : OTHER;
-}
-
-static enum file held_by(int descriptor) {
-    if (descriptor < 0 || descriptor >= DESCRIPTORS) return OTHER;
-    uint8_t file = __atomic_load_n(&held[descriptor].file, __ATOMIC_ACQUIRE);
-    return file && !is_apart() ? file - 1 : OTHER;
-}
-
-static void hold(int descriptor, enum file file, uint32_t making) {
-    if (descriptor < 0 || is_apart()) return;
-    if (descriptor < DESCRIPTORS) {
-        held[descriptor].making = making;
-        __atomic_store_n(&held[descriptor].file, file == OTHER ? 0 : file + 1, __ATOMIC_RELEASE);
-    } else if (file <= JOURNAL) _exit(NO_TRACE);
-}
-
-static void hold_copy(int descriptor, int copy) {
-    enum file file = held_by(descriptor);
-    if (copy >= 0 && copy != descriptor) hold(copy, file, file == OTHER ? 0 : held[descriptor].making);
+    return code;
 }
 
 /* ---- The beginning. */
 
-static void begin(void) {
-    const char *file = getenv("SQCRASH_FILE"), *to = getenv("SQCRASH_TRACE"), *lines = getenv("SQCRASH_MARKS");
-    const char *by = getenv("SQCRASH_BY");
-    struct stat state;
-    find_calls();
-    process = syscall(SYS_getpid);
-    if (by && atoi(by) == getppid()) prctl(PR_SET_PDEATHSIG, SIGTERM); /* the run ends where its recorder does */
-    if (!file || !to || strlen(file) >= PATH_ROOM) return;
-    set_names(file);
-    if (lines) set_name(&marks, lines, "");
-    pthread_atfork(before_fork, parent_forked, child_forked);
-    int opened = syscall(SYS_openat, AT_FDCWD, to, O_WRONLY | O_CREAT | O_APPEND | O_CLOEXEC, 0644);
-    if (opened < 0) _exit(NO_TRACE);
-    trace = syscall(SYS_fcntl, opened, F_DUPFD_CLOEXEC, FIRST_DESCRIPTOR); /* out of the way of the program's own */
+static void open_trace(void) {
+    int opened = next_syscall(SYS_openat, AT_FDCWD, trace_path, O_WRONLY | O_CREAT | O_APPEND | O_CLOEXEC, 0644);
+    if (opened < 0) no_trace("the trace can't be opened");
+    trace = next_syscall(SYS_fcntl, opened, F_DUPFD_CLOEXEC, FIRST_DESCRIPTOR); /* out of the program's way */
     if (trace < 0) trace = opened;
-    else syscall(SYS_close, opened);
-    if (fstat(trace, &state) != 0) _exit(NO_TRACE);
-    if (state.st_size == 0) {
+    else next_syscall(SYS_close, opened);
+    if (!identify(trace, "", &trace_is)) no_trace("the trace can't be read");
+}
+
+/* Names the first call that the trace doesn't hold, and says how many there are. */
+static void tell_refusals(void) {
+    static const char *CALLS[] = { [SHARED_MAP] = "a shared map that can be written", [FALLOCATE] = "fallocate",
+                                   [VECTORED_WRITE] = "writev or pwritev", [LINK] = "a link", [STREAM] = "a stream",
+                                   [UNSEEN] = "a call or program that isn't seen" };
+    struct head head;
+    unsigned long count = 0;
+    int from = next_syscall(SYS_openat, AT_FDCWD, trace_path, O_RDONLY | O_CLOEXEC);
+    for (off64_t at = 8; pread64(from, &head, sizeof head, at) == sizeof head; at += sizeof head) {
+        if (head.kind == BASE || head.kind == WRITE || head.kind == MARK) at += (off64_t)head.length;
+        if (head.kind != NOT_HELD || count++ > 0 || head.file > JOURNAL || head.answer > UNSEEN) continue;
+        const char *call = CALLS[head.answer] ? CALLS[head.answer] : "a call";
+        fprintf(stderr, "record: not recorded: %s, of %s\n", call, names[head.file].last);
+    }
+    if (count > 1) fprintf(stderr, "record: and %lu calls more\n", count - 1);
+    next_syscall(SYS_close, from);
+}
+
+static void begin(void) {
+    const char *file = getenv("SQCRASH_FILE"), *lines = getenv("SQCRASH_MARKS");
+    const char *by = getenv("SQCRASH_BY"), *command = getenv("SQCRASH_COMMAND");
+    find_calls();
+    trace_path = getenv("SQCRASH_TRACE");
+    process = next_syscall(SYS_getpid);
+    if (by && atoi(by) == getppid()) prctl(PR_SET_PDEATHSIG, SIGTERM); /* the run ends where its recorder does */
+    if (!file || !trace_path || strlen(file) >= PATH_ROOM) return;
+    set_names(file);
+    if (lines) set_name(&marks, lines, ""), identify(AT_FDCWD, lines, &marks_are);
+    pthread_atfork(before_fork, parent_forked, child_forked);
+    open_trace();
+    if (trace_is.size == 0) {
         put_all("SQCRTR1\n", 8);
         for (int i = DB; i <= JOURNAL; i++) put_base(i);
+        if (command && can_not_load(command)) put(NOT_HELD, DB, 0, UNSEEN, 0, 0, NULL);
     }
     if (!getenv("SQCRASH_END")) return;
     for (int i = DB; i <= JOURNAL; i++) put_end(i);
+    tell_refusals();
     trace = -1;
 }
 
 static void enter(void) {
     static int begun;
+    struct identity is;
     pthread_mutex_lock(&lock);
-    if (begun) return;
+    if (begun) {
+        if (trace >= 0 && (!identify(trace, "", &is) || !is_same(&is, &trace_is))) open_trace(); /* it was closed */
+        return;
+    }
     begun = 1;
     begin();
     __atomic_store_n(&ready, 1, __ATOMIC_RELEASE);
@@ -255,43 +269,36 @@ __attribute__((constructor)) static void start(void) {
 /* ---- Opening and closing. */
 
 static int open_one(int at, const char *path, int flags, mode_t mode) {
-    struct stat state = { 0 };
-    enum file file = file_by(reached, at, path);
+    struct identity was = { 0 }, is;
     if (!next_openat64) start();
-    if (file > JOURNAL) {
-        int opened = next_openat64(at, path, flags, mode);
-        if (opened >= 0 && !is_apart()) hold(opened, file == MARKS ? MARKS : folder_of(opened), 0);
+    int file = file_by(reached, at, path);
+    if (file == NONE) {
+        int is_to_marks = path && is_marks(at, path), opened = next_openat64(at, path, flags, mode);
+        if (opened >= 0 && is_to_marks) identify(opened, "", &marks_are);
         return opened;
     }
     enter();
-    int there = fstatat(at, path, &state, 0) == 0;
+    int there = identify(at, path, &was);
     int opened = next_openat64(at, path, flags, mode);
     int made = opened >= 0 && !there;
     makings[file] += made;
     put(OPEN, file, makings[file], told(opened), made, (uint32_t)flags, NULL);
-    if (opened >= 0 && (flags & O_TRUNC) && state.st_size > 0) put(CUT, file, makings[file], 0, 0, 0, NULL);
-    hold(opened, file, makings[file]);
+    if (opened >= 0 && (flags & O_TRUNC) && was.size > 0) put(CUT, file, makings[file], 0, 0, 0, NULL);
+    if (opened >= 0 && identify(opened, "", &is)) remember(&is, code_of(file));
     leave();
     return opened;
 }
 
 int close(int descriptor) {
     if (!next_close) start();
-    enum file file = held_by(descriptor);
-    if (file == OTHER) return next_close(descriptor);
+    if (descriptor == trace && trace >= 0) return errno = EBADF, -1;
+    int code = held_by(descriptor, "close");
+    if (code < 0) return next_close(descriptor);
     enter();
     int answer = next_close(descriptor);
-    if (file <= JOURNAL) put(CLOSE, file, held[descriptor].making, told(answer), 0, 0, NULL);
-    hold(descriptor, OTHER, 0);
+    put(CLOSE, file_of(code), making_of(code), told(answer), 0, 0, NULL);
     leave();
     return answer;
-}
-
-static int copied(int descriptor, int copy) {
-    enter();
-    hold_copy(descriptor, copy);
-    leave();
-    return copy;
 }
 
 /* ---- Marks. */
@@ -300,84 +307,72 @@ static void put_marks(const char *lines, size_t count) {
     while (count > 0) {
         const char *end = memchr(lines, '\n', count);
         size_t line = end ? (size_t)(end - lines) : count;
-        if (line > 0) put(MARK, MARKS, 0, 0, 0, line, lines);
+        if (line > 0) put(MARK, THE_MARKS, 0, 0, 0, line, lines);
         line += end != NULL;
         lines += line;
         count -= line;
     }
 }
 
-/* A FILE * to the marks, as a shell's .print has it, is one that hands each line on. */
-static ssize_t print_marks(void *cookie, const char *lines, size_t count) {
-    (void)cookie;
-    enter();
-    put_marks(lines, count);
-    leave();
-    return count;
-}
-
-static FILE *open_stream(const char *path, const char *mode) {
-    enum file file = file_by(reached, AT_FDCWD, path);
-    if (!next_fopen64) start();
-    if (file != MARKS || !mode || (mode[0] != 'w' && mode[0] != 'a')) return next_fopen64(path, mode);
-    FILE *stream = fopencookie(NULL, "w", (cookie_io_functions_t){ NULL, print_marks, NULL, NULL });
-    if (stream) setvbuf(stream, NULL, _IOLBF, 0);
-    return stream;
-}
-
-FILE *fopen(const char *path, const char *mode) { return open_stream(path, mode); }
-FILE *fopen64(const char *path, const char *mode) { return open_stream(path, mode); }
-
 /* ---- Writing, cutting, syncing. */
 
-/* Where the next write goes: to the end, or to the descriptor's own place. */
-static off64_t place_of(int descriptor) {
-    struct stat state;
-    int flags = next_fcntl64(descriptor, F_GETFL);
-    if (flags >= 0 && (flags & O_APPEND) && fstat(descriptor, &state) == 0) return state.st_size;
-    return lseek64(descriptor, 0, SEEK_CUR);
+/* What a call left in the file is recorded as a write, since its bytes weren't the program's. */
+static void put_back(int code, int descriptor, off64_t place, ssize_t done, const char *call) {
+    char *bytes = read_back(descriptor, place, (size_t)done);
+    (void)call;
+    if (bytes) put(WRITE, file_of(code), making_of(code), done, place, (size_t)done, bytes);
+    else put(NOT_HELD, file_of(code), making_of(code), UNSEEN, 0, 0, NULL);
+    free(bytes);
 }
 
-static void put_write(enum file file, int descriptor, const void *bytes, size_t count, off64_t place, ssize_t done) {
-    size_t length = done < 0 ? count : (size_t)done;
-    if (file <= JOURNAL) put(WRITE, file, held[descriptor].making, told(done), place, length, bytes);
-    else if (file == MARKS && done > 0) put_marks(bytes, done);
+/* A write that failed may be there in part, and may have made the file longer. */
+static void put_failed(int code, int descriptor, const struct iovec *part, off64_t place, off64_t was) {
+    int error = errno;
+    struct identity is;
+    char *bytes = error == EFAULT ? NULL : copy_in(part, 1, part->iov_len);
+    if (bytes) put(WRITE, file_of(code), making_of(code), -error, place, part->iov_len, bytes);
+    free(bytes);
+    if (identify(descriptor, "", &is) && is.size > was) {
+        put(CUT, file_of(code), making_of(code), 0, is.size, 0, NULL);
+        put_back(code, descriptor, was, is.size - was, "write");
+    }
+    errno = error;
 }
 
-ssize_t write(int descriptor, const void *bytes, size_t count) {
+static ssize_t write_one(int descriptor, const void *bytes, size_t count, int has_place, off64_t place) {
+    struct iovec part = { (void *)bytes, count };
+    struct identity is = { 0 };
     if (!next_write) start();
-    enum file file = held_by(descriptor);
-    if (file > JOURNAL && file != MARKS) return next_write(descriptor, bytes, count);
+    int code = held_by(descriptor, "write");
+    if (code < 0 && code != MARKS) {
+        return has_place ? next_pwrite64(descriptor, bytes, count, place) : next_write(descriptor, bytes, count);
+    }
     enter();
-    off64_t place = file <= JOURNAL ? place_of(descriptor) : 0;
-    ssize_t done = next_write(descriptor, bytes, count);
-    put_write(file, descriptor, bytes, count, place, done);
+    if (code >= 0) identify(descriptor, "", &is);
+    if (code >= 0 && !has_place) place = place_of(descriptor);
+    ssize_t done = has_place ? next_pwrite64(descriptor, bytes, count, place) : next_write(descriptor, bytes, count);
+    if (code == MARKS && done > 0) put_marks(bytes, (size_t)done);
+    else if (code >= 0 && done >= 0) put(WRITE, file_of(code), making_of(code), done, place, (size_t)done, bytes);
+    else if (code >= 0) put_failed(code, descriptor, &part, place, is.size);
     leave();
     return done;
 }
 
+ssize_t write(int descriptor, const void *bytes, size_t count) { return write_one(descriptor, bytes, count, 0, 0); }
 ssize_t pwrite64(int descriptor, const void *bytes, size_t count, off64_t place) {
-    if (!next_pwrite64) start();
-    enum file file = held_by(descriptor);
-    if (file > JOURNAL && file != MARKS) return next_pwrite64(descriptor, bytes, count, place);
-    enter();
-    ssize_t done = next_pwrite64(descriptor, bytes, count, place);
-    put_write(file, descriptor, bytes, count, place, done);
-    leave();
-    return done;
+    return write_one(descriptor, bytes, count, 1, place);
 }
-
 ssize_t pwrite(int descriptor, const void *bytes, size_t count, off_t place) {
-    return pwrite64(descriptor, bytes, count, place);
+    return write_one(descriptor, bytes, count, 1, place);
 }
 
 int ftruncate64(int descriptor, off64_t length) {
     if (!next_ftruncate64) start();
-    enum file file = held_by(descriptor);
-    if (file > JOURNAL) return next_ftruncate64(descriptor, length);
+    int code = held_by(descriptor, "ftruncate");
+    if (code < 0) return next_ftruncate64(descriptor, length);
     enter();
     int answer = next_ftruncate64(descriptor, length);
-    put(CUT, file, held[descriptor].making, told(answer), length, 0, NULL);
+    put(CUT, file_of(code), making_of(code), told(answer), length, 0, NULL);
     leave();
     return answer;
 }
@@ -385,9 +380,9 @@ int ftruncate64(int descriptor, off64_t length) {
 int ftruncate(int descriptor, off_t length) { return ftruncate64(descriptor, length); }
 
 int truncate64(const char *path, off64_t length) {
-    enum file file = file_by(reached, AT_FDCWD, path);
+    int file = file_by(reached, AT_FDCWD, path);
     if (!next_truncate64) start();
-    if (file > JOURNAL) return next_truncate64(path, length);
+    if (file == NONE) return next_truncate64(path, length);
     enter();
     int answer = next_truncate64(path, length);
     put(CUT, file, makings[file], told(answer), length, 0, NULL);
@@ -399,44 +394,47 @@ int truncate(const char *path, off_t length) { return truncate64(path, length); 
 
 static int sync_one(int descriptor, int data_alone) {
     if (!next_fsync) start();
-    enum file file = held_by(descriptor);
-    if (file > FOLDER) return data_alone ? next_fdatasync(descriptor) : next_fsync(descriptor);
+    int code = held_by(descriptor, "fsync");
+    if (code < 0 && code != FOLDER) return data_alone ? next_fdatasync(descriptor) : next_fsync(descriptor);
     enter();
     int answer = data_alone ? next_fdatasync(descriptor) : next_fsync(descriptor);
-    if (file <= JOURNAL) put(SYNC, file, held[descriptor].making, told(answer), data_alone, 0, NULL);
-    else if (file == FOLDER) put(FOLDER_SYNC, file, 0, told(answer), data_alone, 0, NULL);
+    if (code >= 0) put(SYNC, file_of(code), making_of(code), told(answer), data_alone, 0, NULL);
+    else put(FOLDER_SYNC, THE_FOLDER, 0, told(answer), data_alone, 0, NULL);
     leave();
     return answer;
 }
 
+static void sync_all(void) {
+    struct identity is;
+    if (is_apart()) return;
+    for (int i = DB; i <= JOURNAL; i++) {
+        if (identify(AT_FDCWD, names[i].path, &is)) put(SYNC, i, makings[i], 0, 0, 0, NULL);
+    }
+    put(FOLDER_SYNC, THE_FOLDER, 0, 0, 0, 0, NULL);
+}
+
 /* ---- Names that go, change or come. */
 
-static int unlinked(enum file file, int answer) {
+static int unlinked(int file, int answer) {
     put(UNLINK, file, makings[file], told(answer), 0, 0, NULL);
     leave();
     return answer;
 }
 
 int unlinkat(int at, const char *path, int flags) {
-    enum file file = file_by(named, at, path);
+    int file = file_by(named, at, path);
     if (!next_unlinkat) start();
-    if (file > JOURNAL) return next_unlinkat(at, path, flags);
+    if (file == NONE) return next_unlinkat(at, path, flags);
     enter();
     return unlinked(file, next_unlinkat(at, path, flags));
 }
 int unlink(const char *path) { return unlinkat(AT_FDCWD, path, 0); }
 int remove(const char *path) {
-    enum file file = file_by(named, AT_FDCWD, path);
+    int file = file_by(named, AT_FDCWD, path);
     if (!next_remove) start();
-    if (file > JOURNAL) return next_remove(path);
+    if (file == NONE) return next_remove(path);
     enter();
     return unlinked(file, next_remove(path));
-}
-
-/* A name that is none of the three counts as OTHER. */
-static enum file data_file_of(int at, const char *path) {
-    enum file file = file_by(named, at, path);
-    return file <= JOURNAL ? file : OTHER;
 }
 
 static int rename_one(int at, const char *path, int at_to, const char *to_path, unsigned flags) {
@@ -444,68 +442,71 @@ static int rename_one(int at, const char *path, int at_to, const char *to_path, 
 }
 
 int renameat2(int at, const char *path, int at_to, const char *to_path, unsigned flags) {
-    enum file from = data_file_of(at, path), to = data_file_of(at_to, to_path);
+    int from = file_by(named, at, path), other = file_by(named, at_to, to_path);
     if (!next_renameat) start();
-    if (from == to) return rename_one(at, path, at_to, to_path, flags);
+    if (from == other) return rename_one(at, path, at_to, to_path, flags);
     enter();
     int answer = rename_one(at, path, at_to, to_path, flags);
-    put(RENAME, from, from == OTHER ? 0 : makings[from], told(answer), to, 0, NULL);
+    put(RENAME, from == NONE ? OTHER : from, from == NONE ? 0 : makings[from], told(answer),
+        other == NONE ? OTHER : other, 0, NULL);
     leave();
     return answer;
 }
 
 /* ---- Calls that change bytes or names, and that a trace can't hold: it says so, and who plays it refuses it. */
 
-static void put_not_held(enum file file, enum not_held call) {
-    if (file <= JOURNAL) put(NOT_HELD, file, makings[file], call, 0, 0, NULL);
-}
-
-static void note(int descriptor, enum not_held call) {
-    enum file file = held_by(descriptor);
-    if (!ready) start();
-    if (file > JOURNAL) return;
+static void note(int code, enum not_held what, const char *call) {
+    (void)call;
+    if (is_apart()) return;
     enter();
-    put_not_held(file, call);
+    put(NOT_HELD, code < 0 ? DB : file_of(code), code < 0 ? 0 : making_of(code), what, 0, 0, NULL);
     leave();
 }
 
 int fallocate64(int descriptor, int mode, off64_t from, off64_t count) {
-    note(descriptor, FALLOCATE);
+    note_if(descriptor, FALLOCATE, "fallocate");
     return next_fallocate64(descriptor, mode, from, count);
 }
 int fallocate(int descriptor, int mode, off_t from, off_t count) { return fallocate64(descriptor, mode, from, count); }
 int posix_fallocate64(int descriptor, off64_t from, off64_t count) {
-    note(descriptor, FALLOCATE);
+    note_if(descriptor, FALLOCATE, "posix_fallocate");
     return next_posix_fallocate64(descriptor, from, count);
 }
 int posix_fallocate(int descriptor, off_t from, off_t count) { return posix_fallocate64(descriptor, from, count); }
+
+/* A vector of lines to the marks is read as one. */
+static ssize_t parts_done(int code, const struct iovec *parts, int count, ssize_t done) {
+    char *bytes = code == MARKS && done > 0 ? copy_in(parts, count, (size_t)done) : NULL;
+    if (bytes) enter(), put_marks(bytes, (size_t)done), leave();
+    free(bytes);
+    return done;
+}
+
 ssize_t writev(int descriptor, const struct iovec *parts, int count) {
-    note(descriptor, VECTORED_WRITE);
-    return next_writev(descriptor, parts, count);
+    int code = held_by(descriptor, "writev");
+    if (code >= 0) note(code, VECTORED_WRITE, "writev");
+    return parts_done(code, parts, count, next_writev(descriptor, parts, count));
 }
 ssize_t pwritev64(int descriptor, const struct iovec *parts, int count, off64_t place) {
-    note(descriptor, VECTORED_WRITE);
+    note_if(descriptor, VECTORED_WRITE, "pwritev");
     return next_pwritev64(descriptor, parts, count, place);
 }
 ssize_t pwritev(int descriptor, const struct iovec *parts, int count, off_t place) {
     return pwritev64(descriptor, parts, count, place);
 }
 ssize_t pwritev64v2(int descriptor, const struct iovec *parts, int count, off64_t place, int flags) {
-    note(descriptor, VECTORED_WRITE);
+    note_if(descriptor, VECTORED_WRITE, "pwritev2");
     return next_pwritev64v2(descriptor, parts, count, place, flags);
 }
 ssize_t pwritev2(int descriptor, const struct iovec *parts, int count, off_t place, int flags) {
     return pwritev64v2(descriptor, parts, count, place, flags);
 }
 int linkat(int at, const char *from, int at_to, const char *to, int flags) {
-    enum file one = file_by(named, at, from), other = file_by(named, at_to, to);
+    int one = file_by(named, at, from), other = file_by(named, at_to, to);
     if (!next_linkat) start();
-    if (one > JOURNAL && other > JOURNAL) return next_linkat(at, from, at_to, to, flags);
-    enter();
-    put_not_held(one, LINK);
-    put_not_held(other, LINK);
     int answer = next_linkat(at, from, at_to, to, flags);
-    leave();
+    if (one != NONE && answer == 0) note(code_of(one), LINK, "link");
+    if (other != NONE && answer == 0) note(code_of(other), LINK, "link");
     return answer;
 }
 int link(const char *from, const char *to) { return linkat(AT_FDCWD, from, AT_FDCWD, to, 0); }
