@@ -124,8 +124,9 @@ enum sqr_status
     SQR_NOT_WRITABLE = 26,  /* sqr_recover, sqr_recover_to, as all that follow: the system doesn't let FILE, FILE-shm
                                or the log that counts be written, or OUT be made */
     SQR_ALREADY_THERE = 27, /* something lies at OUT */
-    SQR_DISK_FULL = 28      /* there is no space left for it, or a limit of the size of files is reached, where the
-                               process ignores SIGXFSZ, which ends it otherwise */
+    SQR_DISK_FULL = 28,     /* there is no space left for it, or a limit of the size of files is reached */
+    SQR_SHARED_PROCESS = 29 /* the call needs a table of descriptors of its own, since the process may have FILE open,
+                               and the system gives it none; see 'A database by its path' */
 };
 
 /* The name that it had up to version 0.1.0; not to be used any more. */

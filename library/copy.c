@@ -3,13 +3,12 @@
    The new file is made under another name, and gets its own once it is whole and durable. Not proved. */
 #define _GNU_SOURCE
 #include "files.h"
+#include "../locks/raw.h"
 #include <errno.h>
-#include <fcntl.h>
 #include <limits.h>
 #include <stdio.h>
 #include <stdlib.h>
 #include <string.h>
-#include <unistd.h>
 
 #define AT_ONCE 65536 /* bytes; no page is longer */
 #define BLOCK 4096    /* as many zeros, or what is left of a piece, become a hole */
@@ -21,7 +20,10 @@ struct part { /* a file that is made, by the name that it has meanwhile */
 };
 
 struct copied { /* what is copied: the pages of a view, or where it has none the file's bytes */
-    struct sqr_path *from;
+    struct sqr_call call;
+    const char *path, *to;
+    uint32_t flags, at;
+    struct sqr_path from;
     uint64_t *places;
     struct sqr_plan plan;
     const struct sqr_view *view;
@@ -74,17 +76,20 @@ static int is_of(const struct stat *found, const char *path) {
     return 0;
 }
 
-/* Opens the file under its name meanwhile, in place of what a call that was stopped left there: 0, or errno. */
+/* Opens the file under its name meanwhile, in place of what a call that was stopped left there: 0, or errno. Others make
+   the same OUT where it comes and goes; EAGAIN where that doesn't end. */
 static int open_part(struct part *part, const char *path, mode_t mode) {
-    const int how = O_WRONLY | O_CREAT | O_EXCL | O_NOFOLLOW | O_NOCTTY | O_CLOEXEC;
     struct stat found;
-    part->fd = open(part->name, how, mode);
-    if (part->fd >= 0 || errno != EEXIST) return part->fd < 0 ? errno : 0;
-    if (lstat(part->name, &found)) return errno;
-    if (is_of(&found, path)) return EEXIST;
-    if (unlink(part->name)) return errno;
-    part->fd = open(part->name, how, mode);
-    return part->fd < 0 ? errno : 0;
+    for (int tries = 0; tries < 100; tries++) {
+        part->fd = open(part->name, O_WRONLY | O_CREAT | O_EXCL | O_NOFOLLOW | O_NOCTTY | O_CLOEXEC, mode);
+        if (part->fd >= 0) return 0;
+        if (errno != EEXIST) return errno;
+        if (lstat(part->name, &found)) {
+            if (errno != ENOENT) return errno;
+        } else if (is_of(&found, path)) return EEXIST;
+        else if (unlink(part->name) && errno != ENOENT) return errno;
+    }
+    return EAGAIN;
 }
 
 /* The name meanwhile is OUT.sqrescue-part, or where that is too long or a file of the database .sqrescue-part. */
@@ -99,30 +104,42 @@ static uint32_t begin(struct part *part, const char *path, mode_t mode) {
         strcat(part->name, "sqrescue-part"); /* the folder ends in a point */
         error = open_part(part, path, mode);
     }
+    if (error == EAGAIN) return SQR_IN_USE;
     return error ? sqr_file_unwritten(error) : SQR_OK;
+}
+
+static int is_open_as(int fd, const struct stat *found) {
+    struct stat own;
+    return !fstat(fd, &own) && are_same(&own, found);
 }
 
 /* Whether the file still has its name meanwhile, and no other call has taken that. */
 static int is_at(const struct part *part) {
-    struct stat own, there;
-    return !fstat(part->fd, &own) && !lstat(part->name, &there) && are_same(&own, &there);
+    struct stat there;
+    return !lstat(part->name, &there) && is_open_as(part->fd, &there);
 }
 
-static void sync_folder(const char *path) {
+/* Makes the new name durable. A folder that can't be opened, or none of which the system syncs, is so with all that its
+   file system has. */
+static uint32_t sync_folder(const struct part *part) {
     char folder[PATH_MAX + 16];
-    folder_of(folder, path);
-    int fd = open(folder, O_RDONLY | O_DIRECTORY | O_CLOEXEC);
-    if (fd < 0) return;
-    fsync(fd);
-    close(fd);
+    folder_of(folder, part->to);
+    int error = EINVAL, fd = open(folder, O_RDONLY | O_DIRECTORY | O_CLOEXEC);
+    if (fd >= 0) {
+        error = fsync(fd) ? errno : 0;
+        close(fd);
+    }
+    if (error == EINVAL || error == ENOSYS || error == EOPNOTSUPP) error = syncfs(part->fd) ? errno : 0;
+    return error ? sqr_file_unwritten(error) : SQR_OK;
 }
 
-/* Gives the file that is open a second name, so that it is none that another call made under the first meanwhile. */
+/* Gives the file that is open a second name, so that it is none that another call made under the first meanwhile. Not
+   by /proc/self/fd, which has the files of the main thread. */
 static int linked(const struct part *part) {
-    char own[32];
-    snprintf(own, sizeof own, "/proc/self/fd/%d", part->fd);
+    char own[48];
+    snprintf(own, sizeof own, "/proc/thread-self/fd/%d", part->fd);
     int answer = linkat(AT_FDCWD, own, AT_FDCWD, part->to, AT_SYMLINK_FOLLOW);
-    if (!answer || errno != ENOENT || !access("/proc/self/fd", F_OK)) return answer;
+    if (!answer || errno != ENOENT || !access("/proc/thread-self/fd", F_OK)) return answer;
     return link(part->name, part->to);
 }
 
@@ -132,12 +149,13 @@ static uint32_t end(const struct part *part) {
     struct stat found;
     if (!is_at(part)) return SQR_IN_USE;
     if (linked(part) == 0) unlink(part->name);
-    else if (errno == ENOENT) return is_at(part) ? SQR_NOT_THERE : SQR_IN_USE;
+    else if (errno == ENOENT) return is_at(part) ? sqr_file_unwritten(ENOENT) : SQR_IN_USE;
     else if (errno != EPERM && errno != EOPNOTSUPP && errno != EMLINK) return sqr_file_unwritten(errno);
     else if (lstat(part->to, &found) == 0) return SQR_ALREADY_THERE;
     else if (rename(part->name, part->to)) return sqr_file_unwritten(errno);
-    sync_folder(part->to);
-    return SQR_OK;
+    uint32_t status = sync_folder(part);
+    if (status && lstat(part->to, &found) == 0 && is_open_as(part->fd, &found)) unlink(part->to);
+    return status;
 }
 
 static int is_zeros(const uint8_t *bytes, size_t len) {
@@ -186,7 +204,7 @@ static uint32_t put_file(int fd, const struct sqr_files *files) {
 static uint32_t put_all(int fd, const struct copied *it) {
     uint8_t *buffer = malloc(AT_ONCE);
     if (!buffer) return SQR_NO_MEMORY;
-    const struct sqr_files *files = sqr_path_files(it->from);
+    const struct sqr_files *files = &it->from.files;
     const uint64_t len = it->view ? (uint64_t)it->view->pages * it->view->page_size : files->db_len;
     uint32_t status = it->view ? put_pages(fd, it->view, buffer) : put_file(fd, files);
     free(buffer);
@@ -194,12 +212,12 @@ static uint32_t put_all(int fd, const struct copied *it) {
     return status;
 }
 
-static uint32_t make(const struct copied *it, const char *path, const char *to) {
-    struct part part = {.fd = -1, .to = to};
+static uint32_t make(const struct copied *it) {
+    struct part part = {.fd = -1, .to = it->to};
     struct stat file;
-    if (is_log_of(to, path)) return SQR_MISUSE;
-    if (fstat(it->from->held.file, &file)) return sqr_file_status(errno);
-    uint32_t status = begin(&part, path, file.st_mode & 0777);
+    if (is_log_of(it->to, it->path)) return SQR_MISUSE;
+    if (fstat(it->from.held.file, &file)) return sqr_file_status(errno);
+    uint32_t status = begin(&part, it->path, file.st_mode & 0777);
     if (status) return status;
     status = put_all(part.fd, it);
     if (!status) status = end(&part);
@@ -209,37 +227,51 @@ static uint32_t make(const struct copied *it, const char *path, const char *to) 
 }
 
 /* What is to be copied: at a commit the view that the path is opened with; otherwise what the plan leaves. */
-static uint32_t look(struct copied *it, const char *path, uint32_t flags, const struct sqr_options *options,
-                     uint32_t at) {
-    const uint32_t how = flags & SQR_AT && at ? flags : (flags & SQR_NO_LOCK) | SQR_FILES_ONLY;
-    uint32_t status = sqr_open_path(path, how, options, &it->from);
-    if (status || (flags & SQR_AT && !at)) return status;
-    if (flags & SQR_AT) {
-        it->view = sqr_path_view(it->from);
+static uint32_t look(struct copied *it) {
+    const int is_file = it->flags & SQR_AT && !it->at, is_commit = it->flags & SQR_AT && it->at;
+    const uint32_t how = is_commit ? it->flags : (it->flags & SQR_NO_LOCK) | SQR_FILES_ONLY;
+    uint32_t status = sqr_path_begin(&it->from, it->path, how, it->at);
+    it->call.is_held_up = status == SQR_IN_USE;
+    if (status || is_file) return status;
+    if (is_commit) {
+        it->view = &it->from.view;
         it->found = (struct sqr_recovered){SQR_RECOVERY_FOLD, it->view->page_size, it->view->pages};
         return SQR_OK;
     }
-    status = sqr_file_plan(&it->from->files, &it->places, &it->plan, &it->found);
+    status = sqr_file_plan(&it->from.files, &it->places, &it->plan, &it->found);
     if (status) return status;
     const uint32_t recovery = it->plan.recovery;
     if (recovery == SQR_RECOVERY_FOLD || recovery == SQR_RECOVERY_ROLL_BACK) it->view = &it->plan.view;
-    sqr_path_let_write(it->from, &it->plan.view);
+    sqr_path_let_write(&it->from, &it->plan.view);
     return SQR_OK;
+}
+
+static void copy_once(struct sqr_task *task, struct sqr_call *call) {
+    struct copied *it = (struct copied *)call;
+    (void)task;
+    call->status = look(it);
+    if (!call->status) call->status = make(it);
+    sqr_path_end(&it->from);
+    free(it->places);
+    it->places = NULL;
+}
+
+static uint32_t copied(struct copied *it, const char *path, const struct sqr_options *options) {
+    struct sqr_asked asked = {0, 0};
+    char real[PATH_MAX];
+    uint32_t status = sqr_file_asked(path, it->flags, SQR_NO_LOCK | SQR_AT, options, real, &asked);
+    it->path = real, it->at = asked.at;
+    return status ? status : sqr_call_run(copy_once, &it->call, real, NULL, asked.wait);
 }
 
 uint32_t sqr_recover_to(const char *path, const char *to, uint32_t flags, const struct sqr_options *options,
                         struct sqr_recovered *out) {
-    struct copied it = {.plan = SQR_PLAN_INIT};
-    struct sqr_asked asked = {0, 0};
-    char real[PATH_MAX];
+    struct copied it = {.to = to, .flags = flags, .from = SQR_PATH_INIT, .plan = SQR_PLAN_INIT};
+    const int before = sqr_call_begun();
     if (!to) return SQR_MISUSE;
-    if (!*to) return SQR_NOT_THERE;
-    if (strnlen(to, PATH_MAX) == PATH_MAX) return SQR_FILE_FAILED;
-    uint32_t status = sqr_file_asked(path, flags, SQR_NO_LOCK | SQR_AT, options, real, &asked);
-    if (!status) status = look(&it, real, flags, options, asked.at);
-    if (!status) status = make(&it, real, to);
+    if (!*to) return sqr_call_ended(sqr_file_status(ENOENT), before);
+    if (strnlen(to, PATH_MAX) == PATH_MAX) return sqr_call_ended(sqr_file_status(ENAMETOOLONG), before);
+    uint32_t status = copied(&it, path, options);
     if (!status && out) *out = it.found;
-    sqr_close_path(&it.from);
-    free(it.places);
-    return status;
+    return sqr_call_ended(status, before);
 }

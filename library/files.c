@@ -2,30 +2,33 @@
    proved. */
 #define _GNU_SOURCE
 #include "files.h"
+#include "../locks/raw.h"
 #include <errno.h>
-#include <fcntl.h>
 #include <limits.h>
 #include <stdlib.h>
 #include <string.h>
 #include <sys/mman.h>
 #include <time.h>
-#include <unistd.h>
+
+static uint32_t with_error(uint32_t status, int error) {
+    return status | (uint32_t)error << 8;
+}
 
 uint32_t sqr_file_status(int error) {
     switch (error) {
-    case ENOENT: case ENOTDIR: return SQR_NOT_THERE;
-    case EACCES: case EPERM: return SQR_NOT_READABLE;
-    case EISDIR: return SQR_FOLDER;
+    case ENOENT: case ENOTDIR: return with_error(SQR_NOT_THERE, error);
+    case EACCES: case EPERM: return with_error(SQR_NOT_READABLE, error);
+    case EISDIR: return with_error(SQR_FOLDER, error);
     case ENOMEM: return SQR_NO_MEMORY;
-    default: return SQR_FILE_FAILED;
+    default: return with_error(SQR_FILE_FAILED, error);
     }
 }
 
 uint32_t sqr_file_unwritten(int error) {
     switch (error) {
-    case EACCES: case EPERM: case EROFS: case ETXTBSY: return SQR_NOT_WRITABLE;
-    case ENOSPC: case EDQUOT: case EFBIG: return SQR_DISK_FULL;
-    case EEXIST: return SQR_ALREADY_THERE;
+    case EACCES: case EPERM: case EROFS: case ETXTBSY: return with_error(SQR_NOT_WRITABLE, error);
+    case ENOSPC: case EDQUOT: case EFBIG: return with_error(SQR_DISK_FULL, error);
+    case EEXIST: return with_error(SQR_ALREADY_THERE, error);
     default: return sqr_file_status(error);
     }
 }
@@ -60,7 +63,7 @@ static uint32_t unopened(const char *path, uint32_t want, int error) {
     return sqr_file_status(error);
 }
 
-uint32_t sqr_file_hold(struct sqr_held *held, const char *path, uint32_t want, uint32_t flags, uint64_t wait) {
+uint32_t sqr_file_hold(struct sqr_held *held, const char *path, uint32_t want, uint32_t flags) {
     struct stat found;
     if (stat(path, &found)) return sqr_file_status(errno);
     uint32_t status = kind_of(&found);
@@ -69,11 +72,12 @@ uint32_t sqr_file_hold(struct sqr_held *held, const char *path, uint32_t want, u
         held->file = open(path, (want ? O_RDWR : O_RDONLY) | O_NOFOLLOW | O_NONBLOCK | O_NOCTTY | O_CLOEXEC);
         return held->file < 0 ? unopened(path, want, errno) : SQR_OK;
     }
-    switch (sqr_hold(held, path, want, wait)) {
+    switch (sqr_hold(held, path, want, 0)) {
     case SQR_HELD: return SQR_OK;
     case SQR_HELD_IN_USE: return SQR_IN_USE;
     case SQR_HELD_NO_LOCKS: return SQR_NO_LOCKS;
     case SQR_HELD_NO_FILE: return unopened(path, want, errno);
+    case SQR_HELD_NO_ROOM: return sqr_file_status(errno);
     case SQR_HELD_NO_MEMORY: return SQR_NO_MEMORY;
     case SQR_HELD_FAILED: return SQR_NOT_WRITABLE;
     default: return SQR_FILE_FAILED;
@@ -84,6 +88,16 @@ void sqr_file_let_go(struct sqr_held *held, int is_locked) {
     if (is_locked) sqr_give_back(held);
     else if (held->file >= 0) close(held->file);
     held->file = held->index = -1;
+}
+
+uint32_t sqr_file_again(int file, const char *path, int *fd, struct stat *found) {
+    struct stat of;
+    *fd = open(path, O_RDONLY | O_NOFOLLOW | O_NONBLOCK | O_NOCTTY | O_CLOEXEC);
+    if (*fd < 0) return sqr_file_status(errno);
+    uint32_t status = fstat(*fd, found) || fstat(file, &of) ? sqr_file_status(errno) : SQR_OK;
+    if (!status && (of.st_dev != found->st_dev || of.st_ino != found->st_ino)) status = SQR_IN_USE;
+    if (status) close(*fd), *fd = -1;
+    return status;
 }
 
 uint32_t sqr_file_log(int file, const char *path, const char *end, int how, int *fd, struct stat *found) {

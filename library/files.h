@@ -3,6 +3,7 @@
 #ifndef FILES_H
 #define FILES_H
 #include "sqrescue.h"
+#include "task.h"
 #include "../locks/held.h"
 #include <sys/stat.h>
 
@@ -13,7 +14,8 @@ struct sqr_opened { /* the bytes of a file; none of one that is missing or empty
 };
 
 struct sqr_path {
-    struct sqr_held held;
+    struct sqr_held held;  /* in a task alone; otherwise its descriptors are parked */
+    struct sqr_park park;
     struct sqr_opened db, wal, journal;
     struct sqr_files files;
     struct sqr_view view;
@@ -32,17 +34,24 @@ uint32_t sqr_options_read(uint32_t flags, const uint8_t *options, size_t len, st
 uint32_t sqr_file_asked(const char *path, uint32_t flags, uint32_t known, const struct sqr_options *options, char *real,
                         struct sqr_asked *asked);
 
-/* The status of an error of the system; the second where something was to be written. */
+/* The status of an error of the system, with the error above its lowest byte until the call ends (sqr_call_ended); the
+   second where something was to be written. */
 uint32_t sqr_file_status(int error);
 uint32_t sqr_file_unwritten(int error);
 
 /* `path` with `end` behind it, into PATH_MAX + 16 bytes. */
 void sqr_file_name(char *name, const char *path, const char *end);
 
-/* Opens and locks FILE for a reading (0) or a recovery (1), and waits for others so many milliseconds; without locks
-   where SQR_NO_LOCK is a flag. Nothing is open where it isn't SQR_OK. */
-uint32_t sqr_file_hold(struct sqr_held *held, const char *path, uint32_t want, uint32_t flags, uint64_t wait);
+/* All that follow are called in a task alone.
+
+   Opens and locks FILE for a reading (0) or a recovery (1), and waits for nobody; without locks where SQR_NO_LOCK is a
+   flag. Nothing is open where it isn't SQR_OK. */
+uint32_t sqr_file_hold(struct sqr_held *held, const char *path, uint32_t want, uint32_t flags);
 void sqr_file_let_go(struct sqr_held *held, int is_locked);
+
+/* Opens a file that is open once more, for reading: the one is locked, the other mapped, since a mapping that a forked
+   child inherits would keep the locks of its descriptor. SQR_IN_USE where the path leads to another file now. */
+uint32_t sqr_file_again(int file, const char *path, int *fd, struct stat *found);
 
 /* Opens a log beside the FILE that is open: -1 in `fd` where there is none. `how` is O_RDONLY or O_RDWR. */
 uint32_t sqr_file_log(int file, const char *path, const char *end, int how, int *fd, struct stat *found);
@@ -61,6 +70,12 @@ uint32_t sqr_file_write(int fd, const uint8_t *bytes, size_t len, uint64_t at);
    where it has none. */
 uint32_t sqr_file_plan(const struct sqr_files *files, uint64_t **places, struct sqr_plan *plan,
                        struct sqr_recovered *found);
+
+/* One attempt to open a path, and its end, which gives all back; `of` begins as SQR_PATH_INIT. SQR_IN_USE where others
+   were in the way, or changed the files. */
+#define SQR_PATH_INIT {.held = {.file = -1, .index = -1}, .park = SQR_PARK_INIT, .view = SQR_VIEW_INIT}
+uint32_t sqr_path_begin(struct sqr_path *of, const char *path, uint32_t flags, uint32_t at);
+void sqr_path_end(struct sqr_path *of);
 
 /* Lets others write where no connection was live: the log is then cut at its front, also that of this view. */
 void sqr_path_let_write(struct sqr_path *of, struct sqr_view *view);

@@ -34,6 +34,7 @@ const char *sqr_status_name(uint32_t status) {
     case SQR_NOT_WRITABLE: return "not writable";
     case SQR_ALREADY_THERE: return "already there";
     case SQR_DISK_FULL: return "disk full";
+    case SQR_SHARED_PROCESS: return "shared process";
     default: return "?";
     }
 }

@@ -4,14 +4,12 @@
    over memory. Not proved. */
 #define _GNU_SOURCE
 #include "files.h"
+#include "../locks/raw.h"
 #include "../locks/sqlocks.h"
 #include <errno.h>
-#include <fcntl.h>
 #include <limits.h>
 #include <stdlib.h>
 #include <string.h>
-#include <time.h>
-#include <unistd.h>
 
 enum how { UNLOCKED, FRONT, SCANNED, SCANNED_ALONE, NO_INDEX }; /* which locks are held */
 
@@ -102,10 +100,13 @@ static uint32_t read_journal(struct sqr_path *of, const char *path) {
 static uint32_t read_file(struct sqr_path *of, const char *path, enum how how) {
     struct stat found;
     uint8_t version = 0;
-    if (fstat(of->held.file, &found)) return sqr_file_status(errno);
-    int may_change = how == NO_INDEX
-        && (is_there(path, "-wal") || pread(of->held.file, &version, 1, 19) != 1 || version == 2);
-    return sqr_file_bytes(of->held.file, (size_t)found.st_size, may_change, &of->db);
+    int fd;
+    uint32_t status = sqr_file_again(of->held.file, path, &fd, &found);
+    if (status) return status;
+    int may_change = how == NO_INDEX && (is_there(path, "-wal") || pread(fd, &version, 1, 19) != 1 || version == 2);
+    status = sqr_file_bytes(fd, (size_t)found.st_size, may_change, &of->db);
+    close(fd);
+    return status;
 }
 
 /* The pages of the database at a commit, or 0 where there is no such commit. */
@@ -151,10 +152,12 @@ void sqr_path_let_write(struct sqr_path *of, struct sqr_view *view) {
     of->is_alone = 0;
 }
 
-/* One attempt. SQR_IN_USE where the files were being changed: another may succeed. */
-static uint32_t attempt(struct sqr_path *of, const char *path, uint32_t flags, uint32_t at) {
+uint32_t sqr_path_begin(struct sqr_path *of, const char *path, uint32_t flags, uint32_t at) {
     enum how how = UNLOCKED;
-    uint32_t status = flags & SQR_NO_LOCK ? SQR_OK : how_held(&of->held, &how);
+    uint32_t status = sqr_file_hold(&of->held, path, 0, flags);
+    if (status) return status;
+    of->is_locked = !(flags & SQR_NO_LOCK);
+    if (of->is_locked) status = how_held(&of->held, &how);
     if (!status) status = read_wal(of, path, how);
     if (!status) status = read_journal(of, path);
     if (!status) status = read_file(of, path, how);
@@ -169,51 +172,76 @@ static uint32_t attempt(struct sqr_path *of, const char *path, uint32_t flags, u
     return status;
 }
 
-static void empty(struct sqr_path *of) {
+static void forget(struct sqr_path *of) {
     free(of->places);
     sqr_file_give_back(&of->journal);
     sqr_file_give_back(&of->wal);
     sqr_file_give_back(&of->db);
+    *of = (struct sqr_path)SQR_PATH_INIT;
+}
+
+void sqr_path_end(struct sqr_path *of) {
     sqr_file_let_go(&of->held, of->is_locked);
-    memset(of, 0, sizeof *of);
-    of->held.file = of->held.index = -1;
-    of->files = no_files;
-    of->view = no_view;
+    forget(of);
 }
 
-static uint32_t open_until(struct sqr_path *of, const char *path, uint32_t flags, const struct sqr_asked *asked) {
-    const uint64_t end = sqr_file_now() + asked->wait;
-    for (;;) {
-        uint64_t at = sqr_file_now();
-        uint32_t status = sqr_file_hold(&of->held, path, 0, flags, at < end ? end - at : 0);
-        if (status) return status;
-        of->is_locked = !(flags & SQR_NO_LOCK);
-        status = attempt(of, path, flags, asked->at);
-        if (status != SQR_IN_USE || sqr_file_now() >= end) return status;
-        empty(of);
-        nanosleep(&(struct timespec){0, 1000000}, NULL);
-    }
+struct opening {
+    struct sqr_call call;
+    struct sqr_path *of;
+    const char *path;
+    uint32_t flags, at;
+};
+
+/* The locks are parked, and last where the descriptors are closed here: those of FILE-shm are given back first. */
+static uint32_t park(struct sqr_task *task, struct sqr_held *held) {
+    const int fds[] = {held->file, held->index};
+    uint32_t status = sqr_task_park(task, fds, held->index < 0 ? 1 : 2) ? sqr_file_status(errno) : SQR_OK;
+    if (status) return status;
+    if (held->index >= 0) close(held->index);
+    close(held->file);
+    held->file = held->index = -1;
+    return SQR_OK;
 }
 
-uint32_t sqr_open_path(const char *path, uint32_t flags, const struct sqr_options *options, struct sqr_path **handle) {
+static void open_once(struct sqr_task *task, struct sqr_call *call) {
+    struct opening *it = (struct opening *)call;
+    uint32_t status = sqr_path_begin(it->of, it->path, it->flags, it->at);
+    if (!status && it->of->is_locked) status = park(task, &it->of->held);
+    else if (!status) sqr_file_let_go(&it->of->held, 0);
+    if (status) sqr_path_end(it->of);
+    call->status = status;
+    call->is_held_up = status == SQR_IN_USE;
+}
+
+static uint32_t opened(const char *path, uint32_t flags, const struct sqr_options *options, struct sqr_path **handle) {
+    struct opening it = {.path = NULL, .flags = flags};
     struct sqr_asked asked = {0, 0};
-    if (!handle) return SQR_MISUSE;
-    *handle = NULL;
     char real[PATH_MAX];
     uint32_t status = sqr_file_asked(path, flags, UINT32_MAX, options, real, &asked);
     if (status) return status;
-    struct sqr_path *of = calloc(1, sizeof *of);
-    if (!of) return SQR_NO_MEMORY;
-    of->held.file = of->held.index = -1;
-    status = open_until(of, real, flags, &asked);
-    if (status) sqr_close_path(&of);
-    *handle = of;
+    it.of = malloc(sizeof *it.of);
+    if (!it.of) return SQR_NO_MEMORY;
+    *it.of = (struct sqr_path)SQR_PATH_INIT;
+    it.path = real, it.at = asked.at;
+    struct sqr_park kept = SQR_PARK_INIT;
+    status = sqr_call_run(open_once, &it.call, real, flags & SQR_NO_LOCK ? NULL : &kept, asked.wait);
+    it.of->park = kept;
+    if (status) free(it.of);
+    else *handle = it.of;
     return status;
+}
+
+uint32_t sqr_open_path(const char *path, uint32_t flags, const struct sqr_options *options, struct sqr_path **handle) {
+    const int before = sqr_call_begun();
+    if (!handle) return SQR_MISUSE;
+    *handle = NULL;
+    return sqr_call_ended(opened(path, flags, options, handle), before);
 }
 
 void sqr_close_path(struct sqr_path **handle) {
     if (!handle || !*handle) return;
-    empty(*handle);
+    sqr_park_drop(&(*handle)->park);
+    forget(*handle);
     free(*handle);
     *handle = NULL;
 }

@@ -3,11 +3,10 @@
    step after another of sqr_plan_next, both of which are proved. Not proved. */
 #define _GNU_SOURCE
 #include "files.h"
+#include "../locks/raw.h"
 #include <errno.h>
-#include <fcntl.h>
 #include <limits.h>
 #include <stdlib.h>
-#include <unistd.h>
 
 #define AT_ONCE 65536      /* bytes; no page is longer */
 #define MOST_PAGES 2097152 /* of 512 bytes, in a database that isn't too large */
@@ -21,6 +20,10 @@ struct log {
 };
 
 struct recovery {
+    struct sqr_call call;
+    const char *path;
+    uint32_t flags;
+    struct sqr_recovered found;
     struct sqr_held held;
     int is_locked;
     struct sqr_opened db;
@@ -79,7 +82,7 @@ static uint32_t read_log(struct recovery *of, const char *path, int which) {
     struct log *log = &of->logs[which];
     uint32_t status = sqr_file_log(of->held.file, path, ends[which], O_RDWR, &log->fd, &log->found);
     log->is_writable = !status;
-    if (status == SQR_NOT_READABLE || (status && errno == EROFS))
+    if ((status & 0xff) == SQR_NOT_READABLE || status >> 8 == EROFS)
         status = sqr_file_log(of->held.file, path, ends[which], O_RDONLY, &log->fd, &log->found);
     if (status || log->fd < 0) return status;
     return map(log->fd, (size_t)log->found.st_size, (size_t)log->found.st_size, of->buffer, &log->bytes);
@@ -87,15 +90,19 @@ static uint32_t read_log(struct recovery *of, const char *path, int which) {
 
 static uint32_t read_files(struct recovery *of, const char *path) {
     struct stat db;
+    int fd;
     const struct log *wal = &of->logs[WAL], *journal = &of->logs[JOURNAL];
     uint32_t status = read_log(of, path, WAL);
     if (!status) status = read_log(of, path, JOURNAL);
     if (status) return status;
     if (wal->fd >= 0 && journal->fd >= 0 && wal->found.st_dev == journal->found.st_dev
         && wal->found.st_ino == journal->found.st_ino) return SQR_NOT_A_FILE;
-    if (fstat(of->held.file, &db)) return sqr_file_status(errno);
+    status = sqr_file_again(of->held.file, path, &fd, &db);
+    if (status) return status;
     const size_t len = (size_t)db.st_size;
-    return map(of->held.file, len, len < AT_ONCE ? len : AT_ONCE, of->buffer, &of->db);
+    status = map(fd, len, len < AT_ONCE ? len : AT_ONCE, of->buffer, &of->db);
+    close(fd);
+    return status;
 }
 
 /* A step, but a page. */
@@ -130,14 +137,14 @@ static uint32_t carry_out(struct recovery *of) {
     return status;
 }
 
-static uint32_t recover(struct recovery *of, const char *path, struct sqr_recovered *found) {
+static uint32_t recover(struct recovery *of) {
     of->buffer = malloc(AT_ONCE);
     if (!of->buffer) return SQR_NO_MEMORY;
-    uint32_t status = read_files(of, path);
+    uint32_t status = read_files(of, of->path);
     if (status) return status;
     const struct sqr_opened *db = &of->db, *wal = &of->logs[WAL].bytes, *journal = &of->logs[JOURNAL].bytes;
     const struct sqr_files files = SQR_FILES(db->bytes, db->len, wal->bytes, wal->len, journal->bytes, journal->len);
-    status = sqr_file_plan(&files, &of->places, &of->plan, found);
+    status = sqr_file_plan(&files, &of->places, &of->plan, &of->found);
     return status ? status : carry_out(of);
 }
 
@@ -152,17 +159,25 @@ static void give_back(struct recovery *of) {
     sqr_file_let_go(&of->held, of->is_locked);
 }
 
+static void recover_once(struct sqr_task *task, struct sqr_call *call) {
+    struct recovery *of = (struct recovery *)call;
+    (void)task;
+    call->status = sqr_file_hold(&of->held, of->path, 1, of->flags);
+    call->is_held_up = call->status == SQR_IN_USE;
+    if (call->status) return;
+    of->is_locked = !(of->flags & SQR_NO_LOCK);
+    call->status = recover(of);
+    give_back(of);
+}
+
 uint32_t sqr_recover(const char *path, uint32_t flags, const struct sqr_options *options, struct sqr_recovered *out) {
     struct recovery of = {.held = {.file = -1, .index = -1}, .logs = {{.fd = -1}, {.fd = -1}}, .plan = SQR_PLAN_INIT};
-    struct sqr_recovered found = {0, 0, 0};
     struct sqr_asked asked = {0, 0};
     char real[PATH_MAX];
+    const int before = sqr_call_begun();
     uint32_t status = sqr_file_asked(path, flags, SQR_NO_LOCK, options, real, &asked);
-    if (!status) status = sqr_file_hold(&of.held, real, 1, flags, asked.wait);
-    if (status) return status;
-    of.is_locked = !(flags & SQR_NO_LOCK);
-    status = recover(&of, real, &found);
-    give_back(&of);
-    if (!status && out) *out = found;
-    return status;
+    of.path = real, of.flags = flags;
+    if (!status) status = sqr_call_run(recover_once, &of.call, real, NULL, asked.wait);
+    if (!status && out) *out = of.found;
+    return sqr_call_ended(status, before);
 }

@@ -2,22 +2,25 @@
    nothing: a step is carried out here, and said what it came to. Not proved. */
 #define _GNU_SOURCE
 #include "held.h"
+#include "raw.h"
 #include "sqlocks.h"
 #include <errno.h>
-#include <fcntl.h>
 #include <limits.h>
 #include <stdio.h>
 #include <string.h>
 #include <sys/stat.h>
 #include <time.h>
-#include <unistd.h>
 
 struct attempt {
     struct sqr_held *held;
     const char *path;
     struct timespec end;
-    int why; /* errno, where FILE couldn't be opened */
+    int why; /* errno, where FILE couldn't be opened, or no descriptor was left; otherwise 0 */
 };
+
+static int is_for_want_of_room(int error) {
+    return error == EMFILE || error == ENFILE;
+}
 
 static int opened(const char *path, const char *behind, int how) { /* a regular file, or -1 */
     char name[PATH_MAX + 8];
@@ -46,10 +49,11 @@ static uint8_t open_file(struct attempt *of, uint32_t is_of_index) {
     if (!is_of_index) {
         closed(&held->file);
         held->file = opened(of->path, "", held->want ? O_RDWR : O_RDONLY);
-        of->why = errno;
+        of->why = held->file >= 0 ? 0 : errno;
         return held->file >= 0 ? SQR_GIVEN : SQR_MISSING;
     }
     if ((held->index = opened(of->path, "-shm", O_RDWR)) >= 0) return SQR_GIVEN;
+    if (is_for_want_of_room(errno)) of->why = errno;
     if (errno == ENOENT) return SQR_MISSING;
     if ((errno == EACCES || errno == EPERM || errno == EROFS)
         && (held->index = opened(of->path, "-shm", O_RDONLY)) >= 0) return SQR_REFUSED;
@@ -72,11 +76,12 @@ static uint8_t compare(const struct attempt *of) {
         && here.st_ino == there.st_ino ? SQR_GIVEN : SQR_REFUSED;
 }
 
-static uint8_t look(const struct attempt *of) {
+static uint8_t look(struct attempt *of) {
     uint8_t index[136], header[32], frame[24];
     size_t is_there = 0;
     if (pread(of->held->index, index, sizeof index, 0) != sizeof index) return SQR_REFUSED;
     int log = opened(of->path, "-wal", O_RDONLY);
+    if (log < 0 && is_for_want_of_room(errno)) of->why = errno;
     if (log >= 0) {
         off_t place = (off_t)sqr_index_place(index, sizeof index);
         is_there = pread(log, header, sizeof header, 0) == sizeof header
@@ -140,6 +145,7 @@ enum sqr_hold_answer sqr_hold(struct sqr_held *held, const char *path, uint32_t 
     if (step.kind == SQR_GO) return SQR_HELD;
     if (step.kind == SQR_GO_UNLOCKED) answer = held->file < 0 ? SQR_HELD_NO_FILE : SQR_HELD_NO_LOCKS;
     else if (step.kind == SQR_GIVE_UP) answer = reasons[step.reason];
+    if (answer != SQR_HELD_NO_FILE && is_for_want_of_room(of.why)) answer = SQR_HELD_NO_ROOM;
     release(held);
     errno = of.why;
     return answer;

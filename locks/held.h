@@ -6,9 +6,9 @@
    (realpath). The locks are F_OFD_SETLK's, so they keep apart threads of one process, and go with the descriptors.
    The descriptors are close-on-exec, and none is 0, 1 or 2.
 
-   Nothing is kept outside *held, so threads may each hold their own. Not for a process that has the database open by
-   SQLite itself: closing a descriptor of a file, which sqr_give_back does, also gives back all of SQLite's locks that
-   the process has on that file. */
+   Nothing is kept outside *held, so threads may each hold their own. In a process that has the database open by SQLite
+   itself it is called in a task alone (library/task.h): closing a descriptor of a file, which sqr_give_back does, also
+   gives back all of SQLite's locks on that file that the table of descriptors has. */
 #ifndef HELD_H
 #define HELD_H
 #include <stddef.h>
@@ -21,7 +21,8 @@ enum sqr_hold_answer {
                            opened */
     SQR_HELD_NO_FILE,   /* FILE can't be opened, for a recovery for writing, or is no regular file; errno says why */
     SQR_HELD_FAILED,    /* a recovery: FILE-shm can't be opened for writing */
-    SQR_HELD_NO_MEMORY
+    SQR_HELD_NO_MEMORY,
+    SQR_HELD_NO_ROOM    /* no descriptor is left for FILE-shm or FILE-wal; errno says of whom */
 };
 
 #define SQR_HOLD_STEPS 64

@@ -138,6 +138,7 @@ int main(int argc, char **words) {
         case SQR_HELD_NO_LOCKS: start(words, "--refused", "no-locks");
         case SQR_HELD_FAILED: start(words, "--refused", "file-failed");
         case SQR_HELD_NO_MEMORY: errno = ENOMEM, fails("no memory");
+        case SQR_HELD_NO_ROOM: fails(line + from + 1);
         default: start(words, NULL, NULL);
     }
 }
