@@ -561,6 +561,12 @@ uint32_t sqr_open_path(const char *path, uint32_t flags, const struct sqr_option
 /* Gives the locks and all memory back, and sets the handle to NULL. Nothing where it is NULL already. */
 void sqr_close_path(struct sqr_path **handle);
 
+/* Whether all that was read of a path until now is of one moment. SQR_OK, but SQR_IN_USE where FILE, or the log beside
+   it, is in WAL mode and longer than 4 MiB, FILE-shm wasn't there when the path was opened, and somebody has opened FILE
+   since: then what was read may be of several moments, so open it anew. To be called behind the last reading; it takes
+   one look at a name, and none where it isn't so. */
+uint32_t sqr_path_kept(const struct sqr_path *handle);
+
 /* The view for sqr_page, and the files for sqr_check, sqr_open_at and the scans: theirs until the path is closed, and
    for reading on any number of threads. Where the log has a live writer, `wal` ends with its front. Of NULL, a handle
    that is closed, a view without pages and files without bytes. */

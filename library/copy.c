@@ -81,7 +81,7 @@ static int is_of(const struct stat *found, const char *path) {
 static int open_part(struct part *part, const char *path, mode_t mode) {
     struct stat found;
     for (int tries = 0; tries < 100; tries++) {
-        part->fd = open(part->name, O_WRONLY | O_CREAT | O_EXCL | O_NOFOLLOW | O_NOCTTY | O_CLOEXEC, mode);
+        part->fd = sqr_raw_open(part->name, O_WRONLY | O_CREAT | O_EXCL | O_NOFOLLOW | O_NOCTTY | O_CLOEXEC, mode);
         if (part->fd >= 0) return 0;
         if (errno != EEXIST) return errno;
         if (lstat(part->name, &found)) {
@@ -220,6 +220,7 @@ static uint32_t make(const struct copied *it) {
     uint32_t status = begin(&part, it->path, file.st_mode & 0777);
     if (status) return status;
     status = put_all(part.fd, it);
+    if (!status) status = sqr_path_kept(&it->from);
     if (!status) status = end(&part);
     if (status && is_at(&part)) unlink(part.name);
     close(part.fd);
@@ -251,6 +252,7 @@ static void copy_once(struct sqr_task *task, struct sqr_call *call) {
     (void)task;
     call->status = look(it);
     if (!call->status) call->status = make(it);
+    if (call->status && sqr_path_kept(&it->from)) call->status = SQR_IN_USE, call->is_held_up = 1;
     sqr_path_end(&it->from);
     free(it->places);
     it->places = NULL;

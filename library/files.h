@@ -20,6 +20,7 @@ struct sqr_path {
     struct sqr_files files;
     struct sqr_view view;
     uint64_t *places;
+    char *index;             /* the name of FILE-shm, where the bytes are of one moment as long as it isn't there */
     int is_locked, is_alone; /* alone: no connection was live, and WRITE is held on that account alone */
 };
 
@@ -56,7 +57,12 @@ uint32_t sqr_file_again(int file, const char *path, int *fd, struct stat *found)
 /* Opens a log beside the FILE that is open: -1 in `fd` where there is none. `how` is O_RDONLY or O_RDWR. */
 uint32_t sqr_file_log(int file, const char *path, const char *end, int how, int *fd, struct stat *found);
 
+/* Whether a rollback journal of this length counts by its header, 28 bytes, as sqr_log has it; no more is read. */
+#define SQR_JOURNAL_HEADER 28
+uint32_t sqr_file_is_hot(int journal, uint64_t len, int *is_hot);
+
 /* The first `len` bytes of a file, mapped or copied. */
+#define SQR_COPIED 4194304 /* bytes of each file that may be copied: by path less than 16 MB are */
 uint32_t sqr_file_bytes(int fd, size_t len, int is_copy, struct sqr_opened *out);
 void sqr_file_give_back(struct sqr_opened *it);
 

@@ -60,7 +60,7 @@ static uint32_t read_wal(struct sqr_path *of, const char *path, enum how how) {
     if (status) return status;
     size_t len = fd < 0 ? 0 : (size_t)found.st_size;
     if (how == FRONT) status = front_of(of->held.index, fd, &len);
-    if (!status && fd >= 0) status = sqr_file_bytes(fd, len, how == NO_INDEX, &of->wal);
+    if (!status && fd >= 0) status = sqr_file_bytes(fd, len, how == NO_INDEX && len <= SQR_COPIED, &of->wal);
     if (fd >= 0) close(fd);
     return status;
 }
@@ -79,24 +79,46 @@ static uint32_t has_still(int fd, const uint8_t *bytes, size_t len, int *has) {
     return SQR_OK;
 }
 
-/* A journal is copied, since a live writer may cut it. Where a second reading of all of it finds other bytes it is a
-   live writer's, which has written nothing to FILE, and so it isn't read (SHARED is held: that of a dead one stays as
-   it is). The header alone doesn't tell: over the records of an earlier transaction (persist) half of a record may be
-   copied whose sum, which is over each 200th byte, is right all the same. A reading that fails says nothing of it. */
-static uint32_t read_journal(struct sqr_path *of, const char *path) {
-    struct stat found, again;
-    int fd, has = 1;
-    uint32_t status = sqr_file_log(of->held.file, path, "-journal", O_RDONLY, &fd, &found);
-    if (status || fd < 0) return status;
-    status = sqr_file_bytes(fd, (size_t)found.st_size, 1, &of->journal);
-    if (!status) status = has_still(fd, of->journal.bytes, of->journal.len, &has);
+/* Whether a connection is about to write (RESERVED, os.h): it has written nothing to FILE, which SHARED keeps, so its
+   journal doesn't count (lockingv3, 'Dealing with hot journals'). The lock is asked about, and never taken. */
+static int is_reserved(const struct sqr_path *of) {
+    struct flock at = {.l_type = F_WRLCK, .l_whence = SEEK_SET, .l_start = 1073741825, .l_len = 1};
+    return of->is_locked && !fcntl(of->held.file, F_OFD_GETLK, &at) && at.l_type != F_UNLCK;
+}
+
+/* A hot journal up to SQR_COPIED is copied, since a connection that reads from before its writer died may write and cut
+   it. Where a second reading of all of it finds other bytes it is a live writer's, as above. The header alone doesn't
+   tell: over the records of an earlier transaction (persist) half of a record may be copied whose sum, which is over
+   each 200th byte, is right all the same. A reading that fails says nothing of it. A longer one is mapped. */
+static uint32_t read_hot(struct sqr_path *of, int fd, const struct stat *found) {
+    const int is_copy = found->st_size <= SQR_COPIED;
+    struct stat again;
+    int has = 1;
+    uint32_t status = sqr_file_bytes(fd, (size_t)found->st_size, is_copy, &of->journal);
+    if (!status) status = is_copy ? has_still(fd, of->journal.bytes, of->journal.len, &has)
+                                  : sqr_file_is_hot(fd, (uint64_t)found->st_size, &has);
     if (!status && fstat(fd, &again)) status = sqr_file_status(errno);
-    close(fd);
-    if (!status && (!has || again.st_size < found.st_size || again.st_nlink == 0)) sqr_file_give_back(&of->journal);
+    if (!status && (!has || again.st_size < found->st_size || again.st_nlink == 0)) sqr_file_give_back(&of->journal);
     return status;
 }
 
-/* FILE may change while SHARED alone is held where it is in WAL mode, or has such a log: then it is copied. */
+/* Of a journal that isn't hot the header alone is read: nothing else of it is ever looked at. */
+static uint32_t read_journal(struct sqr_path *of, const char *path) {
+    struct stat found;
+    int fd, is_hot = 0;
+    uint32_t status = sqr_file_log(of->held.file, path, "-journal", O_RDONLY, &fd, &found);
+    if (status || fd < 0) return status;
+    const size_t len = found.st_size < SQR_JOURNAL_HEADER ? (size_t)found.st_size : SQR_JOURNAL_HEADER;
+    status = sqr_file_is_hot(fd, (uint64_t)found.st_size, &is_hot);
+    if (!status && !is_hot) status = sqr_file_bytes(fd, len, 1, &of->journal);
+    else if (!status && !is_reserved(of)) status = read_hot(of, fd, &found);
+    close(fd);
+    return status;
+}
+
+/* FILE may change while SHARED alone is held where it is in WAL mode, or has such a log: up to SQR_COPIED it is copied
+   then, otherwise it is as it was as long as there is no FILE-shm, which stays where it was made, since SHARED keeps the
+   last connection from deleting it. */
 static uint32_t read_file(struct sqr_path *of, const char *path, enum how how) {
     struct stat found;
     uint8_t version = 0;
@@ -104,9 +126,21 @@ static uint32_t read_file(struct sqr_path *of, const char *path, enum how how) {
     uint32_t status = sqr_file_again(of->held.file, path, &fd, &found);
     if (status) return status;
     int may_change = how == NO_INDEX && (is_there(path, "-wal") || pread(fd, &version, 1, 19) != 1 || version == 2);
-    status = sqr_file_bytes(fd, (size_t)found.st_size, may_change, &of->db);
+    status = sqr_file_bytes(fd, (size_t)found.st_size, may_change && found.st_size <= SQR_COPIED, &of->db);
     close(fd);
-    return status;
+    if (status || !may_change || (of->db.is_copy && (!of->wal.bytes || of->wal.is_copy))) return status;
+    of->index = malloc(strlen(path) + sizeof "-shm");
+    if (!of->index) return SQR_NO_MEMORY;
+    sqr_file_name(of->index, path, "-shm");
+    return SQR_OK;
+}
+
+uint32_t sqr_path_kept(const struct sqr_path *handle) {
+    struct stat found;
+    if (!handle || !handle->index) return SQR_OK;
+    const int before = errno, is_still = lstat(handle->index, &found) && errno == ENOENT;
+    errno = before;
+    return is_still ? SQR_OK : SQR_IN_USE;
 }
 
 /* The pages of the database at a commit, or 0 where there is no such commit. */
@@ -168,11 +202,13 @@ uint32_t sqr_path_begin(struct sqr_path *of, const char *path, uint32_t flags, u
     of->is_alone = how == SCANNED_ALONE;
     if (flags & SQR_FILES_ONLY) return SQR_OK;
     status = open_view(of, flags, at);
+    if (sqr_path_kept(of)) return SQR_IN_USE;
     if (!status) sqr_path_let_write(of, &of->view);
     return status;
 }
 
 static void forget(struct sqr_path *of) {
+    free(of->index);
     free(of->places);
     sqr_file_give_back(&of->journal);
     sqr_file_give_back(&of->wal);

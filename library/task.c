@@ -166,7 +166,7 @@ static int may_do_without(const char *path) {
 
 static int above_streams(int fd) { /* the same by another number than the standard streams have */
     if (fd < 0 || fd > 2) return fd;
-    int other = fcntl(fd, F_DUPFD_CLOEXEC, 3);
+    int other = (int)syscall(SYS_fcntl, fd, F_DUPFD_CLOEXEC, 3);
     close(fd);
     return other;
 }

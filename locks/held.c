@@ -29,7 +29,7 @@ static int opened(const char *path, const char *behind, int how) { /* a regular 
     if (length < 0 || (size_t)length >= sizeof name) return errno = ENAMETOOLONG, -1;
     int fd = open(name, how | O_NOFOLLOW | O_NONBLOCK | O_NOCTTY | O_CLOEXEC);
     if (fd >= 0 && fd <= 2) { /* the number of a standard stream that is closed */
-        int other = fcntl(fd, F_DUPFD_CLOEXEC, 3);
+        int other = (int)syscall(SYS_fcntl, fd, F_DUPFD_CLOEXEC, 3);
         close(fd);
         fd = other;
     }

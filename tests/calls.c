@@ -11,6 +11,8 @@ typedef long off_t;
 enum { NOT_PERMITTED = 1, INTERRUPTED = 4, IO_FAILED = 5, KILL = 9 };
 enum { WRITE_ON = 01 | 0100 | 02000, LONGEST = 4096, PAGE = 512, SET_LOCK = 37 };
 
+enum { FSTAT = 5, PREAD = 17, PWRITE = 18, FCNTL = 72, FSYNC = 74, FTRUNCATE = 77, OPENAT = 257 }; /* of x86-64 */
+
 enum { HALVES = 1, REFUSES = 2, ENDS = 4, STOPS = 8 };
 
 char *getenv(const char *);
@@ -20,15 +22,16 @@ int strncmp(const char *, const char *, size_t);
 char *strstr(const char *, const char *);
 char *strrchr(const char *, int);
 int snprintf(char *, size_t, const char *, ...);
-int dprintf(int, const char *, ...);
+int vdprintf(int, const char *, __builtin_va_list);
+int close(int);
 ssize_t readlink(const char *, char *, size_t);
 int *__errno_location(void);
 int raise(int);
-long syscall(long, ...);
 void *dlsym(void *, const char *);
 
 #define NEXT(kind, name) ((kind)dlsym((void *)-1L, name))
 
+typedef long (*asks)(long, long, long, long, long, long, long);
 typedef int (*opens)(const char *, int, unsigned);
 typedef int (*looks)(int, const char *, int, unsigned, void *);
 typedef int (*looks_at)(const char *, void *);
@@ -44,7 +47,7 @@ typedef int (*names)(const char *);
 typedef int (*pairs)(const char *, const char *);
 typedef int (*links)(int, const char *, int, const char *, int);
 
-static int told = -1;
+static const char *told;
 static unsigned long made, chosen, openings, held_from;
 static int was_interrupted;
 static const char *manner;
@@ -55,19 +58,29 @@ static unsigned long number(const char *name) {
 }
 
 __attribute__((constructor)) static void begin(void) {
-    const char *path = getenv("CALLS");
+    told = getenv("CALLS");
     manner = getenv("MANNER");
     if (!manner) manner = "";
     chosen = number("CALL");
     held_from = number("FROM");
-    told = path ? NEXT(opens, "open")(path, WRITE_ON, 0600) : -1;
+}
+
+/* Opens the file for each line, since a task of the C library has a table of descriptors of its own. */
+static void tell(const char *how, ...) {
+    int file = told ? NEXT(opens, "open")(told, WRITE_ON, 0600) : -1;
+    __builtin_va_list all;
+    if (file < 0) return;
+    __builtin_va_start(all, how);
+    vdprintf(file, how, all);
+    __builtin_va_end(all);
+    close(file);
 }
 
 /* The name of an open file, without its folder. */
 static const char *name_of(int file, char *found) {
     char link[32], *slash;
     ssize_t length;
-    snprintf(link, sizeof link, "/proc/self/fd/%d", file);
+    snprintf(link, sizeof link, "/proc/thread-self/fd/%d", file);
     length = readlink(link, found, LONGEST - 1);
     found[length < 0 ? 0 : length] = 0;
     slash = strrchr(found, '/');
@@ -113,31 +126,31 @@ static const char *place_of(const char *path) {
 /* One that is refused is an opening, too, but not one that is interrupted. */
 int open(const char *path, int how, unsigned mode) {
     int does = fate();
-    dprintf(told, "open %s\n", last_of(path));
+    tell("open %s\n", last_of(path));
     if (!strcmp(path, "/proc/locks") && !(does & STOPS)) openings++;
     return is_over(does) ? -1 : NEXT(opens, "open")(place_of(path), how, mode);
 }
 
 int statx(int file, const char *path, int how, unsigned mask, void *out) {
     char found[LONGEST];
-    dprintf(told, "look %s\n", *path ? last_of(path) : name_of(file, found));
+    tell("look %s\n", *path ? last_of(path) : name_of(file, found));
     return is_over(fate()) ? -1 : NEXT(looks, "statx")(file, path, how, mask, out);
 }
 
 /* The same by the names that C has for them. */
 int stat(const char *path, void *out) {
-    dprintf(told, "look %s\n", last_of(path));
+    tell("look %s\n", last_of(path));
     return is_over(fate()) ? -1 : NEXT(looks_at, "stat")(path, out);
 }
 
 int lstat(const char *path, void *out) {
-    dprintf(told, "look %s\n", last_of(path));
+    tell("look %s\n", last_of(path));
     return is_over(fate()) ? -1 : NEXT(looks_at, "lstat")(path, out);
 }
 
 int fstat(int file, void *out) {
     char found[LONGEST];
-    dprintf(told, "look %s\n", name_of(file, found));
+    tell("look %s\n", name_of(file, found));
     return is_over(fate()) ? -1 : NEXT(looks_into, "fstat")(file, out);
 }
 
@@ -145,14 +158,14 @@ int fstat(int file, void *out) {
 int fcntl(int file, int what, void *with) {
     char found[LONGEST];
     if (what != SET_LOCK) return NEXT(locks, "fcntl")(file, what, with);
-    dprintf(told, "lock %s\n", name_of(file, found));
+    tell("lock %s\n", name_of(file, found));
     return is_over(fate()) ? -1 : NEXT(locks, "fcntl")(file, what, with);
 }
 
 void *mmap(void *at, size_t n, int may, int how, int file, off_t from) {
     char found[LONGEST];
     if (file >= 0) {
-        dprintf(told, "map %s\n", name_of(file, found));
+        tell("map %s\n", name_of(file, found));
         if (is_over(fate())) return (void *)-1L;
     }
     return NEXT(maps, "mmap")(at, n, may, how, file, from);
@@ -161,14 +174,14 @@ void *mmap(void *at, size_t n, int may, int how, int file, off_t from) {
 ssize_t read(int file, void *out, size_t n) {
     char found[LONGEST];
     int does = fate();
-    dprintf(told, "read %s on %lu\n", name_of(file, found), n);
+    tell("read %s on %lu\n", name_of(file, found), n);
     return is_over(does) ? -1 : NEXT(reads, "read")(file, out, part_of(n, does));
 }
 
 ssize_t pread(int file, void *out, size_t n, off_t at) {
     char found[LONGEST];
     int does = fate();
-    dprintf(told, "read %s %ld %lu\n", name_of(file, found), at, n);
+    tell("read %s %ld %lu\n", name_of(file, found), at, n);
     return is_over(does) ? -1 : NEXT(reads_at, "pread")(file, out, part_of(n, does), at);
 }
 
@@ -183,7 +196,7 @@ static void tell_write(int file, const unsigned char *bytes, size_t n, off_t at)
         while (same < end && bytes[same] == bytes[from]) same++;
         length += snprintf(line + length, sizeof line - length, same == end ? " %d" : " x", bytes[from]);
     }
-    dprintf(told, "%s\n", line);
+    tell("%s\n", line);
 }
 
 ssize_t pwrite(int file, const void *from, size_t n, off_t at) {
@@ -202,7 +215,7 @@ ssize_t write(int file, const void *from, size_t n) {
     int does;
     if (file < 3) return NEXT(writes, "write")(file, from, n);
     does = fate();
-    dprintf(told, "put %s %lu\n", name_of(file, found), n);
+    tell("put %s %lu\n", name_of(file, found), n);
     if (!(does & HALVES)) return is_over(does) ? -1 : NEXT(writes, "write")(file, from, n);
     ssize_t done = NEXT(writes, "write")(file, from, part_of(n, does));
     return is_over(does) ? -1 : done;
@@ -212,7 +225,7 @@ ssize_t write(int file, const void *from, size_t n) {
    system without links does. */
 int link(const char *from, const char *to) {
     int does = fate(), is_chosen = chosen && made == chosen;
-    dprintf(told, "link %s %s\n", last_of(from), last_of(to));
+    tell("link %s %s\n", last_of(from), last_of(to));
     if (is_chosen && !strncmp(manner, "taken", 5)) NEXT(opens, "open")(to, WRITE_ON, 0600);
     if (is_chosen && strstr(manner, "no links")) {
         *__errno_location() = NOT_PERMITTED;
@@ -227,7 +240,7 @@ int linkat(int here, const char *from, int there, const char *to, int how) {
     int does = fate(), is_chosen = chosen && made == chosen;
     ssize_t length = readlink(from, found, LONGEST - 1);
     found[length < 0 ? 0 : length] = 0;
-    dprintf(told, "link %s %s\n", last_of(found), last_of(to));
+    tell("link %s %s\n", last_of(found), last_of(to));
     if (is_chosen && !strncmp(manner, "taken", 5)) NEXT(opens, "open")(to, WRITE_ON, 0600);
     if (is_chosen && strstr(manner, "no links")) {
         *__errno_location() = NOT_PERMITTED;
@@ -237,18 +250,18 @@ int linkat(int here, const char *from, int there, const char *to, int how) {
 }
 
 int rename(const char *from, const char *to) {
-    dprintf(told, "rename %s %s\n", last_of(from), last_of(to));
+    tell("rename %s %s\n", last_of(from), last_of(to));
     return is_over(fate()) ? -1 : NEXT(pairs, "rename")(from, to);
 }
 
 int unlink(const char *path) {
-    dprintf(told, "remove %s\n", last_of(path));
+    tell("remove %s\n", last_of(path));
     return is_over(fate()) ? -1 : NEXT(names, "unlink")(path);
 }
 
 int ftruncate(int file, off_t end) {
     char found[LONGEST];
-    dprintf(told, "length %s %ld\n", name_of(file, found), end);
+    tell("length %s %ld\n", name_of(file, found), end);
     return is_over(fate()) ? -1 : NEXT(cuts, "ftruncate")(file, end);
 }
 
@@ -257,10 +270,24 @@ int ftruncate64(int file, off_t end) { return ftruncate(file, end); }
 /* What a sync brings down no other process sees: it is told, and not made. */
 static int synced(int file) {
     char found[LONGEST];
-    dprintf(told, "sync %s\n", name_of(file, found));
+    tell("sync %s\n", name_of(file, found));
     return is_over(fate()) ? -1 : 0;
 }
 
 int fsync(int file) { return synced(file); }
 
 int fdatasync(int file) { return synced(file); }
+
+/* The C library asks the system by these numbers, past the names above (locks/raw.h). */
+long syscall(long what, long a, long b, long c, long d, long e, long f) {
+    switch (what) {
+    case FSTAT: return fstat((int)a, (void *)b);
+    case PREAD: return pread((int)a, (void *)b, (size_t)c, d);
+    case PWRITE: return pwrite((int)a, (const void *)b, (size_t)c, d);
+    case FCNTL: return fcntl((int)a, (int)b, (void *)c);
+    case FSYNC: return fsync((int)a);
+    case FTRUNCATE: return ftruncate((int)a, b);
+    case OPENAT: return open((const char *)b, (int)c, (unsigned)d);
+    default: return NEXT(asks, "syscall")(what, a, b, c, d, e, f);
+    }
+}
