@@ -91,6 +91,8 @@ NotWritable = _refusal("NotWritable", 26, "The file, or a log beside it, can't b
                        PermissionError)
 AlreadyThere = _refusal("AlreadyThere", 27, "Something lies where a new file is to be made.", FileExistsError)
 DiskFull = _refusal("DiskFull", 28, "There is no space left, or a limit of the size of files is reached.", OSError)
+SharedProcess = _refusal("SharedProcess", 29, "The system gives the call no table of descriptors of its own, and this "
+                         "process may have the database open.", OSError)
 
 NO_ROOM = 9
 ERRORS = {error.status: error for error in Error.__subclasses__()}
