@@ -76,8 +76,8 @@ static int is_of(const struct stat *found, const char *path) {
     return 0;
 }
 
-/* Opens the file under its name meanwhile, in place of what a call that was stopped left there: 0, or errno. Others make
-   the same OUT where it comes and goes; EAGAIN where that doesn't end. */
+/* Opens the file under its name meanwhile, in place of what a call that was stopped left there: 0, or errno. If the
+   name comes and goes, others write the same OUT; EAGAIN if that doesn't end. */
 static int open_part(struct part *part, const char *path, mode_t mode) {
     struct stat found;
     for (int tries = 0; tries < 100; tries++) {

@@ -116,9 +116,8 @@ static uint32_t read_journal(struct sqr_path *of, const char *path) {
     return status;
 }
 
-/* FILE may change while SHARED alone is held where it is in WAL mode, or has such a log: up to SQR_COPIED it is copied
-   then, otherwise it is as it was as long as there is no FILE-shm, which stays where it was made, since SHARED keeps the
-   last connection from deleting it. */
+/* FILE may change while SHARED alone is held if it is in WAL mode, or has such a log. Up to SQR_COPIED it is copied
+   then. A longer one is unchanged as long as there is no FILE-shm: SHARED keeps all from deleting that. */
 static uint32_t read_file(struct sqr_path *of, const char *path, enum how how) {
     struct stat found;
     uint8_t version = 0;

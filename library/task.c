@@ -104,7 +104,7 @@ static void *run(void *with) {
     sigset_t own;
     sigemptyset(&own);
     for (size_t i = 0; i < sizeof faults / sizeof *faults; i++) sigaddset(&own, faults[i]);
-    pthread_sigmask(SIG_UNBLOCK, &own, NULL); /* all other signals are for threads of the host */
+    pthread_sigmask(SIG_UNBLOCK, &own, NULL); /* all other signals are for the host's threads */
     if (!goes_apart(of)) return NULL;
     close_others(of->ends);
     fill_streams();
@@ -182,11 +182,15 @@ static int witness(struct sqr_task *of, int is_parked) {
     return fcntl(of->ends[KEPT], F_SETLK, &lock) ? errno : 0;
 }
 
+static int is_for_want_of_room(int error) {
+    return error == EMFILE || error == ENFILE || error == ENOMEM || error == ENOBUFS;
+}
+
 static uint32_t run_once(sqr_body *body, struct sqr_call *call, const char *path, struct sqr_park *park) {
     struct sqr_task of = {.body = body, .call = call, .ends = {-1, -1}};
     int error = witness(&of, park != NULL);
     call->status = SQR_OK, call->is_held_up = 0;
-    if (error == EMFILE || error == ENFILE || error == ENOMEM || error == ENOBUFS) call->status = sqr_file_status(error);
+    if (is_for_want_of_room(error)) call->status = sqr_file_status(error);
     else {
         if (!error) error = on_thread(&of);
         if (error && (of.ends[SENT] >= 0 || !park) && may_do_without(path)) body(&of, call), of.is_done = 1;

@@ -1,8 +1,8 @@
 /* Calls the C library by path in a process that has locks of its own on the files, as SQLite has them.
 
-   oneproc in BOX COMMAND..    runs a command under a filter of the system's calls: `docker` refuses unshare and clone3 as
-                               Docker's default profile does; `old` has no close_range, as Linux before 5.9; `closed` has
-                               neither; `plain` has no filter
+   oneproc in BOX COMMAND..    runs a command under a filter of the system's calls: `docker` refuses unshare and
+                               clone3, as Docker's default profile does; `old` has no close_range, as Linux before 5.9;
+                               `closed` has none of them; `plain` has no filter
    oneproc keeps FILE ROOM     the process's locks outlive each call, and nothing is left behind
    oneproc hostile FILE ROOM   threads that are cancelled, signals, closed streams, no descriptor left, forked children
    oneproc alone FILE ROOM     where there is no task: a process of one thread, and one that has FILE open

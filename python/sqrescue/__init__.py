@@ -13,14 +13,18 @@
     recover("ledger.db")                    # a recovery in its place, while nobody else has it open
 
 The library is the file that SQRESCUE_LIBRARY names, or the one beside this file, as a wheel has it, or that of this
-repository, or the system's. While a View of a path is open its bytes are of one moment, beside any writer; but not in a
-process that has the same database open by the module sqlite3, which loses its own locks when the View is closed. Of
-bytes that are handed over nobody writes to them meanwhile."""
+repository, or the system's. While a View of a path is open its bytes are of one moment, beside any writer, also in a
+process that has the same database open by the module sqlite3. Of bytes that are handed over nobody writes to them
+meanwhile."""
 import ctypes
+import errno
 import mmap
 import operator
 import os
+import threading
 from collections import namedtuple
+
+__version__ = "1.0.0"
 
 FAULTS = ("Magic PageSize Fraction Reserved AutoVacuum Kind CellOutside Overlap Freeblock Fragments ChainCut ChainLong "
           "PageTwice PageOutside PageUnused KeyOrder Depth FreeCount Source NoMemory SchemaRecord PointerMap").split()
@@ -60,10 +64,14 @@ class Damaged(Error):
         super().__init__(f"{named}: {fault}")
         self.fault, self.page, self.cell, self.row = fault, page, cell, row
 
+    def __reduce__(self):
+        return type(self), (self.fault, self.page, self.cell, self.row)
 
-def _refusal(name, status, doc, *bases):
-    """The Error of this name and status."""
-    return type(name, (Error, *bases), {"__doc__": doc, "__module__": __name__, "status": status})
+
+def _refusal(name, status, doc, base=None, number=None):
+    """The Error of this name and status; an OSError has this errno, where the system names no other."""
+    fields = {"__doc__": doc, "__module__": __name__, "status": status, "_errno": number}
+    return type(name, (Error, base) if base else (Error,), fields)
 
 
 TwoLogs = _refusal("TwoLogs", 2, "A hot journal and a write-ahead log that isn't empty.")
@@ -79,20 +87,23 @@ BadSum = _refusal("BadSum", 13, "The checksum of the log's header is wrong.")
 BadVersion = _refusal("BadVersion", 14, "The log is of another version than 3007000.")
 SuperJournal = _refusal("SuperJournal", 15, "The journal names a super-journal, which decides whether it counts.")
 PageSizesDiffer = _refusal("PageSizesDiffer", 16, "The log's pages are of another size than those of the file.")
-NotThere = _refusal("NotThere", 17, "There is no such file.", FileNotFoundError)
-NotReadable = _refusal("NotReadable", 18, "The file, or a log beside it, can't be read.", PermissionError)
-Folder = _refusal("Folder", 19, "The path leads to a folder.", IsADirectoryError)
-NotAFile = _refusal("NotAFile", 20, "The path, or a log beside it, is no regular file.", OSError)
-InUse = _refusal("InUse", 21, "A writer held a lock until the time was over.", TimeoutError)
-NoLocks = _refusal("NoLocks", 22, "The file system has no such locks; see lock=False.", OSError)
-FileFailed = _refusal("FileFailed", 23, "The system couldn't read or write the file.", OSError)
+NotThere = _refusal("NotThere", 17, "There is no such file.", FileNotFoundError, errno.ENOENT)
+NotReadable = _refusal("NotReadable", 18, "The file, or a log beside it, can't be read.", PermissionError,
+                       errno.EACCES)
+Folder = _refusal("Folder", 19, "The path leads to a folder.", IsADirectoryError, errno.EISDIR)
+NotAFile = _refusal("NotAFile", 20, "The path, or a log beside it, is no regular file.", OSError, errno.EINVAL)
+InUse = _refusal("InUse", 21, "A writer held a lock until the time was over.", TimeoutError, errno.ETIMEDOUT)
+NoLocks = _refusal("NoLocks", 22, "The file system has no such locks; see lock=False.", OSError, errno.ENOLCK)
+FileFailed = _refusal("FileFailed", 23, "The system couldn't read or write the file.", OSError, errno.EIO)
 Misuse = _refusal("Misuse", 25, "A new file would have the name of a log of the database.", ValueError)
 NotWritable = _refusal("NotWritable", 26, "The file, or a log beside it, can't be written, or a new one made.",
-                       PermissionError)
-AlreadyThere = _refusal("AlreadyThere", 27, "Something lies where a new file is to be made.", FileExistsError)
-DiskFull = _refusal("DiskFull", 28, "There is no space left, or a limit of the size of files is reached.", OSError)
+                       PermissionError, errno.EACCES)
+AlreadyThere = _refusal("AlreadyThere", 27, "Something lies where a new file is to be made.", FileExistsError,
+                        errno.EEXIST)
+DiskFull = _refusal("DiskFull", 28, "There is no space left, or a limit of the size of files is reached.", OSError,
+                    errno.ENOSPC)
 SharedProcess = _refusal("SharedProcess", 29, "The system gives the call no table of descriptors of its own, and this "
-                         "process may have the database open.", OSError)
+                         "process may have the database open.", OSError, errno.EPERM)
 
 NO_ROOM = 9
 ERRORS = {error.status: error for error in Error.__subclasses__()}
@@ -178,7 +189,7 @@ def _found():
 
 def _loaded():
     """The library, with the types of its calls."""
-    library = ctypes.CDLL(os.environ.get("SQRESCUE_LIBRARY") or _found())
+    library = ctypes.CDLL(os.environ.get("SQRESCUE_LIBRARY") or _found(), use_errno=True)
     pointer = ctypes.POINTER
     for call, types, answer in (
         ("sqr_size", [pointer(_Files), pointer(Word), pointer(Word)], Word),
@@ -198,6 +209,7 @@ def _loaded():
         ("sqr_recover_to", [ctypes.c_char_p, ctypes.c_char_p, Word, pointer(_Options), pointer(_Recovered)], Word),
         ("sqr_open_path", [ctypes.c_char_p, Word, pointer(_Options), pointer(ctypes.c_void_p)], Word),
         ("sqr_close_path", [pointer(ctypes.c_void_p)], None),
+        ("sqr_path_kept", [ctypes.c_void_p], Word),
         ("sqr_path_view", [ctypes.c_void_p], pointer(_View)),
         ("sqr_path_files", [ctypes.c_void_p], pointer(_Files)),
     ):
@@ -209,11 +221,23 @@ def _loaded():
 _library = _loaded()
 
 
-def _error(status, path=None):
-    """The exception of a refusal."""
+def _error(status, path=None, out=None, number=0):
+    """The exception of a refusal; of one that the system gave, with its errno and the names of the files."""
     error = ERRORS.get(status, Error)
     text = f"status {status}" if error is Error else error.__doc__
-    return error(f"{path}: {text}" if path else text)
+    if path is not None and issubclass(error, OSError):
+        return error(number or error._errno, text, path, None, out)
+    named = ", ".join(str(name) for name in (path, out) if name is not None)
+    return error(f"{named}: {text}" if named else text)
+
+
+def _by_path(call, path, out, *rest):
+    """Makes a call by path, and raises where it is refused."""
+    names = [_path(path)] if out is None else [_path(path), _path(out)]
+    ctypes.set_errno(0)
+    status = call(*names, *rest)
+    if status:
+        raise _error(status, os.fspath(path), None if out is None else os.fspath(out), ctypes.get_errno())
 
 
 def _judge(status):
@@ -326,35 +350,71 @@ def _options(wait, at=0):
     return _Options(ctypes.sizeof(_Options), int(max(0, min(wait * 1000, 2**32 - 1))), at)
 
 
-class _Bytes:
+class _Source:
+    """Files that are read within `with`, by any number of threads. They are given up once they are closed and nobody
+    reads them any more."""
+
+    def __init__(self):
+        self._lock, self._readers, self._is_closed = threading.Lock(), 0, False
+        self.files = self.view = None
+
+    def __enter__(self):
+        with self._lock:
+            if self._is_closed:
+                raise ValueError("the view is closed")
+            self._readers += 1
+        return self
+
+    def __exit__(self, *_):
+        with self._lock:
+            self._readers -= 1
+            is_over = self._is_closed and not self._readers
+        if is_over:
+            self._give_up()
+
+    def close(self):
+        with self._lock:
+            is_over = not self._is_closed and not self._readers
+            self._is_closed = True
+        if is_over:
+            self._give_up()
+
+    def _give_up(self):
+        self.files = self.view = None
+
+
+class _Bytes(_Source):
     """A database file and its logs, as bytes that are handed over."""
 
     def __init__(self, database, wal, journal):
+        super().__init__()
         lent = _lent(database), _lent(wal), _lent(journal)
-        self.files, self.view = _Files(*(it for pair in lent for it in pair)), None
-
-    def close(self):
-        self.files = None
+        self.files = _Files(*(it for pair in lent for it in pair))
 
 
-class _Path:
+class _Path(_Source):
     """A database file by its path, and the logs beside what it leads to, as they stay while it is open."""
 
     def __init__(self, path, flags, wait):
-        self._handle, self.files = ctypes.c_void_p(), None
-        status = _library.sqr_open_path(_path(path), flags, _options(wait), self._handle)
-        if status:
-            raise _error(status, os.fspath(path))
+        super().__init__()
+        self._handle, self._name = ctypes.c_void_p(), os.fspath(path)
+        _by_path(_library.sqr_open_path, path, None, flags, _options(wait), self._handle)
         self.files = _library.sqr_path_files(self._handle).contents
         self.view = _library.sqr_path_view(self._handle).contents
 
-    def close(self):
-        self.files = self.view = None
+    def __exit__(self, kind, *rest):
+        status = _library.sqr_path_kept(self._handle)
+        super().__exit__(kind, *rest)
+        if status and kind is None:
+            raise _error(status, self._name)
+
+    def _give_up(self):
+        super()._give_up()
         _library.sqr_close_path(self._handle)
 
     def __del__(self):
-        if self._handle:
-            self.close()
+        if getattr(self, "_handle", None):
+            self._give_up()
 
 
 def _source(database, wal, journal, flags, wait, lock):
@@ -400,71 +460,81 @@ class View:
             self._source.close()
 
     def _opened(self):
-        if self._view is None or self._source.files is None:
+        """The struct of the view, and the files; within `with` of the source alone."""
+        view, files = self._view, self._files
+        if view is None or files is None:
             raise ValueError("the view is closed")
-        return self._view
+        return view, files
 
     def __len__(self):
-        return self._opened().pages
+        with self._source:
+            return self._opened()[0].pages
 
     def __getitem__(self, number):
         """The bytes of a page."""
         number = operator.index(number)
-        if not 0 < number <= len(self):
-            raise NoSuchPage(f"page {number} of {len(self)}")
-        page = ctypes.create_string_buffer(self.page_size)
-        _judge(_library.sqr_page(self._opened(), number, page, self.page_size))
+        with self._source:
+            view, _ = self._opened()
+            if not 0 < number <= view.pages:
+                raise NoSuchPage(f"page {number} of {view.pages}")
+            page = ctypes.create_string_buffer(view.page_size)
+            _judge(_library.sqr_page(view, number, page, view.page_size))
         return page.raw
 
     def __iter__(self):
         return (self[number] for number in range(1, len(self) + 1))
 
+    def __reversed__(self):
+        return (self[number] for number in range(len(self), 0, -1))
+
     def check(self, *, large=False, pointer_maps=False):
         """The Report of a database that is well formed; otherwise Damaged. With pointer_maps one of auto-vacuum too,
         which otherwise is AutoVacuum; with large up to 2**40 bytes."""
-        self._opened()
-        return _checked(self._files, _flags(large, pointer_maps))
+        with self._source:
+            return _checked(self._opened()[1], _flags(large, pointer_maps))
 
     def check_deep(self, *, large=False):
         """The DeepReport of a database that is well formed, and whose records, schema, indexes and rows are sound, but
         for the indexes and the tables in the rows `indexes` and `tables` of the schema, from 0, which aren't judged;
         otherwise Damaged. Pointer maps are judged, too."""
-        self._opened()
-        return _deeply_checked(self._files, _flags(large, False))
+        with self._source:
+            return _deeply_checked(self._opened()[1], _flags(large, False))
 
     def roles(self, *, large=False, pointer_maps=False):
         """The Roles of the pages, page 1 first: the use of each, one of USES, and the page that goes with it, the root
         of its tree or the page whose payload it holds; and the fault that `check` finds, with its page, or None."""
-        self._opened()
-        return _roles_of(self._files, _flags(large, pointer_maps))
+        with self._source:
+            return _roles_of(self._opened()[1], _flags(large, pointer_maps))
 
     def commits(self):
         """The Commits of the write-ahead log, the first one first; none where there is no such log. They are looked for
         once."""
-        self._opened()
-        if self._commits is None:
-            files = self._source.files
-            try:
-                self._commits = tuple(_commits_of((files.wal, files.wal_len)))
-            except (BadMagic, BadPageSize, BadSum, BadVersion):
-                self._commits = ()
-        return self._commits
+        with self._source as source:
+            self._opened()
+            if self._commits is None:
+                files = source.files
+                try:
+                    self._commits = tuple(_commits_of((files.wal, files.wal_len)))
+                except (BadMagic, BadPageSize, BadSum, BadVersion):
+                    self._commits = ()
+            return self._commits
 
     def at(self, frame):
         """The View of the same files with the write-ahead log up to a commit, by the frame that ends it; at 0 without
         logs. It is closed with this one. NoSuchCommit where no commit ends there."""
-        self._opened()
         frame = operator.index(frame)
-        if not 0 <= frame < 2**32:
-            raise NoSuchCommit(f"frame {frame}")
         view = View.__new__(View)
         view._source, view._is_part, view._view = self._source, True, None
-        view._commits = commits = self.commits()
-        count = next((commit.pages for commit in commits if commit.frame == frame), 0)
-        files = self._source.files
-        view._open(_library.sqr_open_at, [files, frame], count)
-        length = 32 + frame * (24 + view.page_size) if frame else 0
-        view._files = _Files(files.db, files.db_len, files.wal, length, files.journal, 0)
+        with self._source as source:
+            self._opened()
+            if not 0 <= frame < 2**32:
+                raise NoSuchCommit(f"frame {frame}")
+            view._commits = commits = self.commits()
+            count = next((commit.pages for commit in commits if commit.frame == frame), 0)
+            files = source.files
+            view._open(_library.sqr_open_at, [files, frame], count)
+            length = 32 + frame * (24 + view.page_size) if frame else 0
+            view._files = _Files(files.db, files.db_len, files.wal, length, files.journal, 0)
         return view
 
 
@@ -473,7 +543,8 @@ def check(database, wal=b"", journal=b"", *, large=False, pointer_maps=False, wa
     View. Else as View.check."""
     source = _source(database, wal, journal, FILES_ONLY, wait, lock)
     try:
-        return _checked(source.files, _flags(large, pointer_maps))
+        with source:
+            return _checked(source.files, _flags(large, pointer_maps))
     finally:
         source.close()
 
@@ -482,7 +553,8 @@ def check_deep(database, wal=b"", journal=b"", *, large=False, wait=5.0, lock=Tr
     """As `check`, and whether what the database holds is sound: the DeepReport, as View.check_deep gives it."""
     source = _source(database, wal, journal, FILES_ONLY, wait, lock)
     try:
-        return _deeply_checked(source.files, _flags(large, False))
+        with source:
+            return _deeply_checked(source.files, _flags(large, False))
     finally:
         source.close()
 
@@ -492,9 +564,7 @@ def recover(path, *, wait=5.0, lock=True):
     journal. The Recovered says which of RECOVERIES it was. InUse where somebody has it open still, once `wait` seconds
     are over; without `lock` that nobody has is the caller's care. After an error of the disk it may be called again."""
     found = _Recovered()
-    status = _library.sqr_recover(_path(path), 0 if lock else NO_LOCK, _options(wait), found)
-    if status:
-        raise _error(status, os.fspath(path))
+    _by_path(_library.sqr_recover, path, None, 0 if lock else NO_LOCK, _options(wait), found)
     return Recovered(RECOVERIES[found.recovery], found.page_size, found.pages)
 
 
@@ -506,9 +576,7 @@ def recover_to(path, out, *, at=None, wait=5.0, lock=True):
     if not 0 <= frame < 2**32:
         raise NoSuchCommit(f"frame {frame}")
     flags, found = (0 if lock else NO_LOCK) | (0 if at is None else AT), _Recovered()
-    status = _library.sqr_recover_to(_path(path), _path(out), flags, _options(wait, frame), found)
-    if status:
-        raise _error(status, f"{os.fspath(path)}, {os.fspath(out)}")
+    _by_path(_library.sqr_recover_to, path, out, flags, _options(wait, frame), found)
     return Recovered(RECOVERIES[found.recovery], found.page_size, found.pages)
 
 
@@ -540,7 +608,8 @@ def _steps(source, places, made):
             kind, content = STEPS[step.kind], None
             if kind == "page":
                 content = ctypes.create_string_buffer(step.length)
-                _judge(_library.sqr_page(made.view, step.page, content, step.length))
+                with source:
+                    _judge(_library.sqr_page(made.view, step.page, content, step.length))
                 content = content.raw
             elif kind == "zeros":
                 content = bytes(step.length)
