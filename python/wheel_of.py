@@ -50,8 +50,9 @@ def _line(name, content):
 def build_wheel(wheel_directory, config_settings=None, metadata_directory=None):
     """Writes the wheel, the same bytes each time, and gives its name."""
     head, about = _about()
-    files = {"sqrescue/__init__.py": _content(os.path.join(HERE, "sqrescue", "__init__.py")),
-             f"sqrescue/{LIBRARY}": _content(_library())}
+    names = ("__init__.py", "__init__.pyi", "py.typed")
+    files = {f"sqrescue/{name}": _content(os.path.join(HERE, "sqrescue", name)) for name in names}
+    files[f"sqrescue/{LIBRARY}"] = _content(_library())
     files.update((f"{head}.dist-info/{name}", content) for name, content in about.items())
     record = "".join(_line(*item) for item in files.items()) + f"{head}.dist-info/RECORD,,\n"
     files[f"{head}.dist-info/RECORD"] = record.encode()

@@ -688,8 +688,8 @@ static void run_none(void) {
     check(sqr_journal_scan(sqr_bytes(NULL), 0, &record, 0, &journal) == SQR_OK && !journal.records, "no records");
     check(!journal.page_size && !journal.stop && journal.why == SQR_JOURNAL_END, "no journal");
     check(!strcmp(sqr_status_name(SQR_VERSION), "unknown log version"), "the name of a status");
-    check(!strcmp(sqr_status_name(29), "?") && !strcmp(sqr_fault_name(0), "?"), "the name of no status and no fault");
-    check(!strcmp(sqr_status_name(SQR_MISUSE), "misuse"), "the name of the last status");
+    check(!strcmp(sqr_status_name(30), "?") && !strcmp(sqr_fault_name(0), "?"), "the name of no status and no fault");
+    check(!strcmp(sqr_status_name(SQR_SHARED_PROCESS), "shared process"), "the name of the last status");
     check(!strcmp(sqr_fault_name(21), "SchemaRecord"), "the name of a fault");
     check(!strcmp(sqr_fault_name(62), "KeyTwice") && !strcmp(sqr_fault_name(44), "?"), "the name of a fault inside");
     struct sqr_deep_report deep;

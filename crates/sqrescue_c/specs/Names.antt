@@ -37,4 +37,5 @@ status_name n =
     (if n == 26 then codes "not writable" else
     (if n == 27 then codes "already there" else
     (if n == 28 then codes "disk full" else
-    codes "?")))))))))))))))))))))))))))))
+    (if n == 29 then codes "shared process" else
+    codes "?"))))))))))))))))))))))))))))))

@@ -59,6 +59,7 @@ fn name_of_status(status: u32) -> &'static str
         26 => "not writable",
         27 => "already there",
         28 => "disk full",
+        29 => "shared process",
         _ => "?",
     }
 }
