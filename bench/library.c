@@ -8,6 +8,8 @@
    library pread FILE N   as many pieces of FILE-wal by pread
    library bytes FILE N   where the bytes of as many pages are, by sqr_page_bytes, of which one is read
    library look FILE N    the same by a look into the places
+   library open FILE N D  opens and closes FILE by its path N times, in a process of D descriptors, and prints how many
+                          microseconds that took: the least, and those of the middle
    library recover FILE   sqr_recover
    library to FILE OUT    sqr_recover_to */
 #define _DEFAULT_SOURCE
@@ -18,7 +20,9 @@
 #include <stdlib.h>
 #include <string.h>
 #include <sys/mman.h>
+#include <sys/resource.h>
 #include <sys/stat.h>
+#include <time.h>
 #include <unistd.h>
 
 static const uint8_t *mapped(const char *path, const char *end, size_t *len) {
@@ -116,6 +120,32 @@ static int read_by_path(const char *file, int rounds, int is_plain) {
     return 0;
 }
 
+static int compare_times(const void *a, const void *b) {
+    const double left = *(const double *)a, right = *(const double *)b;
+    return (left > right) - (left < right);
+}
+
+static int open_and_close(const char *file, int rounds, int descriptors) {
+    const struct rlimit many = {(rlim_t)descriptors + 100, (rlim_t)descriptors + 100};
+    struct timespec begun, over;
+    double *times = calloc((size_t)rounds + 1, sizeof *times);
+    if (!times || rounds < 1 || (descriptors > 1000 && setrlimit(RLIMIT_NOFILE, &many))) return 3;
+    for (int fd = 0; fd < descriptors - 1;)
+        if ((fd = open("/dev/null", O_RDONLY)) < 0) return 3;
+    for (int i = 0; i < rounds; i++) {
+        struct sqr_path *path = NULL;
+        clock_gettime(CLOCK_MONOTONIC, &begun);
+        if (sqr_open_path(file, 0, NULL, &path)) return 3;
+        sqr_close_path(&path);
+        clock_gettime(CLOCK_MONOTONIC, &over);
+        times[i] = (double)(over.tv_sec - begun.tv_sec) * 1e6 + (double)(over.tv_nsec - begun.tv_nsec) / 1e3;
+    }
+    qsort(times, (size_t)rounds, sizeof *times, compare_times);
+    printf("%.0f %.0f\n", times[0], times[rounds / 2]);
+    free(times);
+    return 0;
+}
+
 int main(int argc, char **argv) {
     size_t db_len, wal_len;
     if (argc < 3) return 2;
@@ -123,6 +153,7 @@ int main(int argc, char **argv) {
     if (!strcmp(argv[1], "to") && argc > 3) return recover(argv[2], argv[3]);
     if (argc > 3 && (!strcmp(argv[1], "path") || !strcmp(argv[1], "pread")))
         return read_by_path(argv[2], atoi(argv[3]), !strcmp(argv[1], "pread"));
+    if (argc > 4 && !strcmp(argv[1], "open")) return open_and_close(argv[2], atoi(argv[3]), atoi(argv[4]));
     const uint8_t *db = mapped(argv[2], "", &db_len), *wal = mapped(argv[2], "-wal", &wal_len);
     if (!strcmp(argv[1], "scan")) return scan(wal, wal_len);
     struct sqr_files files = SQR_FILES(db, db_len, wal, wal_len, NULL, 0);

@@ -6,9 +6,8 @@
    oneproc keeps FILE ROOM     the process's locks outlive each call, and nothing is left behind
    oneproc hostile FILE ROOM   threads that are cancelled, signals, closed streams, no descriptor left, forked children
    oneproc alone FILE ROOM     where there is no task: a process of one thread, and one that has FILE open
-   oneproc times FILE          how long it takes to open and close a path
 
-   The last line of the others but `in` and `times` is 'N passed, M failed'. */
+   The last line of all but `in` is 'N passed, M failed'. */
 #define _GNU_SOURCE
 #include "frame.h"
 
@@ -26,7 +25,6 @@
 #include <sys/syscall.h>
 #include <sys/time.h>
 #include <sys/wait.h>
-#include <time.h>
 #include <unistd.h>
 
 #define LOCKED 5           /* a byte that neither SQLite nor the library locks */
@@ -319,25 +317,8 @@ static int alone(const char *file) {
     return 0;
 }
 
-static int times(const char *file) {
-    struct timespec begun, over;
-    double least = 1e9, all = 0;
-    for (int i = 0; i < 1000; i++) {
-        struct sqr_path *path = NULL;
-        clock_gettime(CLOCK_MONOTONIC, &begun);
-        if (sqr_open_path(file, 0, NULL, &path)) return 2;
-        sqr_close_path(&path);
-        clock_gettime(CLOCK_MONOTONIC, &over);
-        double took = (double)(over.tv_sec - begun.tv_sec) * 1e6 + (double)(over.tv_nsec - begun.tv_nsec) / 1e3;
-        all += took, least = took < least ? took : least;
-    }
-    printf("open and close: %.0f us at least, %.0f on average, of %d descriptors\n", least, all / 1000, descriptors());
-    return 0;
-}
-
 int main(int argc, char **argv) {
     if (argc > 3 && !strcmp(argv[1], "in")) return in_box(argv + 2);
-    if (argc == 3 && !strcmp(argv[1], "times")) return times(argv[2]);
     if (argc < 4) return 2;
     at_hand = argv[1];
     names_at(argv[3]);
