@@ -30,6 +30,12 @@ struct copied { /* what is copied: the pages of a view, or where it has none the
     struct sqr_recovered found;
 };
 
+struct run { /* bytes of FILE that are still to be read */
+    uint64_t at;
+    size_t len;
+    uint8_t *to;
+};
+
 static int are_same(const struct stat *a, const struct stat *b) {
     return a->st_dev == b->st_dev && a->st_ino == b->st_ino;
 }
@@ -175,27 +181,65 @@ static uint32_t put(int fd, const uint8_t *bytes, size_t len, uint64_t at) {
     return status;
 }
 
-static uint32_t put_pages(int fd, const struct sqr_view *view, uint8_t *buffer) {
-    const size_t each = view->page_size;
-    uint64_t at = 0;
-    size_t len = 0;
+/* Bytes of FILE, with zeros for those that it doesn't have. If they aren't copied yet they are read, so that FILE isn't
+   mapped into memory, and an error of the disk is a status. */
+static uint32_t take(const struct sqr_path *from, struct run *run) {
+    const struct sqr_opened *db = &from->db;
+    while (run->len) {
+        ssize_t more = 0;
+        if (!db->is_copy) more = pread(from->held.file, run->to, run->len, (off_t)run->at);
+        else if (run->at < db->len) {
+            more = (ssize_t)(db->len - run->at < run->len ? db->len - run->at : run->len);
+            memcpy(run->to, db->bytes + run->at, (size_t)more);
+        }
+        if (more < 0 && errno != EINTR) return sqr_file_status(errno);
+        if (more == 0) {
+            memset(run->to, 0, run->len);
+            run->len = 0;
+        }
+        if (more > 0) run->to += more, run->len -= (size_t)more, run->at += (uint64_t)more;
+    }
+    return SQR_OK;
+}
+
+/* Writes so many pages of the view, from this one on, to the buffer. Those that lie one after another in FILE are read
+   at once. */
+static uint32_t take_pages(const struct copied *it, uint32_t page, size_t count, uint8_t *buffer) {
+    const size_t each = it->view->page_size;
+    struct run run = {0, 0, buffer};
     uint32_t status = SQR_OK;
-    for (uint32_t page = 1; !status && page <= view->pages; page++) {
-        status = sqr_page(view, page, buffer + len, each);
-        len += each;
-        if (status || (len + each <= AT_ONCE && page < view->pages)) continue;
-        status = put(fd, buffer, len, at);
-        at += len;
-        len = 0;
+    for (size_t i = 0; !status && i < count; i++) {
+        struct sqr_place place = {0, 0};
+        status = sqr_page_place(it->view, page + (uint32_t)i, &place);
+        const int is_next = !status && !place.is_of_log && run.len && place.at == run.at + run.len;
+        if (!status && !is_next) status = take(&it->from, &run);
+        if (status) break;
+        if (place.is_of_log) status = sqr_page(it->view, page + (uint32_t)i, buffer + i * each, each);
+        else if (is_next) run.len += each;
+        else run = (struct run){place.at, each, buffer + i * each};
+    }
+    return status ? status : take(&it->from, &run);
+}
+
+static uint32_t put_pages(int fd, const struct copied *it, uint8_t *buffer) {
+    const size_t each = it->view->page_size, at_once = AT_ONCE / each;
+    const uint32_t pages = it->view->pages;
+    uint32_t status = SQR_OK;
+    for (uint32_t done = 0, count; !status && done < pages; done += count) {
+        count = pages - done < at_once ? pages - done : (uint32_t)at_once;
+        status = take_pages(it, done + 1, count, buffer);
+        if (!status) status = put(fd, buffer, count * each, (uint64_t)done * each);
     }
     return status;
 }
 
-static uint32_t put_file(int fd, const struct sqr_files *files) {
+static uint32_t put_file(int fd, const struct copied *it, uint8_t *buffer) {
+    const size_t all = it->from.files.db_len;
     uint32_t status = SQR_OK;
-    for (size_t at = 0, len; !status && at < files->db_len; at += len) {
-        len = files->db_len - at < AT_ONCE ? files->db_len - at : AT_ONCE;
-        status = put(fd, files->db + at, len, at);
+    for (size_t at = 0, len; !status && at < all; at += len) {
+        len = all - at < AT_ONCE ? all - at : AT_ONCE;
+        status = take(&it->from, &(struct run){at, len, buffer});
+        if (!status) status = put(fd, buffer, len, at);
     }
     return status;
 }
@@ -204,9 +248,8 @@ static uint32_t put_file(int fd, const struct sqr_files *files) {
 static uint32_t put_all(int fd, const struct copied *it) {
     uint8_t *buffer = malloc(AT_ONCE);
     if (!buffer) return SQR_NO_MEMORY;
-    const struct sqr_files *files = &it->from.files;
-    const uint64_t len = it->view ? (uint64_t)it->view->pages * it->view->page_size : files->db_len;
-    uint32_t status = it->view ? put_pages(fd, it->view, buffer) : put_file(fd, files);
+    const uint64_t len = it->view ? (uint64_t)it->view->pages * it->view->page_size : it->from.files.db_len;
+    uint32_t status = it->view ? put_pages(fd, it, buffer) : put_file(fd, it, buffer);
     free(buffer);
     if (!status && (ftruncate(fd, (off_t)len) || fsync(fd))) status = sqr_file_unwritten(errno);
     return status;
