@@ -124,7 +124,8 @@ enum sqr_status
     SQR_NOT_WRITABLE = 26,  /* sqr_recover, sqr_recover_to, as all that follow: the system doesn't let FILE, FILE-shm
                                or the log that counts be written, or OUT be made */
     SQR_ALREADY_THERE = 27, /* something lies at OUT */
-    SQR_DISK_FULL = 28,     /* there is no space left for it, or a limit of the size of files is reached */
+    SQR_DISK_FULL = 28,     /* there is no space left for it, or a limit of the size of files is reached. SIGXFSZ ends a
+                               process that doesn't ignore it only if the call has no task */
     SQR_SHARED_PROCESS = 29 /* the system gives the call no task, and the process may have FILE open; see 'A process
                                that has FILE open' */
 };

@@ -115,21 +115,6 @@ uint32_t sqr_file_log(int file, const char *path, const char *end, int how, int 
     return status;
 }
 
-uint32_t sqr_file_is_hot(int journal, uint64_t len, int *is_hot) {
-    const size_t largest_sector = 65536, known = len < largest_sector ? (size_t)len : largest_sector;
-    uint32_t which = SQR_NO_LOG, status;
-    *is_hot = 0;
-    if (!len) return SQR_OK;
-    uint8_t *front = calloc(1, largest_sector); /* a header counts where its sector is whole, whatever is in it */
-    if (!front) return SQR_NO_MEMORY;
-    const struct sqr_files files = SQR_FILES(NULL, 0, NULL, 0, front, known);
-    ssize_t has = pread(journal, front, known < SQR_JOURNAL_HEADER ? known : SQR_JOURNAL_HEADER, 0);
-    status = has < 0 ? sqr_file_status(errno) : sqr_log(&files, &which);
-    free(front);
-    *is_hot = !status && which == SQR_JOURNAL;
-    return status;
-}
-
 /* The whole of a file from its front, or as much as there is. */
 static uint32_t read_all(int fd, uint8_t *out, size_t *len) {
     size_t at = 0;
@@ -141,6 +126,22 @@ static uint32_t read_all(int fd, uint8_t *out, size_t *len) {
     }
     *len = at;
     return SQR_OK;
+}
+
+uint32_t sqr_file_is_hot(int journal, uint64_t len, int *is_hot) {
+    const size_t largest_sector = 65536, known = len < largest_sector ? (size_t)len : largest_sector;
+    uint32_t which = SQR_NO_LOG, status;
+    *is_hot = 0;
+    if (!len) return SQR_OK;
+    uint8_t *front = calloc(1, largest_sector); /* a header counts where its sector is whole, whatever is in it */
+    if (!front) return SQR_NO_MEMORY;
+    const struct sqr_files files = SQR_FILES(NULL, 0, NULL, 0, front, known);
+    size_t has = known < SQR_JOURNAL_HEADER ? known : SQR_JOURNAL_HEADER;
+    status = read_all(journal, front, &has);
+    if (!status) status = sqr_log(&files, &which);
+    free(front);
+    *is_hot = !status && which == SQR_JOURNAL;
+    return status;
 }
 
 uint32_t sqr_file_bytes(int fd, size_t len, int is_copy, struct sqr_opened *out) {

@@ -174,8 +174,8 @@ static int above_streams(int fd) { /* the same by another number than the standa
 /* Makes the witness, which is an end of the socket where something is to be parked, and locks it: 0, or an error. */
 static int witness(struct sqr_task *of, int is_parked) {
     struct flock lock = on_first_byte();
-    if (is_parked && socketpair(AF_UNIX, SOCK_SEQPACKET | SOCK_CLOEXEC, 0, of->ends)) return errno;
-    if (!is_parked) of->ends[KEPT] = socket(AF_UNIX, SOCK_DGRAM | SOCK_CLOEXEC, 0);
+    if (!is_parked) of->ends[KEPT] = (int)syscall(SYS_socket, AF_UNIX, SOCK_DGRAM | SOCK_CLOEXEC, 0);
+    else if (syscall(SYS_socketpair, AF_UNIX, SOCK_SEQPACKET | SOCK_CLOEXEC, 0, of->ends)) return errno;
     of->ends[KEPT] = above_streams(of->ends[KEPT]);
     of->ends[SENT] = above_streams(of->ends[SENT]);
     if (of->ends[KEPT] < 0 || (is_parked && of->ends[SENT] < 0)) return errno;
