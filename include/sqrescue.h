@@ -118,7 +118,7 @@ enum sqr_status
     SQR_IN_USE = 21,        /* a writer, of sqr_recover anybody who has FILE open, held a lock in the way until the
                                time was over; sqr_recover_to: another call makes OUT, too */
     SQR_NO_LOCKS = 22,      /* the file system has no such locks, or FILE-shm can't be opened; see SQR_NO_LOCK */
-    SQR_FILE_FAILED = 23,   /* any other answer of the system: an I/O error, no free descriptor; errno says which */
+    SQR_FILE_FAILED = 23,   /* any other answer of the system: an I/O error, no free descriptor; errno has it */
     SQR_UNKNOWN_OPTIONS = 24, /* a flag or an option that this version doesn't know, or a size that isn't one */
     SQR_MISUSE = 25,        /* NULL where a pointer has to be; sqr_recover_to: OUT is the name of a log of FILE */
     SQR_NOT_WRITABLE = 26,  /* sqr_recover, sqr_recover_to, as all that follow: the system doesn't let FILE, FILE-shm
@@ -544,9 +544,9 @@ uint32_t sqr_journal_scan(const uint8_t *journal, size_t len, struct sqr_record 
    POSIX locks that a process has on a file when it closes any descriptor of it (fcntl(2)), and so SQLite's. Here no
    descriptor of FILE, its logs, FILE-shm or OUT is ever opened or closed in the table of descriptors of the process:
 
-   - Each call runs in a task of its own. That is a thread that has a table of its own by close_range(2) with
-     CLOSE_RANGE_UNSHARE (Linux 5.9), or else by unshare(2) with CLONE_FILES. The thread ends with the call. It proves
-     that the table is its own before it opens anything, and runs none of the caller's code but the allocator.
+   - Each call runs in a task: a thread that gets a separate table by close_range(2) with CLOSE_RANGE_UNSHARE (Linux
+     5.9), or else by unshare(2) with CLONE_FILES. The thread ends with the call. It proves that the table is separate
+     before it opens anything, and runs none of the caller's code except the allocator.
    - A path that is open is mappings and one descriptor, a socket in which the locks are kept. On any thread
      sqr_close_path gives them back. A child that was forked may read and close what it inherits, and its parent keeps
      the locks. A child that doesn't keeps them only if the parent ends before it closes the path.

@@ -82,7 +82,7 @@ static int is_of(const struct stat *found, const char *path) {
     return 0;
 }
 
-/* Opens the file under its name meanwhile, in place of what a call that was stopped left there: 0, or errno. If the
+/* Opens the file under its first name, in place of what a call that was stopped left there: 0, or errno. If the
    name comes and goes, others write the same OUT; EAGAIN if that doesn't end. */
 static int open_part(struct part *part, const char *path, mode_t mode) {
     struct stat found;
@@ -125,8 +125,7 @@ static int is_at(const struct part *part) {
     return !lstat(part->name, &there) && is_open_as(part->fd, &there);
 }
 
-/* Makes the new name durable. A folder that can't be opened, or none of which the system syncs, is so with all that its
-   file system has. */
+/* Makes the new name durable. If the folder can't be opened or synced, all of its file system is. */
 static uint32_t sync_folder(const struct part *part) {
     char folder[PATH_MAX + 16];
     folder_of(folder, part->to);
@@ -139,8 +138,8 @@ static uint32_t sync_folder(const struct part *part) {
     return error ? sqr_file_unwritten(error) : SQR_OK;
 }
 
-/* Gives the file that is open a second name, so that it is none that another call made under the first meanwhile. Not
-   by /proc/self/fd, which has the files of the main thread. */
+/* Gives the open file a second name; by the first it could be another call's. Not by /proc/self/fd, which has the
+   files of the main thread. */
 static int linked(const struct part *part) {
     char own[48];
     snprintf(own, sizeof own, "/proc/thread-self/fd/%d", part->fd);
@@ -181,8 +180,8 @@ static uint32_t put(int fd, const uint8_t *bytes, size_t len, uint64_t at) {
     return status;
 }
 
-/* Bytes of FILE, with zeros for those that it doesn't have. If they aren't copied yet they are read, so that FILE isn't
-   mapped into memory, and an error of the disk is a status. */
+/* Bytes of FILE, with zeros for those that it doesn't have. If they aren't copied yet they are read: FILE needs no
+   memory then, and an error of the disk is a status. */
 static uint32_t take(const struct sqr_path *from, struct run *run) {
     const struct sqr_opened *db = &from->db;
     while (run->len) {

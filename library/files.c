@@ -133,7 +133,7 @@ uint32_t sqr_file_is_hot(int journal, uint64_t len, int *is_hot) {
     uint32_t which = SQR_NO_LOG, status;
     *is_hot = 0;
     if (!len) return SQR_OK;
-    uint8_t *front = calloc(1, largest_sector); /* a header counts where its sector is whole, whatever is in it */
+    uint8_t *front = calloc(1, largest_sector); /* a header is valid if its sector is whole, whatever that has */
     if (!front) return SQR_NO_MEMORY;
     const struct sqr_files files = SQR_FILES(NULL, 0, NULL, 0, front, known);
     size_t has = known < SQR_JOURNAL_HEADER ? known : SQR_JOURNAL_HEADER;

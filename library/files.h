@@ -20,7 +20,7 @@ struct sqr_path {
     struct sqr_files files;
     struct sqr_view view;
     uint64_t *places;
-    char *index;             /* the name of FILE-shm, where the bytes are of one moment as long as it isn't there */
+    char *index;             /* the name of FILE-shm, if the bytes are of one moment as long as it isn't there */
     int is_locked, is_alone; /* alone: no connection was live, and WRITE is held on that account alone */
 };
 
@@ -62,7 +62,7 @@ uint32_t sqr_file_log(int file, const char *path, const char *end, int how, int 
 uint32_t sqr_file_is_hot(int journal, uint64_t len, int *is_hot);
 
 /* The first `len` bytes of a file, mapped or copied. */
-#define SQR_COPIED 4194304 /* bytes of each file that may be copied: by path less than 16 MB are */
+#define SQR_COPIED 4194304 /* bytes: a longer file isn't copied */
 uint32_t sqr_file_bytes(int fd, size_t len, int is_copy, struct sqr_opened *out);
 void sqr_file_give_back(struct sqr_opened *it);
 

@@ -80,16 +80,16 @@ static uint32_t has_still(int fd, const uint8_t *bytes, size_t len, int *has) {
 }
 
 /* Whether a connection is about to write (RESERVED, os.h): it has written nothing to FILE, which SHARED keeps, so its
-   journal doesn't count (lockingv3, 'Dealing with hot journals'). The lock is asked about, and never taken. */
+   journal doesn't count (lockingv3, 'Dealing with hot journals'). We ask about the lock, and never lock it. */
 static int is_reserved(const struct sqr_path *of) {
     struct flock at = {.l_type = F_WRLCK, .l_whence = SEEK_SET, .l_start = 1073741825, .l_len = 1};
     return of->is_locked && !fcntl(of->held.file, F_OFD_GETLK, &at) && at.l_type != F_UNLCK;
 }
 
 /* A hot journal up to SQR_COPIED is copied, since a connection that reads from before its writer died may write and cut
-   it. Where a second reading of all of it finds other bytes it is a live writer's, as above. The header alone doesn't
+   it. If a second reading of all of it finds other bytes it is a live writer's, as above. The header alone doesn't
    tell: over the records of an earlier transaction (persist) half of a record may be copied whose sum, which is over
-   each 200th byte, is right all the same. A reading that fails says nothing of it. A longer one is mapped. */
+   each 200th byte, is right all the same. A longer one is mapped. */
 static uint32_t read_hot(struct sqr_path *of, int fd, const struct stat *found) {
     const int is_copy = found->st_size <= SQR_COPIED;
     struct stat again;
@@ -227,7 +227,7 @@ struct opening {
     uint32_t flags, at;
 };
 
-/* The locks are parked, and last where the descriptors are closed here: those of FILE-shm are given back first. */
+/* The locks are parked, and stay when the descriptors are closed here. FILE-shm's will be given back first. */
 static uint32_t park(struct sqr_task *task, struct sqr_held *held) {
     const int fds[] = {held->file, held->index};
     uint32_t status = sqr_task_park(task, fds, held->index < 0 ? 1 : 2) ? sqr_file_status(errno) : SQR_OK;

@@ -12,7 +12,7 @@
 #include <sys/socket.h>
 #include <time.h>
 
-#define STACK (512 * 1024) /* bytes, which are had as they are used */
+#define STACK (512 * 1024) /* bytes; the system gives a page when it is used */
 #define MOST_STACK (64 * STACK)
 #define UNSHARE 2 /* CLOSE_RANGE_UNSHARE */
 
@@ -22,7 +22,7 @@ struct sqr_task {
     sqr_body *body;
     struct sqr_call *call;
     int ends[2]; /* KEPT is the witness, too: the process has a lock on it. SENT is -1 where nothing is parked */
-    int why;     /* errno, where there was no table of its own */
+    int why;     /* errno, if there was no separate table */
     int is_done;
 };
 
@@ -30,7 +30,7 @@ static int close_range_of(unsigned first, unsigned last, unsigned flags) {
     return (int)syscall(SYS_close_range, first, last, flags);
 }
 
-/* Asks for each descriptor of the table, by its number, until one is answered; -1 where /proc doesn't say. It is never
+/* Asks for each descriptor of the table, by its number, until one is answered; -1 if /proc isn't there. It is never
    /proc/self/fd, which is the table of the main thread. */
 static int for_each(int (*each)(int fd, const void *with), const void *with) {
     char entries[2048];
@@ -55,7 +55,7 @@ static int close_other(int fd, const void *with) {
     return 0;
 }
 
-/* Closes all but the standard streams and these, in a table of the task's own. */
+/* Closes all but the standard streams and these, in the separate table. */
 static void close_others(const int *ends) {
     unsigned low = ends[KEPT] > 2 ? (unsigned)ends[KEPT] : 2, high = ends[SENT] > 2 ? (unsigned)ends[SENT] : 2;
     if (low > high) {
@@ -75,14 +75,14 @@ static struct flock on_first_byte(void) {
     return (struct flock){.l_type = F_WRLCK, .l_whence = SEEK_SET, .l_start = 0, .l_len = 1};
 }
 
-/* Whether this table is another than the one in which the witness was locked, whatever any call answered: its lock is
-   somebody else's here. */
+/* Whether this isn't the table in which the witness was locked, whatever any call answered: its lock is then somebody
+   else's. */
 static int is_apart(int witness) {
     struct flock lock = on_first_byte();
     return !fcntl(witness, F_GETLK, &lock) && lock.l_type == F_WRLCK;
 }
 
-/* Gets a table of the task's own. The first call closes nothing, since no descriptor has this number: Docker's profile
+/* Gets a separate table. The first call closes nothing, since no descriptor has this number: Docker's profile
    refuses unshare, and allows that. */
 static int goes_apart(struct sqr_task *of) {
     if (!close_range_of(UINT_MAX, UINT_MAX, UNSHARE) && is_apart(of->ends[KEPT])) return 1;
@@ -91,7 +91,7 @@ static int goes_apart(struct sqr_task *of) {
     return 0;
 }
 
-/* So that what anybody says on a standard stream that is closed in the process never goes to a file. */
+/* If a standard stream is closed in the process, no file gets its number, and so no message. */
 static void fill_streams(void) {
     int fd;
     do fd = open("/", O_PATH | O_CLOEXEC); while (fd >= 0 && fd < 3);
@@ -109,13 +109,13 @@ static void *run(void *with) {
     close_others(of->ends);
     fill_streams();
     of->body(of, of->call);
-    close_others(none); /* pthread_join may come before the system closes the table */
+    close_others(none); /* the system may close the table after pthread_join */
     of->is_done = 1;
     return NULL;
 }
 
-/* Runs the task on a thread: 0, or why there is none. A thread that can't be had is no reason for a process of its own,
-   which would be pid 1 behind unshare(CLONE_NEWPID). */
+/* Runs the task on a thread: 0, or why there is none. Without a thread it starts no process,
+   which would be pid 1 after unshare(CLONE_NEWPID). */
 static int on_thread(struct sqr_task *of) {
     pthread_attr_t how;
     pthread_t id;
@@ -135,7 +135,7 @@ static int on_thread(struct sqr_task *of) {
     return error ? error : of->is_done ? 0 : of->why ? of->why : EPERM;
 }
 
-/* How many threads the process has; 0 where /proc doesn't say. */
+/* How many threads the process has; 0 if /proc isn't there. */
 static unsigned long threads(void) {
     struct stat found;
     return stat("/proc/self/task", &found) || found.st_nlink < 3 ? 0 : (unsigned long)found.st_nlink - 2;
@@ -245,7 +245,7 @@ int sqr_task_park(struct sqr_task *task, const int *fds, size_t count) {
 void sqr_park_drop(struct sqr_park *park) {
     const int before = errno;
     char byte;
-    if (park->socket >= 0) { /* by calls at which no thread is cancelled */
+    if (park->socket >= 0) { /* by calls that aren't points of cancellation */
         if (park->owner == getpid()) syscall(SYS_recvfrom, park->socket, &byte, 1, MSG_DONTWAIT, NULL, NULL);
         close(park->socket);
     }

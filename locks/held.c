@@ -15,7 +15,7 @@ struct attempt {
     struct sqr_held *held;
     const char *path;
     struct timespec end;
-    int why; /* errno, where FILE couldn't be opened, or no descriptor was left; otherwise 0 */
+    int why; /* errno, if FILE couldn't be opened, or no descriptor was left; otherwise 0 */
 };
 
 static int is_for_want_of_room(int error) {

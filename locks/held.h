@@ -22,7 +22,7 @@ enum sqr_hold_answer {
     SQR_HELD_NO_FILE,   /* FILE can't be opened, for a recovery for writing, or is no regular file; errno says why */
     SQR_HELD_FAILED,    /* a recovery: FILE-shm can't be opened for writing */
     SQR_HELD_NO_MEMORY,
-    SQR_HELD_NO_ROOM    /* no descriptor is left for FILE-shm or FILE-wal; errno says of whom */
+    SQR_HELD_NO_ROOM    /* no descriptor is left for FILE-shm or FILE-wal: errno is EMFILE or ENFILE */
 };
 
 #define SQR_HOLD_STEPS 64

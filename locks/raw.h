@@ -1,8 +1,8 @@
 /* raw.h: the calls on descriptors as the system has them, past whoever wraps them in the process. License: MIT.
 
-   A call by path of the C library runs in a task with a table of descriptors of its own (library/task.h). A thread
-   sanitizer, or a recorder that is preloaded, takes all threads for users of one table: it would mix up files that have
-   equal numbers in two. So it sees none of these calls. The structs of Linux on x86-64 are those of its C libraries. */
+   A call by path of the C library runs in a task with a separate table of descriptors (library/task.h). A thread
+   sanitizer, or a recorder that is preloaded, knows one table alone: it would mix up files that have equal numbers in
+   two. So it sees none of these calls. On x86-64 the structs of Linux and of its C libraries are equal. */
 #ifndef RAW_H
 #define RAW_H
 #include <fcntl.h>

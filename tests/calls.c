@@ -65,7 +65,7 @@ __attribute__((constructor)) static void begin(void) {
     held_from = number("FROM");
 }
 
-/* Opens the file for each line, since a task of the C library has a table of descriptors of its own. */
+/* Opens the file for each line, since a task of the C library has a separate table of descriptors. */
 static void tell(const char *how, ...) {
     int file = told ? NEXT(opens, "open")(told, WRITE_ON, 0600) : -1;
     __builtin_va_list all;

@@ -1,9 +1,9 @@
-/* Calls the C library by path in a process that has locks of its own on the files, as SQLite has them.
+/* Calls the C library by path in a process that has locks on the files, as SQLite has them.
 
    oneproc in BOX COMMAND..    runs a command under a filter of the system's calls: `docker` refuses unshare and
                                clone3, as Docker's default profile does; `old` has no close_range, as Linux before 5.9;
                                `closed` has none of them; `plain` has no filter
-   oneproc keeps FILE ROOM     the process's locks outlive each call, and nothing is left behind
+   oneproc keeps FILE ROOM     the process's locks outlive each call, and nothing else is left
    oneproc hostile FILE ROOM   threads that are cancelled, signals, closed streams, no descriptor left, forked children
    oneproc alone FILE ROOM     where there is no task: a process of one thread, and one that has FILE open
 
@@ -27,7 +27,7 @@
 #include <sys/wait.h>
 #include <unistd.h>
 
-#define LOCKED 5           /* a byte that neither SQLite nor the library locks */
+#define LOCKED 5           /* SQLite doesn't lock this byte, and the library doesn't either */
 #define SHARED 1073741826L /* the first of those that SQLite's readers lock */
 
 static const char *const ends[] = {"", "-wal", "-journal", "-shm"};
@@ -71,7 +71,7 @@ static int entries_of(const char *folder) {
 
 static int descriptors(void) { return entries_of("/proc/self/fd"); }
 
-/* A thread of which pthread_join has come back ends a moment later. */
+/* A thread ends a moment after pthread_join has returned. */
 static int threads(int wanted) {
     for (int i = 0; i < 1000 && entries_of("/proc/self/task") > wanted; i++) usleep(200);
     return entries_of("/proc/self/task");
@@ -140,7 +140,7 @@ static void each_call(const char *file, int is_in_use) {
     check(opened("/nowhere/at/all", 0) == SQR_NOT_THERE && errno == ENOENT, "no file, and errno");
 }
 
-/* Locks a byte of each file, as SQLite locks others: a descriptor of each, and -1 where there is none. */
+/* Locks a byte of every file, as SQLite locks others: their descriptors, and -1 for a file that isn't there. */
 static void lock_all(const char *file, int *locked) {
     char name[4200];
     for (int i = 0; i < 4; i++) {
@@ -273,10 +273,33 @@ static void with_children(void) {
     ended(child);
 }
 
+static void *makes(void *status) {
+    *(uint32_t *)status = sqr_recover_to(thread_file, out, 0, NULL, NULL);
+    return NULL;
+}
+
+/* Six calls for one OUT: one writes it, and the others report why they didn't. */
+static void six_calls(void) {
+    int made = 0, wrong = 0;
+    for (int round = 0; round < 100; round++) {
+        pthread_t all[6];
+        uint32_t said[6] = {99, 99, 99, 99, 99, 99};
+        unlink(out);
+        for (int i = 0; i < 6; i++) check(!pthread_create(&all[i], NULL, makes, &said[i]), "a thread");
+        for (int i = 0; i < 6; i++) pthread_join(all[i], NULL);
+        for (int i = 0; i < 6; i++) {
+            made += said[i] == SQR_OK;
+            wrong += said[i] != SQR_OK && said[i] != SQR_ALREADY_THERE && said[i] != SQR_IN_USE;
+        }
+    }
+    check(made == 100 && !wrong, "of six calls for one OUT one makes it, and none says anything else");
+}
+
 static int hostile(const char *file) {
     int before = descriptors();
     thread_file = file;
     cancelled();
+    six_calls();
     under_alarms();
     with_children();
     check(answered(streams, 0) == 0, "closed standard streams stay closed");
