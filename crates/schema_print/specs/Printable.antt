@@ -113,7 +113,7 @@ abbrev pub ends_safe_mode : (text : List ℕ) → List Piece → Bool
 ends_safe_mode text [] = false
 ends_safe_mode text (p ∷ ts) = is_unsafe_call (bytes_of text p) ts || ends_safe_mode text ts
 
--- what sqlite_schema's row says of an object of this kind
+-- the type that sqlite_schema's row has for an object of this kind
 abbrev pub row_word : Object → List ℕ
 row_word Table = codes "table"
 row_word Virtual = codes "table"
@@ -144,7 +144,7 @@ last_byte ts = option_map_or (λ p. p.to) (slice_get ts (length ts - 1)) 0
 abbrev pub ends_in_comment : (text : List ℕ) → (last : ℕ) → Bool
 ends_in_comment text last = slice_index text (last - 2) == 47 && slice_index text (last - 1) == 42
 
--- what the bytes of a text are refused for that makes no virtual table
+-- why the bytes of a text are refused, unless it creates a virtual table
 unfoldable pub refused_bytes : (text : List ℕ) → List Piece → Object → Option Why
 refused_bytes text ts object =
     if has_return text ts then Some ReturnInQuotes
@@ -188,7 +188,7 @@ refused text ts end row =
 unfoldable pub is_line_blank : ℕ → Bool
 is_line_blank b = (is_blank b && not (b == 10)) || nat_le 128 b
 
--- what the shell takes for `;` if it is alone on a line: `/`, but no `/*`, or `go`, but no longer word
+-- the shell reads `/` alone on a line, and `go`, as `;`; not `/*`, nor a longer word
 unfoldable pub is_terminator : List ℕ → Bool
 is_terminator s =
     let rest = drop (prefix_len is_line_blank s) s in
@@ -238,7 +238,7 @@ pub record IsSpacing (text : List ℕ) (ts : List Piece) (spaced : List ℕ) : T
   pub same_bytes : list_all (λ p. bytes_eq (bytes_of spaced p) (bytes_of text p)) ts ≡ true
   pub plain : is_plain spaced pieces (length spaced) ≡ true
 
--- A text isn't refused. Whether it makes a virtual table, and whether it is plain.
+-- A text isn't refused. It creates a virtual table or not, and it is plain or not.
 pub record IsAccepted (text : List ℕ) (ps : List Piece) (end : ℕ) (row : Row) (virtual plain : Bool) : Type 0 where
   pub not_refused : refused text (filter is_token ps) end row ≡ None
   pub is_virtual_table : makes_virtual_table (head_of text (statement (filter is_token ps))) ≡ virtual

@@ -70,7 +70,7 @@ is_guarded text ts at =
     is_word text ts at (codes "IF") && is_word text ts (at + 1) (codes "NOT")
     && is_word text ts (at + 2) (codes "EXISTS")
 
--- where the name is: behind IF NOT EXISTS; `schema.` may stand before it
+-- the name follows IF NOT EXISTS, and may have `schema.` before it
 unfoldable pub head_of : (text : List ℕ) → List Piece → Option Head
 head_of text ts =
     let at = 1 + object_at text ts in

@@ -59,13 +59,13 @@ pub enum Why {
     NotWhole,
     /// It is no CREATE statement, or one that makes a table AS SELECT.
     NotCreate,
-    /// Its kind, its name or its table isn't that of the row.
+    /// The row has another kind, name or table.
     OtherInRow,
     /// It has TEMP, IF NOT EXISTS, or a schema before the name.
     NotPlain,
     /// Its name begins with `sqlite_`.
     ReservedName,
-    /// It has a `;` that isn't its end, nor in the body of a trigger.
+    /// It has a `;` before its end that isn't in the body of a trigger.
     SemicolonInside,
     /// What follows the name isn't what follows the name of a table, a virtual table or an index.
     NotComplete,
@@ -77,8 +77,7 @@ pub enum Why {
     EndsInComment,
     /// It calls a function that ends `sqlite3 -safe`.
     EndsSafeMode,
-    /// A line of it ends a statement in the shell, or the shell takes one of its blanks for none, and other blanks
-    /// don't mend that.
+    /// The shell would read a line of it as `;`, or one of its blanks as no blank, and plain blanks don't mend that.
     NotSpaced,
 }
 
@@ -282,7 +281,7 @@ fn name_at(alloc: Global, text: &[u8], tokens: &[Piece], at: usize) -> Result<Ve
     }
 }
 
-/// Whether the module at which a virtual table is made is one that is printed.
+/// Whether a virtual table has a module that scripts may name, and at most 900 arguments.
 #[tactic(auto, unfolding(crate::specs::Printable::has_module))]
 fn has_module(alloc: Global, text: &[u8], tokens: &[Piece], name: usize) -> Result<bool, AllocError>
     requires { name < 10 }
@@ -341,7 +340,7 @@ fn line_blanks(s: &[u8]) -> usize
     s.iter().take_while(|b| is_line_blank(**b)).count()
 }
 
-/// Whether the shell takes what comes next for `;` if it is alone on its line.
+/// Whether the shell reads what comes next as `;`, if it is alone on its line.
 #[tactic(auto, unfolding(crate::specs::Printable::is_terminator))]
 pub fn is_terminator(s: &[u8]) -> bool
     ensures { result ≡ is_terminator s.now }
@@ -374,7 +373,7 @@ pub fn last_byte(tokens: &[Piece]) -> usize
     }
 }
 
-/// The word by which a row says what its text makes.
+/// The type that a row has for an object of this kind.
 fn row_word(object: Object) -> &'static [u8]
     ensures { result.now ≡ row_word object }
 {

@@ -22,7 +22,7 @@ fn plain_blank(b: u8, rest: &[u8]) -> u8 {
     }
 }
 
-/// The text of these pieces up to `last`, with plain blanks. What comes of it is judged by `spaced`.
+/// The text of these pieces up to `last`, with plain blanks. `spaced` judges the result.
 fn with_plain_blanks(
     alloc: Global,
     text: &[u8],

@@ -1,6 +1,6 @@
 -- The forms of SQL's tokens: what the bytes from a place on begin with, and how long that is (tokenize.c,
 -- `sqlite3GetToken`; lang_keywords; lang_expr, 'Literal values'). Each length is the greatest that the form can have.
-use Rattle.std.specs.Prelude.{ℕ, ◌<◌, ◌≤◌, ◌+◌, ◌%◌, ◌==◌, ◌||◌, ◌&&◌, Bool, true, false, not, if◌then◌else◌, nat_lt, List, length, take, drop, slice_index, Option, Some, None, is_some}
+use Rattle.std.specs.Prelude.{ℕ, ◌+◌, ◌%◌, ◌==◌, ◌||◌, ◌&&◌, Bool, true, false, not, if◌then◌else◌, nat_lt, List, length, take, drop, slice_index, Option, Some, None, is_some}
 use Rattle.std.specs.List.{prefix_len, list_any}
 use Rattle.std.specs.Char.{is_ascii_digit, is_ascii_hexdigit, is_ascii_whitespace}
 use Rattle.schema_tokens.specs.Bytes.{is_blank, begins_word, is_word_byte, is_operator, is_operator_pair}
@@ -13,11 +13,6 @@ use Rattle.schema_tokens.specs.declared.kinds.Form.{Form}
 -- a form of this length; none of length 0
 abbrev pub form_of : Kind → (length : ℕ) → Option Form
 form_of kind n = if n == 0 then None else Some (record { kind = kind; length = n })
-
--- a form, if there is one, has at least one byte and at most n
-abbrev pub IsWithin : (n : ℕ) → Option Form → Type 0
-IsWithin n None = Unit {0}
-IsWithin n (Some f) = (0 < f.length) × (f.length ≤ n)
 
 -- the bytes of U+FEFF in UTF-8
 unfoldable pub begins_byte_order_mark : List ℕ → Bool
@@ -153,7 +148,7 @@ literal_form s =
     else (if slice_index s 0 == 91 then form_of Quoted (bracketed_length s)
     else mark_form s))))
 
--- what these bytes begin with: a space, a word, or what else the first byte tells; None where they begin with no token
+-- the space or the token that these bytes begin with; None if they begin with neither
 unfoldable pub form : List ℕ → Option Form
 form s =
     if is_some (space_form s) then space_form s

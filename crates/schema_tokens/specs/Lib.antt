@@ -3,3 +3,4 @@ pub mod Runs
 pub mod Keywords
 pub mod Forms
 pub mod Pieces
+pub mod internal

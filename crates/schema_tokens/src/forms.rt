@@ -1,6 +1,7 @@
 //! The forms of tokens.
 ghost use Rattle.std.specs.Prelude.{◌≡◌, ◌<◌, ◌≤◌, length, IsTrue};
-ghost use Rattle.schema_tokens.specs.Forms.{IsWithin, begins_byte_order_mark, begins_line_comment};
+ghost use Rattle.schema_tokens.specs.internal.Sizes.{IsWithin};
+ghost use Rattle.schema_tokens.specs.Forms.{begins_byte_order_mark, begins_line_comment};
 ghost use Rattle.schema_tokens.specs.Forms.{begins_block_comment, space_form, word_form, mark_form};
 ghost use Rattle.schema_tokens.specs.Forms.{begins_variable, literal_form, form};
 

@@ -5,7 +5,7 @@
 pub enum Kind {
     /// Blanks: spaces, tabs, LF, VT, FF and CR.
     Blanks,
-    /// U+FEFF in UTF-8, which counts as a blank.
+    /// U+FEFF in UTF-8; SQLite reads it as a blank.
     ByteOrderMark,
     /// `--` and the rest of its line, without the LF.
     LineComment,

@@ -1,6 +1,7 @@
 //! How long quoted texts, blobs and variables are.
 ghost use Rattle.std.specs.Prelude.{◌≡◌, ◌≤◌, ℕ, length, IfSome};
-ghost use Rattle.schema_tokens.specs.Forms.{form_of, IsWithin, blob_length, quoted_length, bracketed_length};
+ghost use Rattle.schema_tokens.specs.internal.Sizes.{IsWithin};
+ghost use Rattle.schema_tokens.specs.Forms.{form_of, blob_length, quoted_length, bracketed_length};
 ghost use Rattle.schema_tokens.specs.Forms.{suffix_length, variable_length, operator_length};
 
 use crate::bytes::{after, byte_at, is_operator, is_operator_pair};

@@ -1,6 +1,7 @@
 //! Numbers.
 ghost use Rattle.std.specs.Prelude.{◌≡◌, ◌≤◌, length};
-ghost use Rattle.schema_tokens.specs.Forms.{IsWithin, digits, fraction_length, exponent_length, hexadecimal_length};
+ghost use Rattle.schema_tokens.specs.internal.Sizes.{IsWithin};
+ghost use Rattle.schema_tokens.specs.Forms.{digits, fraction_length, exponent_length, hexadecimal_length};
 ghost use Rattle.schema_tokens.specs.Forms.{decimal_form, number_form, begins_number};
 
 use crate::bytes::{after, byte_at, is_word_byte};
