@@ -133,8 +133,8 @@ fn write_made<W: Write>(out: &mut W, notation: Notation, table: &Object) -> io::
 /// The INSERT of a virtual table's row into the schema.
 fn write_virtual_line<W: Write>(out: &mut W, object: &Object) -> io::Result<()>
     ensures { OnOk result ((t : List ℕ) × IsLine script_form
-        (codes "INSERT OR ABORT INTO sqlite_schema(type,name,tbl_name,rootpage,sql) VALUES(") [] None (virtual_row object.now) t
-        × Appends (W.contents out.old) (W.contents out.new) t) }
+        (codes "INSERT OR ABORT INTO sqlite_schema(type,name,tbl_name,rootpage,sql) VALUES(") [] None
+        (virtual_row object.now) t × Appends (W.contents out.old) (W.contents out.new) t) }
 {
     let name = Value::Text(&object.name);
     let values = [

@@ -117,8 +117,8 @@ fn used_pages<F: FileBytes>(alloc: Global, view: &mut View<F>) -> Result<u32, Vi
 }
 
 /// The view of a file with a log, of which this is the scan, at a commit frame: at the log's front what both show, and
-/// before it the database that was there, with the pages that its header counts. Refused by CommitOverwritten if a later
-/// checkpoint may have changed that one; otherwise as `View::of_scan_within`, and by Unread.
+/// before it the database that was there, with the pages that its header counts. Refused by CommitOverwritten if a
+/// later checkpoint may have changed that one; otherwise as `View::of_scan_within`, and by Unread.
 pub fn view_at<F: FileBytes + Drop>(
     alloc: Global,
     limits: Limits,

@@ -1,5 +1,6 @@
 //! At which commits a page is gone: a later frame is copied over it, or it may have been cut away.
-ghost use Rattle.std.specs.Prelude.{◌≡◌, ◌≤◌, ◌<◌, ◌⊎◌, ◌↔◌, ◌^◌, ◌+◌, ◌-◌, ℕ, List, length, get_or, IsOk, IfOk, OnErr, IfErr, IsTrue};
+ghost use Rattle.std.specs.Prelude.{◌≡◌, ◌≤◌, ◌<◌, ◌⊎◌, ◌↔◌, ◌^◌, ◌+◌, ◌-◌};
+ghost use Rattle.std.specs.Prelude.{ℕ, List, length, get_or, IsOk, IfOk, OnErr, IfErr, IsTrue};
 ghost use Rattle.sqval.specs.Database.{file_pages};
 ghost use Rattle.history.specs.Table.{AreUntil};
 ghost use Rattle.sqpast.specs.Past.{IsSource};
@@ -120,7 +121,7 @@ fn judge_page<F: FileBytes>(
 
 /// By page: at which commits of the log it is gone, those before this one. Each page of the file that a frame names is
 /// read once; so are those after the smallest commit, from the last back to the first that is neither zeros nor copied.
-pub fn until<F: FileBytes>(
+pub(super) fn until<F: FileBytes>(
     alloc: Global,
     db: &mut F,
     log: &mut F,

@@ -1,5 +1,6 @@
 //! What a page of a file is like: zeros, or the bytes of a frame that names it.
-ghost use Rattle.std.specs.Prelude.{◌≡◌, ◌≤◌, ◌<◌, ◌+◌, ◌^◌, ◌↔◌, ℕ, List, length, IsOk, IfOk, IsTrue, EachIndex, slice_index};
+ghost use Rattle.std.specs.Prelude.{◌≡◌, ◌≤◌, ◌<◌, ◌+◌, ◌^◌, ◌↔◌};
+ghost use Rattle.std.specs.Prelude.{ℕ, List, length, IsOk, IfOk, IsTrue, EachIndex, slice_index};
 ghost use Rattle.sqval.specs.Database.{file_page};
 ghost use Rattle.sqwal.specs.Frames.{frame_at, content_of};
 ghost use Rattle.history.specs.Checkpoints.{zero_page};
