@@ -533,12 +533,11 @@ uint32_t sqr_journal_scan(const uint8_t *journal, size_t len, struct sqr_record 
      their time limit is. Don't keep a path open for longer than it is read.
    - Writers in WAL mode wait as well where FILE-shm can't be opened for writing, and with SQR_FILES_ONLY where no
      connection was live: then the log alone says its front, and may not grow.
-   - FILE and its logs are mapped. No lock keeps the bytes of a database in WAL mode that has no FILE-shm. A file of up
-     to 4 MiB is copied then; of longer ones sqr_path_kept says whether they stayed unchanged. A hot journal of up to
-     4 MiB is copied, too. Of a journal that isn't hot, `journal` has the header alone, 28 bytes at most.
+   - FILE and its logs are mapped. No lock keeps the bytes of a database in WAL mode that has no FILE-shm, so its files
+     are copied into memory, and a hot journal too. Of a journal that isn't hot, `journal` has the header alone, 28 bytes
+     at most.
    - What is mapped and can't be read ends the process (SIGBUS): the disk fails, or a program that keeps no locks cuts
-     the file. So does a connection that comes to a longer database in WAL mode without FILE-shm and makes it smaller.
-     sqr_recover reads the logs to their ends first, so that their errors are its status.
+     the file. sqr_recover reads the logs to their ends first, so that their errors are its status.
 
    A process that has FILE open, by SQLite or otherwise, may make each call: it loses no lock. The system gives back all
    POSIX locks that a process has on a file when it closes any descriptor of it (fcntl(2)), and so SQLite's. Here no
@@ -577,12 +576,6 @@ uint32_t sqr_open_path(const char *path, uint32_t flags, const struct sqr_option
 
 /* Gives the locks and all memory back, and sets the handle to NULL. Nothing where it is NULL already. */
 void sqr_close_path(struct sqr_path **handle);
-
-/* Whether all that was read of a path until now is of one moment: SQR_OK. SQR_IN_USE if somebody has opened a database
-   since that was longer than 4 MiB, in WAL mode, and without FILE-shm: what was read may be of several moments, so open
-   it anew. Call it after the last reading. It looks for FILE-shm, and for nothing if the locks or copies keep the
-   bytes. */
-uint32_t sqr_path_kept(const struct sqr_path *handle);
 
 /* The view for sqr_page, and the files for sqr_check, sqr_open_at and the scans: theirs until the path is closed, and
    for reading on any number of threads. Where the log has a live writer, `wal` ends with its front. Of NULL, a handle

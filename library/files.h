@@ -22,6 +22,7 @@ struct sqr_path {
     uint64_t *places;
     char *index;             /* the name of FILE-shm, if the bytes are of one moment as long as it isn't there */
     int is_locked, is_alone; /* alone: no connection was live, and WRITE is held on that account alone */
+    int copies;              /* what no lock keeps is copied, however long: a handle stays of one moment */
 };
 
 struct sqr_asked { /* as the crate's Asked */
@@ -62,7 +63,7 @@ uint32_t sqr_file_log(int file, const char *path, const char *end, int how, int 
 uint32_t sqr_file_is_hot(int journal, uint64_t len, int *is_hot);
 
 /* The first `len` bytes of a file, mapped or copied. */
-#define SQR_COPIED 4194304 /* bytes: a longer file isn't copied */
+#define SQR_COPIED 4194304 /* bytes: a longer file is copied for a handle alone */
 uint32_t sqr_file_bytes(int fd, size_t len, int is_copy, struct sqr_opened *out);
 void sqr_file_give_back(struct sqr_opened *it);
 
@@ -82,6 +83,10 @@ uint32_t sqr_file_plan(const struct sqr_files *files, uint64_t **places, struct 
 #define SQR_PATH_INIT {.held = {.file = -1, .index = -1}, .park = SQR_PARK_INIT, .view = SQR_VIEW_INIT}
 uint32_t sqr_path_begin(struct sqr_path *of, const char *path, uint32_t flags, uint32_t at);
 void sqr_path_end(struct sqr_path *of);
+
+/* Whether all that was read until now is of one moment: SQR_OK, or SQR_IN_USE if FILE-shm has come to files that no lock
+   keeps and that weren't copied. */
+uint32_t sqr_path_kept(const struct sqr_path *of);
 
 /* Lets others write where no connection was live: the log is then cut at its front, also that of this view. */
 void sqr_path_let_write(struct sqr_path *of, struct sqr_view *view);

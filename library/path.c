@@ -53,6 +53,9 @@ static uint32_t front_of(int index, int log, size_t *len) {
     return SQR_IN_USE;
 }
 
+/* Whether a file of this length is copied if no lock keeps it as it is. */
+static int is_copied(const struct sqr_path *of, uint64_t len) { return of->copies || len <= SQR_COPIED; }
+
 static uint32_t read_wal(struct sqr_path *of, const char *path, enum how how) {
     struct stat found;
     int fd;
@@ -60,7 +63,7 @@ static uint32_t read_wal(struct sqr_path *of, const char *path, enum how how) {
     if (status) return status;
     size_t len = fd < 0 ? 0 : (size_t)found.st_size;
     if (how == FRONT) status = front_of(of->held.index, fd, &len);
-    if (!status && fd >= 0) status = sqr_file_bytes(fd, len, how == NO_INDEX && len <= SQR_COPIED, &of->wal);
+    if (!status && fd >= 0) status = sqr_file_bytes(fd, len, how == NO_INDEX && is_copied(of, len), &of->wal);
     if (fd >= 0) close(fd);
     return status;
 }
@@ -86,12 +89,12 @@ static int is_reserved(const struct sqr_path *of) {
     return of->is_locked && !fcntl(of->held.file, F_OFD_GETLK, &at) && at.l_type != F_UNLCK;
 }
 
-/* A hot journal up to SQR_COPIED is copied, since a connection that reads from before its writer died may write and cut
+/* A hot journal is copied, for a call that ends only up to SQR_COPIED, since a connection that reads from before its writer died may write and cut
    it. If a second reading of all of it finds other bytes it is a live writer's, as above. The header alone doesn't
    tell: over the records of an earlier transaction (persist) half of a record may be copied whose sum, which is over
    each 200th byte, is right all the same. A longer one is mapped. */
 static uint32_t read_hot(struct sqr_path *of, int fd, const struct stat *found) {
-    const int is_copy = found->st_size <= SQR_COPIED;
+    const int is_copy = is_copied(of, (uint64_t)found->st_size);
     struct stat again;
     int has = 1;
     uint32_t status = sqr_file_bytes(fd, (size_t)found->st_size, is_copy, &of->journal);
@@ -116,8 +119,9 @@ static uint32_t read_journal(struct sqr_path *of, const char *path) {
     return status;
 }
 
-/* FILE may change while SHARED alone is held if it is in WAL mode, or has such a log. Up to SQR_COPIED it is copied
-   then. A longer one is unchanged as long as there is no FILE-shm: SHARED keeps all from deleting that. */
+/* FILE may change while SHARED alone is held if it is in WAL mode, or has such a log. It is copied then, for a call that
+   ends only up to SQR_COPIED: a longer one is unchanged as long as there is no FILE-shm, since SHARED keeps all from
+   deleting that. */
 static uint32_t read_file(struct sqr_path *of, const char *path, enum how how) {
     struct stat found;
     uint8_t version = 0;
@@ -125,7 +129,7 @@ static uint32_t read_file(struct sqr_path *of, const char *path, enum how how) {
     uint32_t status = sqr_file_again(of->held.file, path, &fd, &found);
     if (status) return status;
     int may_change = how == NO_INDEX && (is_there(path, "-wal") || pread(fd, &version, 1, 19) != 1 || version == 2);
-    status = sqr_file_bytes(fd, (size_t)found.st_size, may_change && found.st_size <= SQR_COPIED, &of->db);
+    status = sqr_file_bytes(fd, (size_t)found.st_size, may_change && is_copied(of, (uint64_t)found.st_size), &of->db);
     close(fd);
     if (status || !may_change || (of->db.is_copy && (!of->wal.bytes || of->wal.is_copy))) return status;
     of->index = malloc(strlen(path) + sizeof "-shm");
@@ -134,12 +138,10 @@ static uint32_t read_file(struct sqr_path *of, const char *path, enum how how) {
     return SQR_OK;
 }
 
-uint32_t sqr_path_kept(const struct sqr_path *handle) {
+uint32_t sqr_path_kept(const struct sqr_path *of) {
     struct stat found;
-    if (!handle || !handle->index) return SQR_OK;
-    const int before = errno, is_still = lstat(handle->index, &found) && errno == ENOENT;
-    errno = before;
-    return is_still ? SQR_OK : SQR_IN_USE;
+    if (!of->index) return SQR_OK;
+    return lstat(of->index, &found) && errno == ENOENT ? SQR_OK : SQR_IN_USE;
 }
 
 /* The pages of the database at a commit, or 0 where there is no such commit. */
@@ -257,6 +259,7 @@ static uint32_t opened(const char *path, uint32_t flags, const struct sqr_option
     it.of = malloc(sizeof *it.of);
     if (!it.of) return SQR_NO_MEMORY;
     *it.of = (struct sqr_path)SQR_PATH_INIT;
+    it.of->copies = 1;
     it.path = real, it.at = asked.at;
     struct sqr_park kept = SQR_PARK_INIT;
     status = sqr_call_run(open_once, &it.call, real, flags & SQR_NO_LOCK ? NULL : &kept, asked.wait);

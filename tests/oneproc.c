@@ -112,7 +112,7 @@ static uint32_t opened(const char *file, uint32_t flags) {
     uint32_t status = sqr_open_path(file, flags, NULL, &path);
     if (!status) {
         memset(&report, 0, sizeof report);
-        check(sqr_check(sqr_path_files(path), &report) == SQR_OK && sqr_path_kept(path) == SQR_OK, "a sound view");
+        check(sqr_check(sqr_path_files(path), &report) == SQR_OK, "a sound view");
     }
     sqr_close_path(&path);
     return status;

@@ -209,7 +209,6 @@ def _loaded():
         ("sqr_recover_to", [ctypes.c_char_p, ctypes.c_char_p, Word, pointer(_Options), pointer(_Recovered)], Word),
         ("sqr_open_path", [ctypes.c_char_p, Word, pointer(_Options), pointer(ctypes.c_void_p)], Word),
         ("sqr_close_path", [pointer(ctypes.c_void_p)], None),
-        ("sqr_path_kept", [ctypes.c_void_p], Word),
         ("sqr_path_view", [ctypes.c_void_p], pointer(_View)),
         ("sqr_path_files", [ctypes.c_void_p], pointer(_Files)),
     ):
@@ -401,12 +400,6 @@ class _Path(_Source):
         _by_path(_library.sqr_open_path, path, None, flags, _options(wait), self._handle)
         self.files = _library.sqr_path_files(self._handle).contents
         self.view = _library.sqr_path_view(self._handle).contents
-
-    def __exit__(self, kind, *rest):
-        status = _library.sqr_path_kept(self._handle)
-        super().__exit__(kind, *rest)
-        if status and kind is None:
-            raise _error(status, self._name)
 
     def _give_up(self):
         super()._give_up()
