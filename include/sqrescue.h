@@ -533,9 +533,9 @@ uint32_t sqr_journal_scan(const uint8_t *journal, size_t len, struct sqr_record 
      their time limit is. Don't keep a path open for longer than it is read.
    - Writers in WAL mode wait as well where FILE-shm can't be opened for writing, and with SQR_FILES_ONLY where no
      connection was live: then the log alone says its front, and may not grow.
-   - FILE and its logs are mapped. No lock keeps the bytes of a database in WAL mode that has no FILE-shm, so its files
-     are copied into memory, and a hot journal too. Of a journal that isn't hot, `journal` has the header alone, 28 bytes
-     at most.
+   - FILE and its logs are mapped. No lock keeps the bytes of a database in WAL mode that has no FILE-shm, so its
+     files are copied into memory, and a hot journal too. Of a journal that isn't hot, `journal` has the header alone,
+     28 bytes at most.
    - What is mapped and can't be read ends the process (SIGBUS): the disk fails, or a program that keeps no locks cuts
      the file. sqr_recover reads the logs to their ends first, so that their errors are its status.
 

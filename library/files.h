@@ -84,8 +84,8 @@ uint32_t sqr_file_plan(const struct sqr_files *files, uint64_t **places, struct 
 uint32_t sqr_path_begin(struct sqr_path *of, const char *path, uint32_t flags, uint32_t at);
 void sqr_path_end(struct sqr_path *of);
 
-/* Whether all that was read until now is of one moment: SQR_OK, or SQR_IN_USE if FILE-shm has come to files that no lock
-   keeps and that weren't copied. */
+/* Whether all that was read until now is of one moment: SQR_OK, or SQR_IN_USE if FILE-shm has come to files that no
+   lock keeps and that weren't copied. */
 uint32_t sqr_path_kept(const struct sqr_path *of);
 
 /* Lets others write where no connection was live: the log is then cut at its front, also that of this view. */

@@ -89,10 +89,10 @@ static int is_reserved(const struct sqr_path *of) {
     return of->is_locked && !fcntl(of->held.file, F_OFD_GETLK, &at) && at.l_type != F_UNLCK;
 }
 
-/* A hot journal is copied, for a call that ends only up to SQR_COPIED, since a connection that reads from before its writer died may write and cut
-   it. If a second reading of all of it finds other bytes it is a live writer's, as above. The header alone doesn't
-   tell: over the records of an earlier transaction (persist) half of a record may be copied whose sum, which is over
-   each 200th byte, is right all the same. A longer one is mapped. */
+/* A hot journal is copied, by a call that ends up to SQR_COPIED alone, since a connection that reads from before its
+   writer died may write and cut it. If a second reading of all of it finds other bytes it is a live writer's, as above.
+   The header alone doesn't tell: over the records of an earlier transaction (persist) half of a record may be copied
+   whose sum, which is over each 200th byte, is right all the same. Otherwise it is mapped. */
 static uint32_t read_hot(struct sqr_path *of, int fd, const struct stat *found) {
     const int is_copy = is_copied(of, (uint64_t)found->st_size);
     struct stat again;
@@ -119,8 +119,8 @@ static uint32_t read_journal(struct sqr_path *of, const char *path) {
     return status;
 }
 
-/* FILE may change while SHARED alone is held if it is in WAL mode, or has such a log. It is copied then, for a call that
-   ends only up to SQR_COPIED: a longer one is unchanged as long as there is no FILE-shm, since SHARED keeps all from
+/* FILE may change while SHARED alone is held if it is in WAL mode, or has such a log. It is copied then, by a call that
+   ends up to SQR_COPIED alone: a longer one is unchanged as long as there is no FILE-shm, since SHARED keeps all from
    deleting that. */
 static uint32_t read_file(struct sqr_path *of, const char *path, enum how how) {
     struct stat found;
