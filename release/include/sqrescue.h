@@ -118,14 +118,16 @@ enum sqr_status
     SQR_IN_USE = 21,        /* a writer, of sqr_recover anybody who has FILE open, held a lock in the way until the
                                time was over; sqr_recover_to: another call makes OUT, too */
     SQR_NO_LOCKS = 22,      /* the file system has no such locks, or FILE-shm can't be opened; see SQR_NO_LOCK */
-    SQR_FILE_FAILED = 23,   /* any other answer of the system: an I/O error, too many open files */
+    SQR_FILE_FAILED = 23,   /* any other answer of the system: an I/O error, no free descriptor; errno has it */
     SQR_UNKNOWN_OPTIONS = 24, /* a flag or an option that this version doesn't know, or a size that isn't one */
     SQR_MISUSE = 25,        /* NULL where a pointer has to be; sqr_recover_to: OUT is the name of a log of FILE */
     SQR_NOT_WRITABLE = 26,  /* sqr_recover, sqr_recover_to, as all that follow: the system doesn't let FILE, FILE-shm
                                or the log that counts be written, or OUT be made */
     SQR_ALREADY_THERE = 27, /* something lies at OUT */
-    SQR_DISK_FULL = 28      /* there is no space left for it, or a limit of the size of files is reached, where the
-                               process ignores SIGXFSZ, which ends it otherwise */
+    SQR_DISK_FULL = 28,     /* there is no space left for it, or a limit of the size of files is reached. SIGXFSZ ends a
+                               process that doesn't ignore it only if the call has no task */
+    SQR_SHARED_PROCESS = 29 /* the system gives the call no task, and the process may have FILE open; see 'A process
+                               that has FILE open' */
 };
 
 /* The name that it had up to version 0.1.0; not to be used any more. */
@@ -531,13 +533,28 @@ uint32_t sqr_journal_scan(const uint8_t *journal, size_t len, struct sqr_record 
      their time limit is. Don't keep a path open for longer than it is read.
    - Writers in WAL mode wait as well where FILE-shm can't be opened for writing, and with SQR_FILES_ONLY where no
      connection was live: then the log alone says its front, and may not grow.
-   - Where FILE is in WAL mode and FILE-shm isn't there, all bytes are copied into memory, since no lock keeps them; a
-     rollback journal is always copied.
-   - Not in a process that has the same database open by SQLite: the system gives back all locks that a process has on a
-     file when it closes any descriptor of it (fcntl(2)), and so SQLite's.
-   - Not across fork: a child that closes it gives back the locks of its parent too.
-   - What is mapped and can't be read by the disk ends the process (SIGBUS), as it does where FILE is cut by a program
-     that keeps no locks. sqr_recover reads the logs to their ends first, so that their errors are its status. */
+   - FILE and its logs are mapped. No lock keeps the bytes of a database in WAL mode that has no FILE-shm, so its
+     files are copied into memory, and a hot journal too. Of a journal that isn't hot, `journal` has the header alone,
+     28 bytes at most.
+   - What is mapped and can't be read ends the process (SIGBUS): the disk fails, or a program that keeps no locks cuts
+     the file. sqr_recover reads the logs to their ends first, so that their errors are its status.
+
+   A process that has FILE open, by SQLite or otherwise, may make each call: it loses no lock. The system gives back all
+   POSIX locks that a process has on a file when it closes any descriptor of it (fcntl(2)), and so SQLite's. Here no
+   descriptor of FILE, its logs, FILE-shm or OUT is ever opened or closed in the table of descriptors of the process:
+
+   - Each call runs in a task: a thread that gets a separate table by close_range(2) with CLOSE_RANGE_UNSHARE (Linux
+     5.9), or else by unshare(2) with CLONE_FILES. The thread ends with the call. It proves that the table is separate
+     before it opens anything, and runs none of the caller's code except the allocator.
+   - A path that is open is mappings and one descriptor, a socket in which the locks are kept. On any thread
+     sqr_close_path gives them back. A child that was forked may read and close what it inherits, and its parent keeps
+     the locks. A child that doesn't keeps them only if the parent ends before it closes the path.
+   - SQR_SHARED_PROCESS comes if there is no such task: both calls are forbidden (seccomp), or no thread can be had. It
+     doesn't come in a process of one thread that has none of these files open: no lock can be lost there.
+   - pthread_cancel ends a thread before a call or after it. Signals are left to the other threads. errno is the
+     system's if a status comes from the system (SQR_NOT_THERE, SQR_FILE_FAILED and so on), and otherwise unchanged.
+   - A handle takes up to two of the descriptors in flight that a user may have, as many as RLIMIT_NOFILE says. A call
+     right before unshare(CLONE_NEWUSER) may make that fail for a moment: the system takes its thread to be there. */
 struct sqr_path;
 
 /* What may be asked for. A caller sets size to what sizeof says, by SQR_OPTIONS_INIT; fields that are added later stand
