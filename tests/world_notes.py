@@ -374,11 +374,11 @@ def helps():
         out = run(f"{command} --help").out
         for option in "--super-journal", "--verbose":
             yield f"help of {command}: {option}", None if option in out else f"{out!r}"
-    for command, told in ("salvage", "; - prints it"), ("report", "; - prints it"), ("recover", "; - is a name"):
+    for command in "salvage", "report":
         out = run(f"{command} --help").out
-        yield f"help of {command}: --to -", None if re.search(f"--to <OUT>.*{told}", out) else f"{out!r}"
+        yield f"help of {command}: --to -", None if re.search("--to <OUT>.*; - prints it", out) else f"{out!r}"
     page = read(TOP / "docs/sqrescue.1").decode()
-    for word in "Fl -force", "in use", "file changed", "Fl -super-journal", "Fl -version", "Fl -verbose":
+    for word in "names a file like any other", "Fl -force", "in use", "file changed", "Fl -super-journal", "Fl -version", "Fl -verbose":
         yield f"manual page: {word}", None if word in page else "it isn't named"
 
 
