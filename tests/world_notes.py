@@ -378,7 +378,8 @@ def helps():
         out = run(f"{command} --help").out
         yield f"help of {command}: --to -", None if re.search("--to <OUT>.*; - prints it", out) else f"{out!r}"
     page = read(TOP / "docs/sqrescue.1").decode()
-    for word in "names a file like any other", "Fl -force", "in use", "file changed", "Fl -super-journal", "Fl -version", "Fl -verbose":
+    for word in ("names a file like any other", "Fl -force", "in use", "file changed", "Fl -super-journal",
+                 "Fl -version", "Fl -verbose"):
         yield f"manual page: {word}", None if word in page else "it isn't named"
 
 
