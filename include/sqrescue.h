@@ -58,6 +58,8 @@
    - sqr_wal_scan, sqr_wal_commits, sqr_journal_scan: `scanned` or `counted`, all that counts and no more, and where it
      stops; `frames`, `commits` or `records`, the array has them; `crowded`, SQR_NO_ROOM only for want of room;
      `refused`; `.._kept`.
+   - sqr_known_commits: `counted`; `known`, a 1 stands for a commit whose database is known, a 0 for one that files with
+     different databases there have in common; `crowded`, `refused`, `.._kept`.
    - sqr_status_text, sqr_fault_text: `name`, `length`. sqr_version.
 
    Tested, not proved: that SQR_NO_MEMORY comes only where an allocation was refused; that a refused opening leaves its
@@ -126,8 +128,10 @@ enum sqr_status
     SQR_ALREADY_THERE = 27, /* something lies at OUT */
     SQR_DISK_FULL = 28,     /* there is no space left for it, or a limit of the size of files is reached. SIGXFSZ ends a
                                process that doesn't ignore it only if the call has no task */
-    SQR_SHARED_PROCESS = 29 /* the system gives the call no task, and the process may have FILE open; see 'A process
+    SQR_SHARED_PROCESS = 29, /* the system gives the call no task, and the process may have FILE open; see 'A process
                                that has FILE open' */
+    SQR_COMMIT_OVERWRITTEN = 30 /* sqr_open_at, sqr_check_at, SQR_AT: a later checkpoint may have changed the database
+                               at the commit; see sqr_open_at */
 };
 
 /* The name that it had up to version 0.1.0; not to be used any more. */
@@ -257,12 +261,21 @@ static const uint64_t sqr_no_places[1] = {0};
    SQR_NO_ROOM, where sqr_size says how much is needed. Memory as of sqr_size. */
 uint32_t sqr_open(const struct sqr_files *files, uint64_t *places, size_t room, struct sqr_view *view);
 
-/* Opens the database that the file shows with its write-ahead log up to a commit, by the frame that ends it, of those
-   that sqr_wal_commits finds: with this commit, and without those behind it. At frame 0 the file without its logs.
-   `places` has room for `room` places; as many as the commit has pages are enough, and none are needed at 0. Refused,
-   in this order, by SQR_TWO_LOGS, but for 0 SQR_LOG_VERSION and SQR_PAGE_SIZES_DIFFER, SQR_TOO_LARGE of the log,
-   SQR_NO_SUCH_COMMIT, SQR_TOO_LARGE of the database, SQR_NOT_A_DATABASE at 0, and SQR_NO_ROOM, where sqr_wal_commits
-   says how much is needed; SQR_NO_MEMORY in place of any but SQR_LOG_VERSION. Memory as of sqr_size. */
+/* Opens the database as it was at a commit, by the frame that ends it, of those that sqr_wal_commits finds; at frame 0
+   as it was before the first commit. Without a log that has a commit, and beside a hot journal, that is the file alone.
+   A checkpoint copies later frames into the file and can leave the log. If the file still determines the database, it
+   is shown whatever was copied; otherwise the call is refused by SQR_COMMIT_OVERWRITTEN. At the front it is what
+   sqr_open shows. Before the front it has as many pages as its header counts, if that count is valid and no larger than
+   the commit's.
+
+   Assumed (A5): since the log's first frame only checkpoints of this log changed the file; file and log are of one
+   moment; no page of the file is torn; no power loss took frames from the log that were already copied.
+
+   `places` has room for `room` places; as many as the commit has pages are enough, and none are needed at 0. Refused by
+   SQR_TWO_LOGS, but for 0 SQR_LOG_VERSION and SQR_PAGE_SIZES_DIFFER, SQR_TOO_LARGE of the log, SQR_NO_SUCH_COMMIT,
+   SQR_TOO_LARGE of the database, SQR_COMMIT_OVERWRITTEN, SQR_NOT_A_DATABASE at 0, also if the file names another page
+   size than its log, and SQR_NO_ROOM, where sqr_wal_commits says how much is enough; SQR_NO_MEMORY in place of any but
+   SQR_LOG_VERSION. Memory as of sqr_size; before the front also 12 bytes for each page and 4 for each frame. */
 uint32_t sqr_open_at(const struct sqr_files *files, uint32_t frame, uint64_t *places, size_t room,
                      struct sqr_view *view);
 
@@ -315,9 +328,9 @@ struct sqr_report {
    for each page. */
 uint32_t sqr_check(const struct sqr_files *files, struct sqr_report *report);
 
-/* The same of the database at a commit, by the frame that ends it, as sqr_open_at opens it; at frame 0 of the file
-   without its logs. Refused by SQR_TWO_LOGS, SQR_TOO_LARGE, SQR_NO_SUCH_COMMIT, SQR_AUTO_VACUUM; SQR_NO_MEMORY in place
-   of any. */
+/* The same of the database at a commit, by the frame that ends it, or at 0, as sqr_open_at opens it. Refused by
+   SQR_TWO_LOGS, SQR_TOO_LARGE, SQR_NO_SUCH_COMMIT, SQR_COMMIT_OVERWRITTEN, SQR_AUTO_VACUUM; SQR_NO_MEMORY in place of
+   any. */
 uint32_t sqr_check_at(const struct sqr_files *files, uint32_t frame, struct sqr_report *report);
 
 /* What is asked for, all bits of it; each call says which it takes. A bit that a call doesn't take is refused. */
@@ -397,9 +410,9 @@ struct sqr_survey {
    roles[p - 1]. SQR_OK where it is well formed, SQR_DAMAGED with a fault that stands where it isn't: then a page has
    the role of the first place that names it, and nothing is followed in a page that is wrong in its role. SQR_NO_ROOM
    where there are more pages than room: then `out` is written, with fault 0, and `roles` not. Refused, in this order,
-   by SQR_UNKNOWN_OPTIONS, SQR_TWO_LOGS, SQR_TOO_LARGE, SQR_NO_SUCH_COMMIT; SQR_NOT_A_DATABASE, also where page 1 is
-   none of a database or leaves fewer than 480 bytes of a page to be used; SQR_AUTO_VACUUM; SQR_NO_MEMORY in place of
-   any but the first. Memory: as of sqr_check, and 12 bytes for each page. */
+   by SQR_UNKNOWN_OPTIONS, SQR_TWO_LOGS, SQR_TOO_LARGE, SQR_NO_SUCH_COMMIT, SQR_COMMIT_OVERWRITTEN; SQR_NOT_A_DATABASE,
+   also where page 1 is none of a database or leaves fewer than 480 bytes of a page to be used; SQR_AUTO_VACUUM;
+   SQR_NO_MEMORY in place of any but the first. Memory: as of sqr_check, and 12 bytes for each page. */
 uint32_t sqr_page_roles(const struct sqr_files *files, uint32_t flags, uint32_t frame, struct sqr_role *roles,
                         size_t room, struct sqr_survey *out);
 
@@ -490,6 +503,12 @@ struct sqr_commit {
    each valid frame, and 4 for each commit. */
 uint32_t sqr_wal_commits(const uint8_t *wal, size_t len, struct sqr_commit *commits, size_t room, uint32_t *count);
 
+/* For each of these commits of the files' write-ahead log, 1 if the database is known there, so that sqr_open_at shows
+   it, or 0 if that is refused by SQR_COMMIT_OVERWRITTEN. The last commit is always known. The journal isn't looked at.
+   `count` and the refusals are as for sqr_wal_commits. The file's pages that frames name are read once. Memory while it
+   runs: 12 bytes for each page, 13 for each valid frame, and 4 for each commit. */
+uint32_t sqr_known_commits(const struct sqr_files *files, uint8_t *known, size_t room, uint32_t *count);
+
 /* A record of a rollback journal that counts: the page that it holds, and where its bytes begin in the journal. */
 struct sqr_record {
     uint64_t at;
@@ -562,7 +581,7 @@ struct sqr_path;
 struct sqr_options {
     size_t size;
     uint32_t wait; /* how long locks are waited for, in milliseconds; 5000 where options are NULL */
-    uint32_t at;   /* with SQR_AT: the frame that ends the commit; 0 for the file without its log */
+    uint32_t at;   /* with SQR_AT: the frame that ends the commit; 0 for the database before the first one */
 };
 
 #define SQR_OPTIONS_INIT \
@@ -605,13 +624,14 @@ uint32_t sqr_recover(const char *path, uint32_t flags, const struct sqr_options 
 
 /* Makes a new file with what sqr_recover would leave in FILE, as `sqrescue recover --to` does; FILE and its logs are
    only read, with the locks of sqr_open_path, so beside any writer. With SQR_AT the database at the commit frame
-   options->at, at 0 FILE as it stands. OUT is whole and durable, or not there: it is made beside, as OUT.sqrescue-part
-   (or .sqrescue-part), which a later call sweeps away where this one was ended, and gets its name last. What lies at
-   OUT is never replaced. It has FILE's permissions as far as the process gives them, and blocks of zeros are holes.
+   options->at, or at 0, as sqr_open_at opens it. OUT is whole and durable, or not there: it is made beside, as
+   OUT.sqrescue-part (or .sqrescue-part), which a later call sweeps away where this one was ended, and gets its name
+   last. What lies at OUT is never replaced. It has FILE's permissions as far as the process gives them, and blocks of
+   zeros are holes.
 
    `flags` may be SQR_NO_LOCK and SQR_AT; `options` and `out` as above. Refused as sqr_open_path with SQR_FILES_ONLY is
-   and as sqr_plan is, by SQR_NO_SUCH_COMMIT, SQR_ALREADY_THERE, SQR_MISUSE where OUT is the name of a log or the
-   FILE-shm of FILE, SQR_NOT_WRITABLE and SQR_DISK_FULL. Then nothing is made. Memory while it runs: as of
+   and as sqr_plan is, with SQR_AT as sqr_open_at, by SQR_ALREADY_THERE, SQR_MISUSE where OUT is the name of a log or
+   the FILE-shm of FILE, SQR_NOT_WRITABLE and SQR_DISK_FULL. Then nothing is made. Memory while it runs: as of
    sqr_open_path, and 64 KiB. */
 uint32_t sqr_recover_to(const char *path, const char *to, uint32_t flags, const struct sqr_options *options,
                         struct sqr_recovered *out);

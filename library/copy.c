@@ -269,16 +269,17 @@ static uint32_t make(const struct copied *it) {
     return status;
 }
 
-/* What is to be copied: at a commit the view that the path is opened with; otherwise what the plan leaves. */
+/* What is to be copied: at a commit, or at 0, the view that the path is opened with; otherwise what the plan leaves. */
 static uint32_t look(struct copied *it) {
-    const int is_file = it->flags & SQR_AT && !it->at, is_commit = it->flags & SQR_AT && it->at;
-    const uint32_t how = is_commit ? it->flags : (it->flags & SQR_NO_LOCK) | SQR_FILES_ONLY;
+    const int is_past = (it->flags & SQR_AT) != 0;
+    const uint32_t how = is_past ? it->flags : (it->flags & SQR_NO_LOCK) | SQR_FILES_ONLY;
     uint32_t status = sqr_path_begin(&it->from, it->path, how, it->at);
     it->call.is_held_up = status == SQR_IN_USE;
-    if (status || is_file) return status;
-    if (is_commit) {
+    if (status) return status;
+    if (is_past) {
+        const uint32_t recovery = it->at ? SQR_RECOVERY_FOLD : SQR_RECOVERY_NONE;
         it->view = &it->from.view;
-        it->found = (struct sqr_recovered){SQR_RECOVERY_FOLD, it->view->page_size, it->view->pages};
+        it->found = (struct sqr_recovered){recovery, it->view->page_size, it->view->pages};
         return SQR_OK;
     }
     status = sqr_file_plan(&it->from.files, &it->places, &it->plan, &it->found);

@@ -35,6 +35,7 @@ const char *sqr_status_name(uint32_t status) {
     case SQR_ALREADY_THERE: return "already there";
     case SQR_DISK_FULL: return "disk full";
     case SQR_SHARED_PROCESS: return "shared process";
+    case SQR_COMMIT_OVERWRITTEN: return "commit overwritten";
     default: return "?";
     }
 }

@@ -1,14 +1,18 @@
 """Makes the wheel: the module, and the shared library that ./build-c left, or that of the release. It asks for nothing
-but Python, and no compiler and no network: `pip install ./python` calls it (PEP 517)."""
+but Python, and no compiler and no network: `pip install ./python` calls it (PEP 517). The source archive has the shared
+library too, so that a wheel can be made of it on a machine without this tree."""
 import base64
+import gzip
 import hashlib
+import io
 import os
 import re
+import tarfile
 import zipfile
 
 HERE = os.path.dirname(os.path.abspath(__file__))
 LIBRARY = "libsqrescue.so.1"
-TAG = "py3-none-linux_x86_64"
+TAG = "py3-none-manylinux_2_34_x86_64"  # the GNU C library whose newest symbols the library asks for (PEP 600)
 
 
 def _setting(name):
@@ -18,10 +22,10 @@ def _setting(name):
 
 
 def _library():
-    """The shared library: the one that SQRESCUE_LIBRARY names, that of lib/, or that of release/lib/."""
+    """The shared library: what SQRESCUE_LIBRARY names, that of lib/, of release/lib/, or of a source archive."""
     top = os.path.dirname(HERE)
     below = [os.path.join(top, folder, LIBRARY) for folder in ("lib", os.path.join("release", "lib"))]
-    for path in filter(None, [os.environ.get("SQRESCUE_LIBRARY"), *below]):
+    for path in filter(None, [os.environ.get("SQRESCUE_LIBRARY"), *below, os.path.join(HERE, "sqrescue", LIBRARY)]):
         if os.path.exists(path):
             return path
     raise FileNotFoundError(f"{LIBRARY} is neither in lib/ nor in release/lib/, nor what SQRESCUE_LIBRARY names")
@@ -47,11 +51,13 @@ def _line(name, content):
     return f"{name},sha256={digest},{len(content)}\n"
 
 
+MODULE = ("__init__.py", "__init__.pyi", "py.typed")
+
+
 def build_wheel(wheel_directory, config_settings=None, metadata_directory=None):
     """Writes the wheel, the same bytes each time, and gives its name."""
     head, about = _about()
-    names = ("__init__.py", "__init__.pyi", "py.typed")
-    files = {f"sqrescue/{name}": _content(os.path.join(HERE, "sqrescue", name)) for name in names}
+    files = {f"sqrescue/{name}": _content(os.path.join(HERE, "sqrescue", name)) for name in MODULE}
     files[f"sqrescue/{LIBRARY}"] = _content(_library())
     files.update((f"{head}.dist-info/{name}", content) for name, content in about.items())
     record = "".join(_line(*item) for item in files.items()) + f"{head}.dist-info/RECORD,,\n"
@@ -63,4 +69,23 @@ def build_wheel(wheel_directory, config_settings=None, metadata_directory=None):
             entry.external_attr = (0o100755 if path.endswith(LIBRARY) else 0o100644) << 16
             entry.compress_type = zipfile.ZIP_DEFLATED
             wheel.writestr(entry, content)
+    return name
+
+
+def build_sdist(sdist_directory, config_settings=None):
+    """Writes the source archive, the same bytes each time, and gives its name."""
+    head, about = _about()
+    files = {name: _content(os.path.join(HERE, name)) for name in ("pyproject.toml", "wheel_of.py")}
+    files.update((f"sqrescue/{name}", _content(os.path.join(HERE, "sqrescue", name))) for name in MODULE)
+    files[f"sqrescue/{LIBRARY}"] = _content(_library())
+    files["PKG-INFO"] = about["METADATA"]
+    packed = io.BytesIO()
+    with tarfile.open(fileobj=packed, mode="w", format=tarfile.PAX_FORMAT) as archive:
+        for path, content in files.items():
+            entry = tarfile.TarInfo(f"{head}/{path}")
+            entry.size, entry.mode = len(content), 0o644
+            archive.addfile(entry, io.BytesIO(content))
+    name = f"{head}.tar.gz"
+    with open(os.path.join(sdist_directory, name), "wb") as out:
+        out.write(gzip.compress(packed.getvalue(), 9, mtime=0))
     return name

@@ -329,8 +329,24 @@ static int are_one_view(uint32_t one, const struct sqr_view *a, uint32_t other, 
     return !differ;
 }
 
-/* The view at a commit is the view of the files whose log ends behind it, and the database that recovery leaves of
-   these: the file PATH.at-FRAME, where it is there. */
+/* A commit that isn't known is refused by each call. */
+static void answer_unknown(const struct sqr_files *files, struct sqr_commit commit) {
+    struct sqr_view view = SQR_VIEW_INIT, kept = view;
+    struct sqr_report report = {1, 2, 3, 4, 5, 6, 7};
+    struct sqr_role role = {77, 88};
+    struct sqr_survey survey = {7, 8, 9};
+    uint64_t *places = calloc(commit.pages + 1ul, sizeof *places);
+    if (!places) exit(2);
+    const uint32_t wanted = SQR_COMMIT_OVERWRITTEN, frame = commit.frame;
+    check(sqr_open_at(files, frame, places, commit.pages, &view) == wanted, "a commit that isn't known");
+    check(!memcmp(&view, &kept, sizeof view) && are_zeros(places, commit.pages), "which leaves all");
+    check(sqr_check_at(files, frame, &report) == wanted && report.fault == 1, "its check");
+    check(sqr_page_roles(files, SQR_AT, frame, &role, 1, &survey) == wanted && role.kind == 77, "its roles");
+    free(places);
+}
+
+/* The view at a commit that is known is the view of the files whose log ends behind it, with the pages that its header
+   counts, and the database that recovery leaves of these: the file PATH.at-FRAME, where it is there. */
 static void answer_commit(const struct sqr_files *files, struct sqr_commit commit, uint32_t page_size) {
     struct sqr_files cut = *files;
     struct sqr_view view = SQR_VIEW_INIT, wanted = SQR_VIEW_INIT, kept = view;
@@ -338,15 +354,18 @@ static void answer_commit(const struct sqr_files *files, struct sqr_commit commi
     uint8_t *page = malloc(page_size + 1u);
     if (!places || !others || !page) exit(2);
     cut.wal_len = 32 + commit.frame * (24 + (size_t)page_size);
-    check(sqr_open_at(files, commit.frame, places, commit.pages - 1, &view) == SQR_NO_ROOM, "a commit without room");
+    check(sqr_open_at(files, commit.frame, places, 0, &view) == SQR_NO_ROOM, "a commit without room");
     check(!memcmp(&view, &kept, sizeof view) && are_zeros(places, commit.pages), "a commit without room leaves all");
     uint32_t status = sqr_open(&cut, others, commit.pages, &wanted);
     uint32_t found = sqr_open_at(files, commit.frame, places, commit.pages, &view);
-    check(found == SQR_OK && view.pages == commit.pages, "a view at a commit");
+    check(found == SQR_OK && view.pages && view.pages <= commit.pages, "a view at a commit");
+    const int is_whole = view.pages == commit.pages;
+    if (wanted.pages > view.pages) wanted.pages = view.pages, wanted.places_len = view.places_len;
     check(are_one_view(found, &view, status, &wanted), "the view at a commit is that of the log cut behind it");
     struct sqr_report report = {1, 2, 3, 4, 5, 6, 7}, right = report;
-    check(sqr_check_at(files, commit.frame, &report) == sqr_check(&cut, &right), "a check at a commit");
-    check(memcmp(&report, &right, sizeof report) == 0, "a report at a commit is that of the log cut behind it");
+    const uint32_t verdict = sqr_check_at(files, commit.frame, &report), other = sqr_check(&cut, &right);
+    check(!is_whole || verdict == other, "a check at a commit");
+    check(!is_whole || !memcmp(&report, &right, sizeof report), "a report at a commit is that of the cut log");
     char end[32];
     size_t len;
     snprintf(end, sizeof end, ".at-%u", commit.frame);
@@ -371,7 +390,9 @@ static void refuse_frames(const struct sqr_files *files, const struct sqr_commit
     struct sqr_view view = SQR_VIEW_INIT, wanted = SQR_VIEW_INIT, kept = view;
     uint64_t place = 99, other = 98;
     uint32_t status = sqr_open(&alone, &other, 0, &wanted), found = sqr_open_at(files, 0, &place, 0, &view);
-    if (found != SQR_TWO_LOGS) check(are_one_view(found, &view, status, &wanted), "the view at 0 is the file's own");
+    if (found == SQR_OK) check(are_one_view(found, &view, status, &wanted), "the view at 0 is the file's own");
+    else if (found != status && found != SQR_TWO_LOGS && found != SQR_NOT_A_DATABASE)
+        check(count && found == SQR_COMMIT_OVERWRITTEN, "a view at 0 is refused if a checkpoint may have changed it");
     view = kept;
     uint32_t last = count ? commits[count - 1].frame : 0, commit = 0, right = SQR_NO_SUCH_COMMIT;
     if (found == SQR_TWO_LOGS) right = found;
@@ -388,6 +409,21 @@ static void refuse_frames(const struct sqr_files *files, const struct sqr_commit
     check(report.fault == 1 && report.free == 7, "a check at no commit leaves the report");
 }
 
+/* Of each commit whether it is known, and the last one is. What refuses the commits refuses this, too. */
+static uint8_t *known_commits(const struct sqr_files *files, uint32_t refused, uint32_t count) {
+    uint8_t *known = malloc(count + 1ul);
+    uint32_t again = 98;
+    if (!known) exit(2);
+    memset(known, 77, count + 1ul);
+    uint32_t status = sqr_known_commits(files, known, count ? count - 1 : 0, &again);
+    check(status == refused && (again == count || again == 98) && known[0] == 77, "known commits without room");
+    if (count) status = sqr_known_commits(files, known, count + 1ul, &again);
+    if (!count) return known;
+    check(status == SQR_OK && again == count && known[count] == 77 && known[count - 1] == 1, "known commits");
+    for (uint32_t i = 0; i < count; i++) check(known[i] <= 1, "a commit is known or not");
+    return known;
+}
+
 static void answer_at(const struct sqr_files *files) {
     enum { MOST = 40 };
     struct sqr_commit none = {0, 0, 0};
@@ -398,10 +434,15 @@ static void answer_at(const struct sqr_files *files) {
     struct sqr_commit *commits = calloc(count + 1ul, sizeof *commits);
     if (!commits) exit(2);
     if (count) check(sqr_wal_commits(files->wal, files->wal_len, commits, count, &count) == SQR_OK, "commits again");
+    uint8_t *known = known_commits(files, status, count);
     uint32_t asked = asked_of_log(files);
     refuse_frames(files, commits, count, asked);
     sqr_wal_scan(files->wal, files->wal_len, &frame, 0, &found);
-    for (uint32_t i = 0; !asked && i < count; i += 1 + count / MOST) answer_commit(files, commits[i], found.page_size);
+    for (uint32_t i = 0; !asked && i < count; i += 1 + count / MOST) {
+        if (!known[i]) answer_unknown(files, commits[i]);
+        else answer_commit(files, commits[i], found.page_size);
+    }
+    free(known);
     free(commits);
 }
 
@@ -448,7 +489,7 @@ static void answer_all(const struct sqr_files *files, FILE *out) {
     answer_journal(files->journal, files->journal_len, out);
 }
 
-enum { ROOM = 4096, CALLS = 8 };
+enum { ROOM = 4096, CALLS = 9 };
 
 /* What the calls over one database write to. */
 struct room {
@@ -460,7 +501,8 @@ struct room {
     struct sqr_wal wal;
     struct sqr_frame frames[ROOM];
     struct sqr_commit commits[ROOM];
-    uint32_t count;
+    uint32_t count, known_count;
+    uint8_t known[ROOM];
     struct sqr_journal journal;
     struct sqr_record records[ROOM];
     uint64_t rows[ROOM];
@@ -478,6 +520,7 @@ static uint32_t call(int which, const struct sqr_files *files, struct room *room
     case 4: return sqr_wal_commits(files->wal, files->wal_len, room->commits, ROOM, &room->count);
     case 5: return sqr_open_at(files, 4, room->places, room->room, &room->view);
     case DEEP: return sqr_check_deep(files, 0, 0, room->rows, ROOM, &room->deep);
+    case 7: return sqr_known_commits(files, room->known, ROOM, &room->known_count);
     default: return sqr_journal_scan(files->journal, files->journal_len, room->records, ROOM, &room->journal);
     }
 }
@@ -524,6 +567,7 @@ static int are_same(const struct room *a, const struct room *b) {
     differ |= a->view.page_size != b->view.page_size || a->view.pages != b->view.pages || a->view.log != b->view.log;
     differ |= memcmp(&a->wal, &b->wal, sizeof a->wal) | memcmp(a->frames, b->frames, sizeof a->frames);
     differ |= a->count != b->count || memcmp(a->commits, b->commits, sizeof a->commits);
+    differ |= a->known_count != b->known_count || memcmp(a->known, b->known, sizeof a->known);
     differ |= memcmp(&a->journal, &b->journal, sizeof a->journal) | memcmp(a->records, b->records, sizeof a->records);
     return !differ;
 }
@@ -688,8 +732,8 @@ static void run_none(void) {
     check(sqr_journal_scan(sqr_bytes(NULL), 0, &record, 0, &journal) == SQR_OK && !journal.records, "no records");
     check(!journal.page_size && !journal.stop && journal.why == SQR_JOURNAL_END, "no journal");
     check(!strcmp(sqr_status_name(SQR_VERSION), "unknown log version"), "the name of a status");
-    check(!strcmp(sqr_status_name(30), "?") && !strcmp(sqr_fault_name(0), "?"), "the name of no status and no fault");
-    check(!strcmp(sqr_status_name(SQR_SHARED_PROCESS), "shared process"), "the name of the last status");
+    check(!strcmp(sqr_status_name(31), "?") && !strcmp(sqr_fault_name(0), "?"), "the name of no status and no fault");
+    check(!strcmp(sqr_status_name(SQR_COMMIT_OVERWRITTEN), "commit overwritten"), "the name of the last status");
     check(!strcmp(sqr_fault_name(21), "SchemaRecord"), "the name of a fault");
     check(!strcmp(sqr_fault_name(62), "KeyTwice") && !strcmp(sqr_fault_name(44), "?"), "the name of a fault inside");
     struct sqr_deep_report deep;

@@ -118,7 +118,7 @@ static int misuse(const char *file) {
     uint32_t size = 0, pages = 0;
     check(sqr_size(&no_files, &size, &pages) == SQR_NOT_A_DATABASE, "the size of files of zeros");
     check(sqr_check(&no_files, &report) == SQR_DAMAGED, "a check of files of zeros");
-    check(sqr_open_path(file, SQR_AT, NULL, &path) == SQR_OK, "the file without its log");
+    check(sqr_open_path(file, SQR_AT, NULL, &path) == SQR_OK, "the database before the first commit");
     check(sqr_page(sqr_path_view(path), 1, page, 0) == SQR_WRONG_SIZE, "a page of no bytes");
     check(sqr_page(sqr_path_view(path), 1, page, SIZE_MAX >> 1) == SQR_WRONG_SIZE, "a page without end");
     sqr_close_path(&path);

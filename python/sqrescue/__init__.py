@@ -8,7 +8,8 @@
         view.check()                        # a Report, or the exception Damaged
         view.roles()                        # what each page is used for, also of a damaged database
         for commit in view.commits():       # of the write-ahead log
-            before = view.at(commit.frame)  # a View of the same files, as they were with that commit
+            if commit.known:                # or a later checkpoint may have changed that database
+                before = view.at(commit.frame)  # a View of the database as it was at that commit
     recover_to("ledger.db", "copy.db")      # a new file with what a recovery would leave, beside any writer
     recover("ledger.db")                    # a recovery in its place, while nobody else has it open
 
@@ -33,7 +34,7 @@ Report = namedtuple("Report", "pages trees btree overflow free")
 DeepReport = namedtuple("DeepReport", "pages trees btree overflow free indexes tables asides")
 Frame = namedtuple("Frame", "page size")
 Wal = namedtuple("Wal", "page_size front pages stop why frames")
-Commit = namedtuple("Commit", "frame frames pages")
+Commit = namedtuple("Commit", "frame frames pages known", defaults=(None,))
 Record = namedtuple("Record", "at page")
 Journal = namedtuple("Journal", "page_size sector pages stop why records")
 Recovered = namedtuple("Recovered", "recovery page_size pages")
@@ -104,11 +105,12 @@ DiskFull = _refusal("DiskFull", 28, "There is no space left, or a limit of the s
                     errno.ENOSPC)
 SharedProcess = _refusal("SharedProcess", 29, "The system gives the call no table of descriptors of its own, and this "
                          "process may have the database open.", OSError, errno.EPERM)
+CommitOverwritten = _refusal("CommitOverwritten", 30, "A later checkpoint may have changed the database at the commit.")
 
 NO_ROOM = 9
 ERRORS = {error.status: error for error in Error.__subclasses__()}
 
-Word, Long, Size = ctypes.c_uint32, ctypes.c_uint64, ctypes.c_size_t
+Byte, Word, Long, Size = ctypes.c_uint8, ctypes.c_uint32, ctypes.c_uint64, ctypes.c_size_t
 Bytes = ctypes.POINTER(ctypes.c_char)
 
 
@@ -134,7 +136,7 @@ class _Wal(ctypes.Structure):
 
 
 class _Commit(ctypes.Structure):
-    _fields_ = [(name, Word) for name in Commit._fields]
+    _fields_ = [(name, Word) for name in ("frame", "frames", "pages")]
 
 
 class _Record(ctypes.Structure):
@@ -202,6 +204,7 @@ def _loaded():
         ("sqr_open_at", [pointer(_Files), Word, pointer(Long), Size, pointer(_View)], Word),
         ("sqr_wal_scan", [Bytes, Size, pointer(_Frame), Size, pointer(_Wal)], Word),
         ("sqr_wal_commits", [Bytes, Size, pointer(_Commit), Size, pointer(Word)], Word),
+        ("sqr_known_commits", [pointer(_Files), pointer(Byte), Size, pointer(Word)], Word),
         ("sqr_journal_scan", [Bytes, Size, pointer(_Record), Size, pointer(_Journal)], Word),
         ("sqr_plan", [pointer(_Files), pointer(Long), Size, pointer(_Plan)], Word),
         ("sqr_plan_next", [pointer(_Plan), pointer(_Step)], Word),
@@ -271,9 +274,15 @@ def _commits_of(lent):
     return [Commit(it.frame, it.frames, it.pages) for it in found]
 
 
+def _known_commits_of(files):
+    """The Commits of the write-ahead log of files, and of each whether its database is known."""
+    known = _all_of(_library.sqr_known_commits, (files,), Byte, Word(), lambda out: out.value)
+    return [it._replace(known=bool(is_known)) for it, is_known in zip(_commits_of((files.wal, files.wal_len)), known)]
+
+
 def commits_of(wal):
     """The Commits of a write-ahead log: the frame that ends each, from 1, how many frames it has, and how many pages
-    the database has there."""
+    the database has there. `known` is None, because that takes the database file."""
     return _commits_of(_lent(wal))
 
 
@@ -297,36 +306,36 @@ def _flags(large, pointer_maps):
     return (LARGE if large else 0) | (POINTER_MAPS if pointer_maps else 0)
 
 
-def _roles_of(files, flags):
+def _roles_of(files, flags, frame=0):
     """The Roles of the pages of a database."""
     roles, out = (_Role * 0)(), _Survey()
-    status = _library.sqr_page_roles(files, flags, 0, roles, 0, out)
+    status = _library.sqr_page_roles(files, flags, frame, roles, 0, out)
     if status == NO_ROOM:
         roles = (_Role * out.pages)()
-        status = _library.sqr_page_roles(files, flags, 0, roles, len(roles), out)
+        status = _library.sqr_page_roles(files, flags, frame, roles, len(roles), out)
     if status != Damaged.status:
         _judge(status)
     found = [Role(USES[role.kind - 1], role.of or None) for role in roles[:out.pages]]
     return Roles(found, FAULTS[out.fault - 1] if out.fault else None, out.page or None)
 
 
-def _checked(files, flags):
+def _checked(files, flags, frame=0):
     """The Report of a well-formed database; otherwise Damaged."""
     found = _Report()
-    status = _library.sqr_check_with(files, flags, 0, found)
+    status = _library.sqr_check_with(files, flags, frame, found)
     if status == Damaged.status:
         raise Damaged(FAULTS[found.fault - 1], found.page)
     _judge(status)
     return Report(*(getattr(found, name) for name in Report._fields))
 
 
-def _deeply_checked(files, flags):
+def _deeply_checked(files, flags, frame=0):
     """The DeepReport of a sound database; otherwise Damaged."""
     found, rows = _DeepReport(), (Long * 0)()
-    status = _library.sqr_check_deep(files, flags, 0, rows, 0, found)
+    status = _library.sqr_check_deep(files, flags, frame, rows, 0, found)
     if status == 0 and found.indexes + found.tables:
         rows = (Long * (found.indexes + found.tables))()
-        status = _library.sqr_check_deep(files, flags, 0, rows, len(rows), found)
+        status = _library.sqr_check_deep(files, flags, frame, rows, len(rows), found)
     if status == Damaged.status:
         named = (found.page, found.cell, found.row)
         places = (number if found.places & 1 << bit else None for bit, number in enumerate(named))
@@ -423,7 +432,7 @@ class View:
     taken, and nobody may write to the files meanwhile."""
 
     def __init__(self, database, wal=b"", journal=b"", *, wait=5.0, lock=True):
-        self._is_part, self._commits = False, None
+        self._is_part, self._commits, self._at = False, None, None
         self._source = _source(database, wal, journal, 0, wait, lock)
         self._files, self._view = self._source.files, self._source.view
         if self._view is None:
@@ -451,6 +460,11 @@ class View:
         self._view = self._files = None
         if not self._is_part:
             self._source.close()
+
+    def _asked(self, large, pointer_maps):
+        """The flags and the frame of a call over the files of this view."""
+        flags = _flags(large, pointer_maps)
+        return (flags, 0) if self._at is None else (flags | AT, self._at)
 
     def _opened(self):
         """The struct of the view, and the files; within `with` of the source alone."""
@@ -484,37 +498,38 @@ class View:
         """The Report of a database that is well formed; otherwise Damaged. With pointer_maps one of auto-vacuum too,
         which otherwise is AutoVacuum; with large up to 2**40 bytes."""
         with self._source:
-            return _checked(self._opened()[1], _flags(large, pointer_maps))
+            return _checked(self._opened()[1], *self._asked(large, pointer_maps))
 
     def check_deep(self, *, large=False):
         """The DeepReport of a database that is well formed, and whose records, schema, indexes and rows are sound, but
         for the indexes and the tables in the rows `indexes` and `tables` of the schema, from 0, which aren't judged;
         otherwise Damaged. Pointer maps are judged, too."""
         with self._source:
-            return _deeply_checked(self._opened()[1], _flags(large, False))
+            return _deeply_checked(self._opened()[1], *self._asked(large, False))
 
     def roles(self, *, large=False, pointer_maps=False):
         """The Roles of the pages, page 1 first: the use of each, one of USES, and the page that goes with it, the root
         of its tree or the page whose payload it holds; and the fault that `check` finds, with its page, or None."""
         with self._source:
-            return _roles_of(self._opened()[1], _flags(large, pointer_maps))
+            return _roles_of(self._opened()[1], *self._asked(large, pointer_maps))
 
     def commits(self):
-        """The Commits of the write-ahead log, the first one first; none where there is no such log. They are looked for
-        once."""
+        """The Commits of the write-ahead log, the first one first; none where there is no such log. `known` says
+        whether `at` shows that database, or raises CommitOverwritten. They are looked for once."""
         with self._source as source:
             self._opened()
             if self._commits is None:
                 files = source.files
                 try:
-                    self._commits = tuple(_commits_of((files.wal, files.wal_len)))
+                    self._commits = tuple(_known_commits_of(files))
                 except (BadMagic, BadPageSize, BadSum, BadVersion):
                     self._commits = ()
             return self._commits
 
     def at(self, frame):
-        """The View of the same files with the write-ahead log up to a commit, by the frame that ends it; at 0 without
-        logs. It is closed with this one. NoSuchCommit where no commit ends there."""
+        """The View of the database as it was at a commit of the write-ahead log, by the frame that ends it; at 0 before
+        the first commit. It is closed with this one. NoSuchCommit where no commit ends there; CommitOverwritten where a
+        later checkpoint may have changed that database."""
         frame = operator.index(frame)
         view = View.__new__(View)
         view._source, view._is_part, view._view = self._source, True, None
@@ -526,8 +541,7 @@ class View:
             count = next((commit.pages for commit in commits if commit.frame == frame), 0)
             files = source.files
             view._open(_library.sqr_open_at, [files, frame], count)
-            length = 32 + frame * (24 + view.page_size) if frame else 0
-            view._files = _Files(files.db, files.db_len, files.wal, length, files.journal, 0)
+            view._files, view._at = files, frame
         return view
 
 
@@ -562,9 +576,9 @@ def recover(path, *, wait=5.0, lock=True):
 
 
 def recover_to(path, out, *, at=None, wait=5.0, lock=True):
-    """Makes `out`, a new file with what a recovery would leave, or with the commit that ends at the frame `at`; the
-    database is only read, beside any writer. `out` is whole and durable, or not there; AlreadyThere where something
-    is."""
+    """Makes `out`, a new file with what a recovery would leave, or with the database as it was at the commit that ends
+    at the frame `at`, or at 0 before the first; the database is only read, beside any writer. `out` is whole and
+    durable, or not there; AlreadyThere where something is."""
     frame = 0 if at is None else operator.index(at)
     if not 0 <= frame < 2**32:
         raise NoSuchCommit(f"frame {frame}")

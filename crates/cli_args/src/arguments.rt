@@ -79,7 +79,7 @@ pub(crate) fn at_arg<'a>(alloc: Global) -> Arg<'a> {
         alloc,
         "at",
         "M",
-        "Use the database as of commit frame M; 0: without the log",
+        "Use the database as of commit frame M; 0: before the first one",
     )
     .value_parser(value_parser!(u32))
 }
@@ -246,7 +246,7 @@ pub(crate) fn from_arg<'a>(alloc: Global) -> Arg<'a> {
         alloc,
         "from",
         "M",
-        "Compare from commit frame M; default: 0, FILE without its log",
+        "Compare from commit frame M; default: 0, before the first commit",
     )
     .value_parser(value_parser!(u32))
 }

@@ -1,5 +1,5 @@
 -- The deleted cells of the files that are asked for.
-use Rattle.std.proofs.Common.{◌≡◌, ◌≢◌, ◌⊎◌, ℕ, Bool, true, false, List, [], ◌∷◌, Option, Some, None, Result, Ok, Err, OnOk, length, inl, inr, ⊎_elim, refl, sym, ap, subst, arith}
+use Rattle.std.proofs.Common.{◌≡◌, ◌≢◌, ◌⊎◌, ℕ, Bool, true, false, List, [], ◌∷◌, Option, Result, Ok, Err, OnOk, length, inl, inr, ⊎_elim, refl, sym, ap, subst, arith}
 use Rattle.std.specs.Prelude.{IfErr, MatchResult}
 use Rattle.sqval.specs.Bytes.{word}
 use Rattle.sqval.specs.Database.{Database}
@@ -12,7 +12,9 @@ use Rattle.sqview.specs.LogView.{IsLogged}
 use Rattle.sqview.specs.Origins.{AreFramePlaces}
 use Rattle.sqview.specs.declared.view.View.{View}
 use Rattle.cli_words.specs.declared.requests.Style.{Style}
-use Rattle.cli_show.specs.Views.{AskedAnswer, ReadsLog}
+use Rattle.cli_words.specs.declared.requests.Commit.{Commit}
+use Rattle.cli_words.specs.declared.requests.Commit.TheVariants.{Last, Front, At}
+use Rattle.cli_show.specs.Views.{IsAskedView, ReadsLog}
 use Rattle.cli_show_frames.specs.Frames.{AreFramesPrinted, IsFramed}
 use Rattle.cli_dump.specs.Deleted.{AreCellsPrinted}
 use Rattle.cli_dump.proofs.PlacesShown.{framed_asked}
@@ -31,21 +33,24 @@ empty_by (x ∷ l) none = absurd (none (λ e. cc))
 abbrev pub IsLogOf : (wal journal log : List ℕ) → Type 0
 IsLogOf wal journal log = (log ≡ wal) ⊎ (IsHot journal × (log ≡ journal) × (wal ≡ []))
 
-pub log_asked : {F : Type 0} (limits : Bounds) (bytes : F → List ℕ) (at : Option ℕ) (db wal journal : List ℕ) (v : View F) → AskedAnswer limits bytes at db wal journal (Ok v)
+pub log_asked : {F : Type 0} (limits : Bounds) (bytes : F → List ℕ) (at : Commit) (db wal journal : List ℕ) (v : View F) → IsAskedView limits bytes at db wal journal v
     → ReadsLog at wal journal (bytes v.log) → IsLogOf wal journal (bytes v.log)
-log_asked limits bytes None db wal journal v answer reads = ⊎_elim
+log_asked limits bytes Last db wal journal v answer reads = ⊎_elim
     (λ hot. inr (hot.0, reads.0 hot.0, empty_by wal (λ some. answer.one (hot.0, some))))
     (λ rest. ⊎_elim (λ logged. inl (reads.1 logged.1.cold)) (λ alone. inl (reads.1 alone.0.cold)) rest) answer.shows
-log_asked limits bytes (Some m) db wal journal v answer reads = inl reads
+log_asked limits bytes (Front m) db wal journal v answer reads = inl reads
+log_asked limits bytes (At m) db wal journal v answer reads = inl reads
 
 -- its places are those of its own frames
-pub framed_as : {F : Type 0} (limits : Bounds) (bytes : F → List ℕ) (at : Option ℕ) (db wal journal : List ℕ) (v : View F) → AskedAnswer limits bytes at db wal journal (Ok v)
+pub framed_as : {F : Type 0} (limits : Bounds) (bytes : F → List ℕ) (at : Commit) (db wal journal : List ℕ) (v : View F) → IsAskedView limits bytes at db wal journal v
     → ReadsLog at wal journal (bytes v.log) → IsFramed bytes v
-framed_as limits bytes None db wal journal v answer reads one = ⊎_elim
+framed_as limits bytes Last db wal journal v answer reads one = ⊎_elim
     (λ (here : IsLogged wal journal v.front). subst (λ (l : List ℕ). AreFramePlaces v.page_size l v.front v.count v.places.items) (sym (reads.1 here.cold)) (answer.framed one))
     (λ none. absurd (omega (arith, one, none.0))) answer.stands
-framed_as limits bytes (Some m) db wal journal v answer reads one =
-    subst (λ (l : List ℕ). AreFramePlaces v.page_size l v.front v.count v.places.items) (sym reads) (framed_asked limits bytes (Some m) db wal journal v answer one)
+framed_as limits bytes (Front m) db wal journal v answer reads one =
+    subst (λ (l : List ℕ). AreFramePlaces v.page_size l v.front v.count v.places.items) (sym reads) (framed_asked limits bytes (Front m) db wal journal v answer one)
+framed_as limits bytes (At m) db wal journal v answer reads one =
+    subst (λ (l : List ℕ). AreFramePlaces v.page_size l v.front v.count v.places.items) (sym reads) (framed_asked limits bytes (At m) db wal journal v answer one)
 
 frames_as : (size front : ℕ) (d : Database) (style : Style) (before after : Option (List ℕ)) (wal journal log : List ℕ) → IsLogOf wal journal log
     → AreFramesPrinted size log front d style before after → AreFramesPrinted size wal front d style before after

@@ -1,5 +1,5 @@
 -- Where rows stand, of the files that are asked for.
-use Rattle.std.proofs.Common.{◌≡◌, ◌≤◌, ℕ, List, Option, Some, None, Result, Ok, Err, OnOk, length, sym, subst}
+use Rattle.std.proofs.Common.{◌≡◌, ◌≤◌, ℕ, List, Option, Result, Ok, Err, OnOk, length, sym, subst}
 use Rattle.std.specs.Prelude.{IfErr, MatchResult}
 use Rattle.sqval.specs.Database.{Database}
 use Rattle.sqval.specs.Limits.{Bounds}
@@ -7,20 +7,25 @@ use Rattle.sqview.specs.LogView.{pages_of}
 use Rattle.sqview.specs.Origins.{AreFramePlaces}
 use Rattle.sqview.specs.declared.view.View.{View}
 use Rattle.sqview.proofs.openings.PagesOfView.{length_laid}
-use Rattle.cli_show.specs.Views.{AskedAnswer, AskedShows}
+use Rattle.cli_words.specs.declared.requests.Commit.{Commit}
+use Rattle.cli_words.specs.declared.requests.Commit.TheVariants.{Last, Front, At}
+use Rattle.cli_show.specs.Views.{IsAskedView}
 use Rattle.cli_show_places.specs.Frames.{AreFrames, ArePlacesFramed, IsFramed}
 use Rattle.cli_dump.specs.Places.{AskedStands}
 
 -- the frame at which the view stands that is asked for, and its frames
-pub stands_asked : {F : Type 0} (limits : Bounds) (bytes : F → List ℕ) (at : Option ℕ) (db wal journal : List ℕ) (v : View F)
-    → AskedAnswer limits bytes at db wal journal (Ok v) → AskedStands at wal journal v.front
-stands_asked limits bytes None db wal journal v shown = shown.stands
-stands_asked limits bytes (Some m) db wal journal v shown = shown.stands
+pub stands_asked : {F : Type 0} (limits : Bounds) (bytes : F → List ℕ) (at : Commit) (db wal journal : List ℕ) (v : View F)
+    → IsAskedView limits bytes at db wal journal v → AskedStands at wal journal v.front
+stands_asked limits bytes Last db wal journal v shown = shown.stands
+stands_asked limits bytes (Front m) db wal journal v shown = shown.stands
+stands_asked limits bytes (At m) db wal journal v shown = shown.stands
 
-pub framed_asked : {F : Type 0} (limits : Bounds) (bytes : F → List ℕ) (at : Option ℕ) (db wal journal : List ℕ) (v : View F)
-    → AskedAnswer limits bytes at db wal journal (Ok v) → IsFramed wal v
-framed_asked limits bytes None db wal journal v shown = shown.framed
-framed_asked limits bytes (Some m) db wal journal v shown =
+pub framed_asked : {F : Type 0} (limits : Bounds) (bytes : F → List ℕ) (at : Commit) (db wal journal : List ℕ) (v : View F)
+    → IsAskedView limits bytes at db wal journal v → IsFramed wal v
+framed_asked limits bytes Last db wal journal v shown = shown.framed
+framed_asked limits bytes (Front m) db wal journal v shown =
+    subst (λ (n : ℕ). 1 ≤ n → AreFramePlaces v.page_size wal n v.count v.places.items) (sym shown.stands) shown.framed
+framed_asked limits bytes (At m) db wal journal v shown =
     subst (λ (n : ℕ). 1 ≤ n → AreFramePlaces v.page_size wal n v.count v.places.items) (sym shown.stands) shown.framed
 
 -- the frames of the pages that a view has

@@ -4,6 +4,8 @@ use Rattle.sqval.specs.Database.{Database}
 use Rattle.cli_words.specs.Line.{GiveTexts}
 use Rattle.cli_words.specs.declared.requests.ChangeForm.{ChangeForm as AskedForm}
 use Rattle.cli_words.specs.declared.requests.ChangeForm.TheVariants as asked
+use Rattle.cli_words.specs.Commits.{commit_of}
+use Rattle.cli_words.specs.declared.requests.Commit.TheVariants.{At}
 use Rattle.cli_words.specs.declared.requests.Compared.{Compared}
 use Rattle.cli_words.specs.declared.requests.Options.{Options}
 use Rattle.cli_facts.specs.declared.outcome.Refusal.{Refusal}
@@ -25,13 +27,13 @@ abbrev pub AreNamed : Compared → (names : List (List ℕ)) → Type 0
 AreNamed compared names = GiveTexts (codes "--table") (map (λ w. w.now) compared.tables.options.now) (length compared.tables.options.now) names
 
 -- They were those between the databases at both commits, to their end or up to the stop that is told.
-abbrev pub AreChangesShown : Compared → (from to : Contents (List ℕ)) → (before after : Option (List ℕ)) → Result (Unit {0}) Stop → Type 0
-AreChangesShown compared from to before after ended =
-    (names : List (List ℕ)) × AreNamed compared names × ((old_size new_size : ℕ) × (d e : Database) × AskedShows (Some compared.from) old_size from.db from.wal from.journal d
-    × AskedShows compared.to new_size to.db to.wal to.journal e
+abbrev pub AreChangesShown : Options → Compared → (from to : Contents (List ℕ)) → (before after : Option (List ℕ)) → Result (Unit {0}) Stop → Type 0
+AreChangesShown options compared from to before after ended =
+    (names : List (List ℕ)) × AreNamed compared names × ((old_size new_size : ℕ) × (d e : Database) × AskedShows (At compared.from) old_size from.db from.wal from.journal d
+    × AskedShows (commit_of compared.to options.front) new_size to.db to.wal to.journal e
     × MatchResult ended (λ _. AreChangesPrinted d e names (change_form_named compared.form) before after) (λ stop. AreChangesStopped d e names (change_form_named compared.form) stop before after))
 
--- the options with another commit
+-- the options with another commit that is asked for, or none
 abbrev pub at_commit : Options → Option ℕ → Options
 at_commit options frame = record options { at = frame }
 

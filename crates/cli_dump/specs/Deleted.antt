@@ -1,6 +1,7 @@
 -- What is shown of the deleted rows of a database.
 use Rattle.std.specs.Prelude.{ℕ, Bool, true, false, List, Option, Result, MatchResult}
 use Rattle.sqval.specs.Database.{Database}
+use Rattle.cli_words.specs.Commits.{commit_named}
 use Rattle.cli_words.specs.declared.requests.Options.{Options}
 use Rattle.cli_words.specs.declared.requests.Style.{Style}
 use Rattle.cli_show.specs.Views.{AskedShows}
@@ -23,6 +24,6 @@ AreCellsStopped true size d style stop before after = AreAllStopped size d style
 -- Those of the database that is asked for were printed, to their end or up to the stop that is told.
 abbrev pub AreDeletedShown : Options → (all : Bool) → (db wal journal : List ℕ) → (before after : Option (List ℕ)) → Result (Unit {0}) Stop → Type 0
 AreDeletedShown options all db wal journal before after ended =
-    (size : ℕ) × (m : ℕ) × (d : Database) × AskedShows options.at size db wal journal d × AskedStands options.at wal journal m
+    (size : ℕ) × (m : ℕ) × (d : Database) × AskedShows (commit_named options) size db wal journal d × AskedStands (commit_named options) wal journal m
     × MatchResult ended (λ _. AreCellsPrinted all size wal m d options.style before after)
     (λ stop. AreCellsStopped all size d options.style stop before after)

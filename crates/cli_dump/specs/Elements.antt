@@ -5,7 +5,8 @@ use Rattle.std.specs.List.{flat_map}
 use Rattle.std.specs.declared.io.ErrorKind.{ErrorKind}
 use Rattle.std.specs.declared.io.ErrorKind.TheVariants.{OutOfMemory}
 use Rattle.sqpage.specs.Faults.{number_of, name_of}
-use Rattle.sqview.specs.declared.view_error.ViewError.{ViewError}
+use Rattle.sqpast.specs.declared.past_error.PastError.{PastError}
+use Rattle.sqpast.specs.declared.past_error.PastError.TheVariants.{Refused, CommitOverwritten}
 use Rattle.sqview.specs.declared.view_error.ViewError.TheVariants as views
 use Rattle.cli_show_rows.specs.declared.stop.Stop.{Stop}
 use Rattle.cli_show_rows.specs.declared.stop.Stop.TheVariants as stops
@@ -25,13 +26,14 @@ abbrev pub escaped : List ℕ → List ℕ
 escaped text = flat_map escaped_byte text
 
 -- a word for why there is no view of a commit
-abbrev pub view_word : ViewError → List ℕ
-view_word views.TwoLogs = codes "two logs"
-view_word views.TooLarge = codes "too large"
-view_word (views.Header fault) = codes "not a database"
-view_word views.Unread = codes "file failed"
-view_word views.NoMemory = codes "no memory"
-view_word views.NoSuchCommit = codes "no such commit"
+abbrev pub view_word : PastError → List ℕ
+view_word (Refused views.TwoLogs) = codes "two logs"
+view_word (Refused views.TooLarge) = codes "too large"
+view_word (Refused (views.Header fault)) = codes "not a database"
+view_word (Refused views.Unread) = codes "file failed"
+view_word (Refused views.NoMemory) = codes "no memory"
+view_word (Refused views.NoSuchCommit) = codes "no such commit"
+view_word CommitOverwritten = codes "commit overwritten"
 
 -- one for why a text of at most so many bytes isn't written
 abbrev pub write_word : ErrorKind → List ℕ
@@ -66,7 +68,13 @@ ended_text (Full frame) =
     object_text Json (number_text Json (codes "frame") frame ∷ word_text Json (codes "left out") (codes "more than a page holds") ∷ [])
 ended_text (Stopped frame error) = object_text Json (number_text Json (codes "frame") frame ∷ why_parts error)
 
+-- one for the commits before the one behind which changes are kept, if there are
+abbrev pub begun_text : (from : ℕ) → List ℕ
+begun_text from =
+    if from == 0 then [] else object_text Json (number_text Json (codes "from") from ∷ word_text Json (codes "left out") (codes "commit overwritten") ∷ [])
+
 -- what is kept, as an element of a page
 abbrev pub element_text : Kept → List ℕ
 element_text kept =
-    codes "<script id='changes' type='text/plain'>\n" ++ (escaped kept.text.items ++ (ended_text kept.ended ++ codes "</script>\n"))
+    codes "<script id='changes' type='text/plain'>\n"
+    ++ (begun_text kept.from ++ (escaped kept.text.items ++ (ended_text kept.ended ++ codes "</script>\n")))

@@ -2,6 +2,7 @@
 use Rattle.std.specs.Prelude.{◌≡◌, ◌⊎◌, ℕ, List, length, Option, Some, None, Result, MatchResult}
 use Rattle.std.specs.Borrow.{Bor}
 use Rattle.sqval.specs.Database.{Database}
+use Rattle.cli_words.specs.Commits.{commit_named}
 use Rattle.cli_words.specs.declared.requests.Options.{Options}
 use Rattle.cli_words.specs.declared.requests.RowForm.{RowForm}
 use Rattle.cli_words.specs.declared.requests.RowForm.TheVariants as asked
@@ -33,5 +34,5 @@ AreStopped d (Some name) notation stop before after = ((length d ≡ 0) × (stop
 -- They were of the database that is asked for, to their end or up to the stop that is told.
 abbrev pub AreRowsShown : Options → Wanted → (db wal journal : List ℕ) → (before after : Option (List ℕ)) → Result (Unit {0}) Stop → Type 0
 AreRowsShown options wanted db wal journal before after ended =
-    (size : ℕ) × (d : Database) × AskedShows options.at size db wal journal d
+    (size : ℕ) × (d : Database) × AskedShows (commit_named options) size db wal journal d
     × MatchResult ended (λ _. ArePrinted d wanted.table (notation_named wanted.form) before after) (λ stop. AreStopped d wanted.table (notation_named wanted.form) stop before after)

@@ -1,5 +1,6 @@
 //! The changes of rows between two commits of a log.
 ghost use Rattle.std.specs.Prelude.{◌≡◌, IfErr, IfOk, OnOk};
+ghost use Rattle.cli_words.specs.Commits.{commit_of};
 ghost use Rattle.cli_show.specs.Contents.{AreGiven, contents_of};
 ghost use Rattle.cli_show.specs.Fronts.{IsAskedFront};
 ghost use Rattle.cli_show_diff.specs.Changes.{AreChangesPrinted, AreChangesStopped, texts_of};
@@ -10,7 +11,7 @@ use cli_facts::{Front, Refusal};
 use cli_show::{Contents, limits_of, view_of};
 use cli_show_diff::{ChangeForm, Selected, print_changes};
 use cli_show_rows::Stop;
-use cli_words::{ChangeForm as AskedForm, Compared, Options};
+use cli_words::{ChangeForm as AskedForm, Commit, Compared, Options};
 use sqpage::PageSource;
 use sqview::FileBytes;
 use std::alloc::Global;
@@ -25,6 +26,13 @@ fn change_form_of(form: AskedForm) -> ChangeForm
         AskedForm::Json => ChangeForm::Json(None),
         AskedForm::Sql => ChangeForm::Sql,
     }
+}
+
+/// The commit up to which is told: the one that is asked for, otherwise the front by the index or the last one.
+pub(crate) fn to_commit(options: Options, to: Option<u32>) -> Commit
+    ensures { result ≡ commit_of to options.front }
+{
+    Options { at: to, ..options }.commit()
 }
 
 /// Prints the changes between two databases.
@@ -58,10 +66,10 @@ fn show_named<F: FileBytes + Drop, W: Write>(
     out: &mut W,
 ) -> Result<Printed, Refusal>
     ensures front { AreGiven F.gives_bytes from → AreGiven F.gives_bytes to → IfOk result (λ printed.
-        IsAskedFront of.entry.0.to (F.bytes to.wal) (F.bytes to.journal) printed.front) }
+        IsAskedFront (commit_of of.entry.0.to options.front) (F.bytes to.wal) (F.bytes to.journal) printed.front) }
     ensures shown { AreGiven F.gives_bytes from → AreGiven F.gives_bytes to
         → AreNamed of.entry.0 (texts_of of.entry.1.now) → IfOk result (λ printed. AreChangesShown
-        of.entry.0 (contents_of F.bytes from) (contents_of F.bytes to) (W.contents out.old) (W.contents out.new)
+        options of.entry.0 (contents_of F.bytes from) (contents_of F.bytes to) (W.contents out.old) (W.contents out.new)
         printed.ended) }
     ensures refused { AreGiven F.gives_bytes from → AreGiven F.gives_bytes to → IfErr result (IsUncompared options
         of.entry.0 (contents_of F.bytes from) (contents_of F.bytes to)) }
@@ -69,12 +77,13 @@ fn show_named<F: FileBytes + Drop, W: Write>(
     let (compared, names) = of;
     let Contents { db, wal, journal } = from;
     let limits = limits_of(options);
-    let mut old = match view_of(alloc, limits, db, wal, journal, Some(compared.from)) {
+    let mut old = match view_of(alloc, limits, db, wal, journal, Commit::At(compared.from)) {
         Ok(view) => view,
         Err(error) => return Err(Refusal::from(error)),
     };
     let Contents { db, wal, journal } = to;
-    match view_of(alloc, limits, db, wal, journal, compared.to) {
+    let at = to_commit(options, compared.to);
+    match view_of(alloc, limits, db, wal, journal, at) {
         Ok(mut new) => {
             let front = Front::of_view(&new);
             let ended = print_between(alloc, &mut old, &mut new, names, compared.form, out);
@@ -95,10 +104,10 @@ pub fn show_changes<F: FileBytes + Drop, W: Write>(
     out: &mut W,
 ) -> Result<Printed, Refusal>
     ensures front { AreGiven F.gives_bytes from → AreGiven F.gives_bytes to → IfOk result (λ printed.
-        IsAskedFront compared.entry.to (F.bytes to.wal) (F.bytes to.journal) printed.front) }
+        IsAskedFront (commit_of compared.entry.to options.front) (F.bytes to.wal) (F.bytes to.journal) printed.front) }
     ensures shown { AreGiven F.gives_bytes from → AreGiven F.gives_bytes to → IfOk result (λ printed. AreChangesShown
-        compared.entry (contents_of F.bytes from) (contents_of F.bytes to) (W.contents out.old) (W.contents out.new)
-        printed.ended) }
+        options compared.entry (contents_of F.bytes from) (contents_of F.bytes to) (W.contents out.old)
+        (W.contents out.new) printed.ended) }
     ensures refused { AreGiven F.gives_bytes from → AreGiven F.gives_bytes to → IfErr result (IsUncompared options
         compared.entry (contents_of F.bytes from) (contents_of F.bytes to)) }
 {

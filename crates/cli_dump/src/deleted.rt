@@ -1,6 +1,7 @@
 //! What still stands of deleted rows of a database as its log has it.
 ghost use Rattle.std.specs.Prelude.{IfErr, IfOk, OnOk};
 ghost use Rattle.sqview.specs.LogView.{pages_of};
+ghost use Rattle.cli_words.specs.Commits.{commit_named};
 ghost use Rattle.cli_show.specs.Contents.{AreGiven};
 ghost use Rattle.cli_show.specs.Fronts.{IsAskedFront};
 ghost use Rattle.cli_show.specs.Views.{IsUnasked};
@@ -53,7 +54,7 @@ pub fn show_deleted<F: FileBytes + Drop, W: Write>(
     out: &mut W,
 ) -> Result<Printed, Refusal>
     ensures front { AreGiven F.gives_bytes files → IfOk result (λ printed.
-        IsAskedFront options.at (F.bytes files.wal) (F.bytes files.journal) printed.front) }
+        IsAskedFront (commit_named options) (F.bytes files.wal) (F.bytes files.journal) printed.front) }
     ensures shown { AreGiven F.gives_bytes files → IfOk result (λ printed. AreDeletedShown options all
         (F.bytes files.db) (F.bytes files.wal) (F.bytes files.journal) (W.contents out.old) (W.contents out.new)
         printed.ended) }
@@ -61,7 +62,8 @@ pub fn show_deleted<F: FileBytes + Drop, W: Write>(
         (IsUnasked options (F.bytes files.db) (F.bytes files.wal) (F.bytes files.journal)) }
 {
     let Contents { db, wal, journal } = files;
-    match view_of(alloc, limits_of(options), db, wal, journal, options.at) {
+    let at = options.commit();
+    match view_of(alloc, limits_of(options), db, wal, journal, at) {
         Ok(view) => {
             let front = Front::of_view(&view);
             let ended = print_cells(alloc, view, options.style, all, out);

@@ -1,14 +1,16 @@
 //! Which cells of deleted rows went and came between two commits of a log.
 ghost use Rattle.std.specs.Prelude.{IfErr, IfOk};
+ghost use Rattle.cli_words.specs.Commits.{commit_of};
 ghost use Rattle.cli_show.specs.Contents.{AreGiven, contents_of};
 ghost use Rattle.cli_show.specs.Fronts.{IsAskedFront};
 ghost use Rattle.cli_dump.specs.DeletedChanges.{AreDeletedChangesShown, IsUnbetween};
 
+use crate::changes::to_commit;
 use crate::rows::Printed;
 use cli_facts::{Front, Refusal};
 use cli_show::{Contents, limits_of, view_of};
 use cli_show_deleted::print_deleted_changes;
-use cli_words::{Between, Options};
+use cli_words::{Between, Commit, Options};
 use sqview::FileBytes;
 use std::alloc::Global;
 use std::io::Write;
@@ -24,21 +26,22 @@ pub fn show_deleted_changes<F: FileBytes + Drop, W: Write>(
     out: &mut W,
 ) -> Result<Printed, Refusal>
     ensures front { AreGiven F.gives_bytes from → AreGiven F.gives_bytes to → IfOk result (λ printed.
-        IsAskedFront between.to (F.bytes to.wal) (F.bytes to.journal) printed.front) }
+        IsAskedFront (commit_of between.to options.front) (F.bytes to.wal) (F.bytes to.journal) printed.front) }
     ensures shown { AreGiven F.gives_bytes from → AreGiven F.gives_bytes to → IfOk result (λ printed.
-        AreDeletedChangesShown options.style between (contents_of F.bytes from) (contents_of F.bytes to)
+        AreDeletedChangesShown options between (contents_of F.bytes from) (contents_of F.bytes to)
         (W.contents out.old) (W.contents out.new) printed.ended) }
     ensures refused { AreGiven F.gives_bytes from → AreGiven F.gives_bytes to → IfErr result (IsUnbetween options
         between (contents_of F.bytes from) (contents_of F.bytes to)) }
 {
     let Contents { db, wal, journal } = from;
     let limits = limits_of(options);
-    let mut old = match view_of(alloc, limits, db, wal, journal, Some(between.from)) {
+    let mut old = match view_of(alloc, limits, db, wal, journal, Commit::At(between.from)) {
         Ok(view) => view,
         Err(error) => return Err(Refusal::from(error)),
     };
     let Contents { db, wal, journal } = to;
-    match view_of(alloc, limits, db, wal, journal, between.to) {
+    let at = to_commit(options, between.to);
+    match view_of(alloc, limits, db, wal, journal, at) {
         Ok(mut new) => {
             let front = Front::of_view(&new);
             let ended = print_deleted_changes(alloc, &mut old, &mut new, options.style, out);

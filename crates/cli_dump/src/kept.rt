@@ -2,18 +2,22 @@
 ghost use Rattle.std.specs.Prelude.{◌≡◌, IfErr, IfOk, IsOk, Some, []};
 ghost use Rattle.sqwal.specs.Took.{TookWithin};
 ghost use Rattle.sqjournal.specs.Journal.{IsHot};
+ghost use Rattle.cli_words.specs.Commits.{commit_named, last_of};
 ghost use Rattle.cli_show.specs.Limits.{limits_named};
 ghost use Rattle.cli_show.specs.Logs.{IsUnreadLog};
 ghost use Rattle.cli_show_diff.specs.Changes.{texts_of};
 ghost use Rattle.cli_history.specs.History.{AreGiven, bytes_of};
+ghost use Rattle.cli_history.specs.Ranges.{AreOverwritten};
 ghost use Rattle.cli_dump.specs.Kept.{AreCommitsKept, IsCommitUntold, IsHistoryKept, IsRangeKept, IsTextOfCommit};
 
-use crate::history::found_of;
+use crate::commits::{found_of, front_of};
 use cli_facts::Refusal;
-use cli_history::{CommitForm, Files, HistoryError, Told, commits_between, print_commits};
+use cli_history::{
+    CommitForm, Files, HistoryError, Told, commits_between, first_shown, print_commits,
+};
 use cli_show::{LogFound, limits_of};
 use cli_show_diff::Selected;
-use cli_words::Options;
+use cli_words::{Commit, Options};
 use sqval::Limits;
 use sqview::FileBytes;
 use sqwal::Scan;
@@ -34,6 +38,8 @@ pub enum Ended {
 /// What commits of a log changed.
 #[derive(Debug, Drop)]
 pub struct Kept {
+    /// The commit behind which they are, 0 for all: the databases before it are overwritten.
+    pub from: u32,
     /// What `diff --commits --json` prints of the first of them.
     pub text: Vec<u8>,
     pub ended: Ended,
@@ -71,10 +77,10 @@ fn commit_told<F: FileBytes + Copy + Drop>(
 ) -> Result<Vec<u8>, HistoryError>
     ensures ok { AreGiven F.gives_bytes files → TookWithin told.now.limits.frames (F.bytes files.wal) told.now.scan.now
         → ¬ IsHot (F.bytes files.journal) → IfOk result (λ text. IsTextOfCommit (bytes_of F.bytes files)
-        (texts_of told.now.selected.names.now) told.now.form step.0 step.1 text.items) }
+        told.now.front (texts_of told.now.selected.names.now) told.now.form step.0 step.1 text.items) }
     ensures err { AreGiven F.gives_bytes files → TookWithin told.now.limits.frames (F.bytes files.wal) told.now.scan.now
         → ¬ IsHot (F.bytes files.journal) → IfErr result (IsCommitUntold told.now.limits (bytes_of F.bytes files)
-        (texts_of told.now.selected.names.now) told.now.form step.0 step.1) }
+        told.now.front (texts_of told.now.selected.names.now) told.now.form step.0 step.1) }
 {
     let (before, frame) = step;
     let mut out = Bounded {
@@ -90,26 +96,30 @@ fn commit_told<F: FileBytes + Copy + Drop>(
     }
 }
 
-/// What the first of these commits changed, in at most so many bytes. None is told in part, and none behind one that
-/// isn't told.
+/// What the first of these commits changed, each against the one before it and the first of them against this one, in
+/// at most so many bytes. None is told in part, and none behind one that isn't told.
 fn kept_of<F: FileBytes + Copy + Drop>(
     alloc: Global,
     files: Files<F>,
     told: &Told<'_>,
+    from: u32,
     frames: &[u32],
     most: usize,
 ) -> Result<Kept, AllocError>
-    ensures { AreGiven F.gives_bytes files → TookWithin told.now.limits.frames (F.bytes files.wal) told.now.scan.now
-        → ¬ IsHot (F.bytes files.journal) → IfOk result (AreCommitsKept told.now.limits (bytes_of F.bytes files)
-        (texts_of told.now.selected.names.now) told.now.form most frames.entry.now) }
+    ensures kept { AreGiven F.gives_bytes files → TookWithin told.now.limits.frames (F.bytes files.wal)
+        told.now.scan.now → ¬ IsHot (F.bytes files.journal) → IfOk result (AreCommitsKept told.now.limits
+        (bytes_of F.bytes files) told.now.front (texts_of told.now.selected.names.now) told.now.form most
+        frames.entry.now) }
+    ensures from { IfOk result (λ kept. kept.from ≡ from) }
 {
     let mut text = Vec::new(alloc);
-    let mut before = 0;
+    let mut before = from;
     for frame in frames {
         let part = match commit_told(alloc, files, told, (before, *frame), most) {
             Ok(part) => part,
             Err(error) => {
                 return Ok(Kept {
+                    from,
                     text,
                     ended: Ended::Stopped(*frame, error),
                 });
@@ -118,6 +128,7 @@ fn kept_of<F: FileBytes + Copy + Drop>(
         let left = most - text.len();
         if part.len() > left {
             return Ok(Kept {
+                from,
                 text,
                 ended: Ended::Full(*frame),
             });
@@ -126,16 +137,35 @@ fn kept_of<F: FileBytes + Copy + Drop>(
         before = *frame;
     }
     Ok(Kept {
+        from,
         text,
         ended: Ended::Whole,
     })
 }
 
-/// What the commits of a log of this scan changed, up to the one that ends with a frame.
+/// The commit behind which changes are told, 0 for all: the first one at which it is known which database was there. 0
+/// too if that isn't found, so that the first commit is told with what refuses it.
+fn begin_of<F: FileBytes + Copy + Drop>(
+    alloc: Global,
+    limits: Limits,
+    files: Files<F>,
+    scan: &Scan,
+) -> u32
+    ensures { AreGiven F.gives_bytes files → TookWithin limits.frames (F.bytes files.wal) scan.now
+        → ¬ IsHot (F.bytes files.journal) → AreOverwritten limits (bytes_of F.bytes files) result }
+{
+    match first_shown(alloc, limits, files, scan) {
+        Ok(first) => first,
+        Err(_) => 0,
+    }
+}
+
+/// What the commits of a log of this scan changed, up to this one, and behind the first one at which it is known which
+/// database was there.
 fn kept_in<F: FileBytes + Copy + Drop>(
     alloc: Global,
     files: Files<F>,
-    of: (Limits, Option<u32>),
+    of: (Limits, Commit),
     selected: Selected<'_>,
     scan: &Scan,
     most: usize,
@@ -146,26 +176,29 @@ fn kept_in<F: FileBytes + Copy + Drop>(
     ensures refused { IfErr result (λ refusal. refusal ≡ Refusal.NoMemory) }
 {
     let (limits, to) = of;
-    let frames = match commits_between(alloc, scan, 0, to) {
+    let from = begin_of(alloc, limits, files, scan);
+    let frames = match commits_between(alloc, scan, from, to.last()) {
         Ok(frames) => frames,
         Err(_) => return Err(Refusal::NoMemory),
     };
     let told = Told {
         limits,
         scan,
+        front: front_of(to),
         selected,
         form: CommitForm::Json,
     };
-    match kept_of(alloc, files, &told, &frames, most) {
+    match kept_of(alloc, files, &told, from, &frames, most) {
         Ok(kept) => Ok(kept),
         Err(_) => Err(Refusal::NoMemory),
     }
 }
 
-/// What each commit of a database's log changed against the one before it, up to the commit `at`, in at most so many
-/// bytes of JSON: of the first commits, and why not of the next one. Of the tables of these names, or of each where
-/// there is none. No commit is told in part. Nothing where no write-ahead log counts. Refused as the log is. The files
-/// are read anew for each commit.
+/// What each commit of a database's log changed against the one before it, up to the commit that is asked for, in at
+/// most so many bytes of JSON: of the first commits, and why not of the next one. It begins behind the first one, 0
+/// among them, at which it is known which database was there. Of the tables of these names, or of each where there is
+/// none. No commit is told in part. Nothing where no write-ahead log counts. Refused as the log is. The files are read
+/// anew for each commit.
 pub fn keep_history<F: FileBytes + Copy + Drop>(
     alloc: Global,
     files: Files<F>,
@@ -174,13 +207,14 @@ pub fn keep_history<F: FileBytes + Copy + Drop>(
     most: usize,
 ) -> Result<Kept, Refusal>
     ensures kept { AreGiven F.gives_bytes files → IfOk result (IsHistoryKept (limits_named options.large)
-        (bytes_of F.bytes files) (texts_of names.entry.now) most options.at) }
+        (bytes_of F.bytes files) (texts_of names.entry.now) most (commit_named options)) }
     ensures refused { AreGiven F.gives_bytes files → IfErr result (IsUnreadLog
         (limits_named options.large) (F.bytes files.wal) (F.bytes files.journal)) }
-    // Without its log the database is shown whatever the logs are.
-    ensures without { options.at ≡ Some 0 → IsOk result }
+    // Before its first commit the database is shown whatever the logs are.
+    ensures without { last_of (commit_named options) ≡ Some 0 → IsOk result }
 {
-    if options.at == Some(0) {
+    let to = options.commit();
+    if to.last() == Some(0) {
         return Ok(none_kept(alloc));
     }
     let limits = limits_of(options);
@@ -193,9 +227,7 @@ pub fn keep_history<F: FileBytes + Copy + Drop>(
         needed: false,
     };
     match &found {
-        LogFound::Wal { scan, .. } => {
-            kept_in(alloc, files, (limits, options.at), selected, scan, most)
-        }
+        LogFound::Wal { scan, .. } => { kept_in(alloc, files, (limits, to), selected, scan, most) }
         LogFound::None => Ok(none_kept(alloc)),
         LogFound::Journal(_) => Ok(none_kept(alloc)),
     }
@@ -203,10 +235,12 @@ pub fn keep_history<F: FileBytes + Copy + Drop>(
 
 /// What no commit changed.
 fn none_kept(alloc: Global) -> Kept
+    ensures from { result.from ≡ 0 }
     ensures text { result.text.items ≡ [] }
     ensures ended { result.ended ≡ Ended.Whole }
 {
     Kept {
+        from: 0,
         text: Vec::new(alloc),
         ended: Ended::Whole,
     }

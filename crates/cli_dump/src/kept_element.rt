@@ -2,14 +2,15 @@
 ghost use Rattle.std.specs.Prelude.{◌≡◌, OnOk};
 ghost use Rattle.std.specs.Io.KnownBytes.{Appends};
 ghost use Rattle.std.specs.IoError.{error_kind};
-ghost use Rattle.cli_dump.specs.Elements.{element_text, ended_text, escaped, escaped_byte, stop_word, view_word};
-ghost use Rattle.cli_dump.specs.Elements.{write_word};
+ghost use Rattle.cli_dump.specs.Elements.{begun_text, element_text, ended_text, escaped, escaped_byte, stop_word};
+ghost use Rattle.cli_dump.specs.Elements.{view_word, write_word};
 
 use crate::kept::{Ended, Kept};
 use cli_history::HistoryError;
 use cli_show_rows::Stop;
 use cli_text::{Fact, number, write_facts};
 use cli_words::Style;
+use sqpast::PastError;
 use sqview::ViewError;
 use std::io::{self, ErrorKind, Write};
 
@@ -19,16 +20,31 @@ const LEFT_OUT: &str = "left out";
 /// That it has no room.
 const FULL: &str = "more than a page holds";
 
+/// That a later checkpoint may have changed its database.
+const OVERWRITTEN: &str = "commit overwritten";
+
 impl Kept {
     /// What is kept as an element of a page of HTML, in which no `<` of it stands. An error of the writer.
     pub fn write_element<W: Write>(&self, out: &mut W) -> io::Result<()>
         ensures { OnOk result (Appends (W.contents out.old) (W.contents out.new) (element_text self.now)) }
     {
         out.write_all(b"<script id='changes' type='text/plain'>\n")?;
+        write_begun(out, self.from)?;
         write_escaped(out, &self.text)?;
         write_ended(out, &self.ended)?;
         out.write_all(b"</script>\n")
     }
+}
+
+/// That the commits before this one are left out, if there are.
+fn write_begun<W: Write>(out: &mut W, from: u32) -> io::Result<()>
+    ensures { OnOk result (Appends (W.contents out.old) (W.contents out.new) (begun_text from)) }
+{
+    if from == 0 {
+        return Ok(());
+    }
+    let facts = [number("from", from), Fact::Text(LEFT_OUT, OVERWRITTEN)];
+    write_facts(out, Style::Json, &facts)
 }
 
 /// A text of JSON, in which `<` stands in strings alone, with none.
@@ -99,16 +115,17 @@ fn write_stopped<W: Write>(out: &mut W, frame: u32, error: &HistoryError) -> io:
 }
 
 /// A word for why there is no view of a commit.
-fn word_of_view(error: ViewError) -> &'static str
+fn word_of_view(error: PastError) -> &'static str
     ensures { result.now ≡ view_word error }
 {
     match error {
-        ViewError::TwoLogs => "two logs",
-        ViewError::TooLarge => "too large",
-        ViewError::Header(_) => "not a database",
-        ViewError::Unread => "file failed",
-        ViewError::NoMemory => "no memory",
-        ViewError::NoSuchCommit => "no such commit",
+        PastError::Refused(ViewError::TwoLogs) => "two logs",
+        PastError::Refused(ViewError::TooLarge) => "too large",
+        PastError::Refused(ViewError::Header(_)) => "not a database",
+        PastError::Refused(ViewError::Unread) => "file failed",
+        PastError::Refused(ViewError::NoMemory) => "no memory",
+        PastError::Refused(ViewError::NoSuchCommit) => "no such commit",
+        PastError::CommitOverwritten => OVERWRITTEN,
     }
 }
 

@@ -85,8 +85,11 @@ window.addEventListener('load', () => {
   if (!byCommit.size && !lefts.length) put(section, 'div', 'No commit changed a row.', 'dim');
   for (const left of lefts) {
     const why = (left.page ? 'page ' + left.page.number + ': fault ' + left.fault.number + ' ' : '') + left['left out'];
-    put(section, 'div', 'From commit frame ' + few(framed(left)) + ' on changes are left out here: ' + why
-      + '. See sqrescue diff FILE --commits.', 'left');
+    const words = left.from
+      ? 'Up to commit frame ' + few(Number(left.from.number)) + ' changes are left out: ' + why + '.'
+      : 'From commit frame ' + few(framed(left)) + ' on changes are left out here: ' + why
+      + '. See sqrescue diff FILE --commits.';
+    put(section, 'div', words, 'left');
   }
   const openAll = parent => {
     for (const made of parent.querySelectorAll(':scope > details')) {

@@ -2,9 +2,9 @@
 #![tactic(auto)]
 
 mod changes;
+mod commits;
 mod deleted;
 mod deleted_changes;
-mod history;
 mod kept;
 mod kept_element;
 mod kept_page;
@@ -13,9 +13,9 @@ mod rows;
 mod salvage;
 
 pub use changes::show_changes;
+pub use commits::show_history;
 pub use deleted::show_deleted;
 pub use deleted_changes::show_deleted_changes;
-pub use history::show_history;
 pub use kept::{Ended, Kept, keep_history};
 pub use kept_page::{CHANGES_HEAD, CHANGES_TAIL};
 pub use places::show_places;

@@ -1,5 +1,6 @@
 //! The rows of a database as its log has them.
 ghost use Rattle.std.specs.Prelude.{◌≡◌, IfErr, IfOk, None, OnOk, Some};
+ghost use Rattle.cli_words.specs.Commits.{commit_named};
 ghost use Rattle.cli_show.specs.Contents.{AreGiven};
 ghost use Rattle.cli_show.specs.Fronts.{IsAskedFront};
 ghost use Rattle.cli_dump.specs.Rows.{ArePrinted, AreRowsShown, AreStopped, notation_named};
@@ -107,7 +108,7 @@ pub fn show_rows<F: FileBytes + Drop, W: Write>(
     out: &mut W,
 ) -> Result<Printed, Refusal>
     ensures front { AreGiven F.gives_bytes files → IfOk result (λ printed.
-        IsAskedFront options.at (F.bytes files.wal) (F.bytes files.journal) printed.front) }
+        IsAskedFront (commit_named options) (F.bytes files.wal) (F.bytes files.journal) printed.front) }
     ensures shown { AreGiven F.gives_bytes files → IfOk result (λ printed. AreRowsShown options wanted.entry
         (F.bytes files.db) (F.bytes files.wal) (F.bytes files.journal) (W.contents out.old) (W.contents out.new)
         printed.ended) }
@@ -115,7 +116,8 @@ pub fn show_rows<F: FileBytes + Drop, W: Write>(
         (IsUnasked options (F.bytes files.db) (F.bytes files.wal) (F.bytes files.journal)) }
 {
     let Contents { db, wal, journal } = files;
-    match view_of(alloc, limits_of(options), db, wal, journal, options.at) {
+    let at = options.commit();
+    match view_of(alloc, limits_of(options), db, wal, journal, at) {
         Ok(mut view) => {
             let front = Front::of_view(&view);
             let ended = print_wanted(alloc, &mut view, wanted, out);

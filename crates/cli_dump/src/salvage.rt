@@ -1,5 +1,6 @@
 //! A database as its log has it, as a script.
 ghost use Rattle.std.specs.Prelude.{◌≡◌, IfErr, IfOk};
+ghost use Rattle.cli_words.specs.Commits.{commit_named};
 ghost use Rattle.cli_show.specs.Contents.{AreGiven};
 ghost use Rattle.cli_show.specs.Fronts.{IsAskedFront};
 ghost use Rattle.cli_show.specs.Views.{IsUnasked};
@@ -52,15 +53,16 @@ pub fn show_salvage<F: FileBytes + Drop, W: Write>(
     out: &mut W,
 ) -> Result<Salvaged, Refusal>
     ensures front { AreGiven F.gives_bytes files → IfOk result (λ salvaged.
-        IsAskedFront options.at (F.bytes files.wal) (F.bytes files.journal) salvaged.front) }
-    ensures shown { AreGiven F.gives_bytes files → IfOk result (λ salvaged. IsSalvageShown options.at places
+        IsAskedFront (commit_named options) (F.bytes files.wal) (F.bytes files.journal) salvaged.front) }
+    ensures shown { AreGiven F.gives_bytes files → IfOk result (λ salvaged. IsSalvageShown (commit_named options) places
         (F.bytes files.db) (F.bytes files.wal) (F.bytes files.journal) (W.contents out.old) (W.contents out.new)
         salvaged.ended) }
     ensures refused { AreGiven F.gives_bytes files → IfErr result
         (IsUnasked options (F.bytes files.db) (F.bytes files.wal) (F.bytes files.journal)) }
 {
     let Contents { db, wal, journal } = files;
-    match view_of(alloc, limits_of(options), db, wal, journal, options.at) {
+    let at = options.commit();
+    match view_of(alloc, limits_of(options), db, wal, journal, at) {
         Ok(mut view) => {
             let front = Front::of_view(&view);
             let ended = write_script(alloc, &mut view, places, out);

@@ -1,11 +1,12 @@
 //! What a recovery did, or why a command was refused.
 ghost use Rattle.std.specs.Prelude.{◌≡◌};
 ghost use Rattle.std.specs.IoError.{error_kind};
-ghost use Rattle.cli_facts.specs.Refusals.{refusal_of};
+ghost use Rattle.cli_facts.specs.Refusals.{refusal_of, refusal_of_past};
 ghost use Rattle.cli_facts.specs.internal.Refusals.{refusal_of_judge, refusal_of_kind};
 ghost use Rattle.cli_facts.specs.declared.outcome.Refusal.TheVariants.{FileFailed, NoMemory};
 
 use sqpage::SourceError;
+use sqpast::PastError;
 use sqview::{JudgeError, ViewError};
 use std::alloc::AllocError;
 use std::{fmt, io};
@@ -79,6 +80,9 @@ pub enum Refusal {
     /// The log has no such commit.
     #[error("no such commit")]
     NoSuchCommit,
+    /// A later checkpoint may have changed the database of the commit that is asked for.
+    #[error("commit overwritten")]
+    CommitOverwritten,
     /// No memory.
     #[error("no memory")]
     NoMemory,
@@ -122,6 +126,17 @@ impl From<ViewError> for Refusal {
             ViewError::Unread => Refusal::FileFailed,
             ViewError::NoMemory => Refusal::NoMemory,
             ViewError::NoSuchCommit => Refusal::NoSuchCommit,
+        }
+    }
+}
+
+impl From<PastError> for Refusal {
+    ghost from_gives = { λ error refusal. refusal ≡ refusal_of_past error };
+
+    fn from(error: PastError) -> Refusal {
+        match error {
+            PastError::Refused(error) => Refusal::from(error),
+            PastError::CommitOverwritten => Refusal::CommitOverwritten,
         }
     }
 }

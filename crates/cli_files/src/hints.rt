@@ -82,14 +82,14 @@ pub(crate) struct Logs {
     pub is_hot: bool,
     /// Whether the journal names a super-journal that is gone.
     pub is_out_of_force: bool,
-    /// Whether the file is asked for without them.
+    /// Whether the file alone is the database: none of the log's frames counts by its index, or FILE alone is read.
     pub is_left_out: bool,
 }
 
 /// What a journal is taken for, and why.
 fn journal_word(logs: Logs) -> &'static str {
     if logs.is_hot && logs.is_left_out {
-        "is left out by --at 0"
+        "is left out: FILE alone is the database"
     } else if logs.is_hot {
         "counts: it is hot"
     } else if logs.is_out_of_force {
@@ -106,7 +106,7 @@ fn wal_word(logs: Logs) -> &'static str {
     if logs.wal == 0 {
         "doesn't count: there is none, or it is empty"
     } else if logs.is_left_out {
-        "is left out by --at 0"
+        "is left out: FILE alone is the database"
     } else {
         "counts: it isn't empty"
     }

@@ -5,26 +5,26 @@ use Rattle.cli_history.specs.declared.commits.CommitForm.{CommitForm}
 use Rattle.cli_history.specs.declared.files.Files.{Files}
 use Rattle.cli_history.specs.History.{AreCommitsPrinted, IsCommitPrinted, last_of}
 
-module _ (files : Files (List ℕ)) (names : List (List ℕ)) (form : CommitForm) where
+module _ (files : Files (List ℕ)) (front : Option ℕ) (names : List (List ℕ)) (form : CommitForm) where
   -- one more
   commits_snoc : (from : ℕ) (frames : List ℕ) (frame : ℕ) (old mid new : Option (List ℕ))
-      → AreCommitsPrinted files names form from frames old mid → IsCommitPrinted files names form (last_of from frames) frame mid new
-      → AreCommitsPrinted files names form from (frames ++ frame ∷ []) old new
+      → AreCommitsPrinted files front names form from frames old mid → IsCommitPrinted files front names form (last_of from frames) frame mid new
+      → AreCommitsPrinted files front names form from (frames ++ frame ∷ []) old new
   commits_snoc from [] frame old mid new are is =
-      (new, subst (λ (b : Option (List ℕ)). IsCommitPrinted files names form from frame b new) (sym are) is, refl)
+      (new, subst (λ (b : Option (List ℕ)). IsCommitPrinted files front names form from frame b new) (sym are) is, refl)
   commits_snoc from (x ∷ frames) frame old mid new are is = (are.0, are.1, commits_snoc x frames frame are.0 mid new are.2 is)
 
   -- the same of the first ones of a list
   pub commits_more : (from : ℕ) (frames : List ℕ) (i : ℕ) (before : ℕ) (frame : ℕ) (old mid new : Option (List ℕ)) → i < length frames
       → before ≡ last_of from (take i frames) → frame ≡ get_or frames i 0
-      → AreCommitsPrinted files names form from (take i frames) old mid → IsCommitPrinted files names form before frame mid new
-      → AreCommitsPrinted files names form from (take (i + 1) frames) old new
+      → AreCommitsPrinted files front names form from (take i frames) old mid → IsCommitPrinted files front names form before frame mid new
+      → AreCommitsPrinted files front names form from (take (i + 1) frames) old new
   commits_more from frames i before frame old mid new within was at are is =
       let more : take (i + 1) frames ≡ take i frames ++ get_or frames i 0 ∷ [] = ap (λ n. take n frames) (add-one i) ∙ take-suc frames i 0 within in
-      let here : IsCommitPrinted files names form (last_of from (take i frames)) (get_or frames i 0) mid new =
-      subst (λ (n : ℕ). IsCommitPrinted files names form n (get_or frames i 0) mid new) was
-      (subst (λ (n : ℕ). IsCommitPrinted files names form before n mid new) at is) in
-      subst (λ (fs : List ℕ). AreCommitsPrinted files names form from fs old new) (sym more)
+      let here : IsCommitPrinted files front names form (last_of from (take i frames)) (get_or frames i 0) mid new =
+      subst (λ (n : ℕ). IsCommitPrinted files front names form n (get_or frames i 0) mid new) was
+      (subst (λ (n : ℕ). IsCommitPrinted files front names form before n mid new) at is) in
+      subst (λ (fs : List ℕ). AreCommitsPrinted files front names form from fs old new) (sym more)
       (commits_snoc from (take i frames) (get_or frames i 0) old mid new are here)
 
 -- the last one behind one more

@@ -1,3 +1,5 @@
 pub mod CommitsTaken
 pub mod CommitsBetween
 pub mod Answered
+pub mod KnownFirst
+pub mod ViewsShown

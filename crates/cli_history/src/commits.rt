@@ -33,6 +33,8 @@ pub struct Told<'a> {
     pub limits: Limits,
     /// The scan of the log.
     pub scan: &'a Scan,
+    /// The front of the log by its index, at which the file is shown with the frames up to it. None: no index is asked.
+    pub front: Option<u32>,
     pub selected: Selected<'a>,
     pub form: CommitForm,
 }
@@ -67,19 +69,19 @@ fn print_commit<F: FileBytes + Copy + Drop, W: Write>(
 ) -> Result<(), HistoryError>
     ensures ok { AreGiven F.gives_bytes files → TookWithin told.now.limits.frames (F.bytes files.wal)
         told.now.scan.now → ¬ IsHot (F.bytes files.journal) → OnOk result (IsCommitPrinted
-        (bytes_of F.bytes files) (texts_of told.now.selected.names.now) told.now.form step.0 step.1
+        (bytes_of F.bytes files) told.now.front (texts_of told.now.selected.names.now) told.now.form step.0 step.1
         (W.contents out.old) (W.contents out.new)) }
     ensures err { AreGiven F.gives_bytes files → TookWithin told.now.limits.frames (F.bytes files.wal)
         told.now.scan.now → ¬ IsHot (F.bytes files.journal) → IfErr result (λ error. IsCommitStopped
-        told.now.limits (bytes_of F.bytes files) (texts_of told.now.selected.names.now) told.now.form step.0 step.1
-        error (W.contents out.old) (W.contents out.new)) }
+        told.now.limits (bytes_of F.bytes files) told.now.front (texts_of told.now.selected.names.now) told.now.form
+        step.0 step.1 error (W.contents out.old) (W.contents out.new)) }
 {
     let (before, frame) = step;
-    let mut old = match view_at(alloc, told.limits, files, told.scan, before) {
+    let mut old = match view_at(alloc, told.limits, files, told.scan, told.front, before) {
         Ok(view) => view,
         Err(error) => return Err(HistoryError::View(error)),
     };
-    let mut new = match view_at(alloc, told.limits, files, told.scan, frame) {
+    let mut new = match view_at(alloc, told.limits, files, told.scan, told.front, frame) {
         Ok(view) => view,
         Err(error) => return Err(HistoryError::View(error)),
     };
@@ -95,8 +97,10 @@ fn print_commit<F: FileBytes + Copy + Drop, W: Write>(
 }
 
 /// Prints what each of the commits that end with these frames changed against the one before it, and the first of them
-/// against the commit that ends with the frame `from`, 0 for the database file without its log. Of tables that are
-/// named: of those that either of both databases has. Refused as a view at a commit is, and as `print_changes` is,
+/// against the commit that ends with the frame `from`, 0 for before the first one. Each database is the one that was
+/// there, whatever was copied into the file since; at the front by the log's index it is the file with the frames up to
+/// it. Of tables that are named: of those that either of both databases has. Refused by CommitOverwritten if a later
+/// checkpoint may have changed one that was there, otherwise as a view at a commit is, and as `print_changes` is,
 /// behind what stands before.
 pub fn print_commits<F: FileBytes + Copy + Drop, W: Write>(
     alloc: Global,
@@ -109,13 +113,13 @@ pub fn print_commits<F: FileBytes + Copy + Drop, W: Write>(
     // What is printed are the changes of these commits, each behind the one before it.
     ensures ok { AreGiven F.gives_bytes files → TookWithin told.now.limits.frames (F.bytes files.wal)
         told.now.scan.now → ¬ IsHot (F.bytes files.journal) → OnOk result (AreCommitsPrinted
-        (bytes_of F.bytes files) (texts_of told.now.selected.names.now) told.now.form from frames.entry.now
-        (W.contents out.old) (W.contents out.new)) }
+        (bytes_of F.bytes files) told.now.front (texts_of told.now.selected.names.now) told.now.form from
+        frames.entry.now (W.contents out.old) (W.contents out.new)) }
     // The first of them are, and this is why the next one isn't.
     ensures err { AreGiven F.gives_bytes files → TookWithin told.now.limits.frames (F.bytes files.wal)
         told.now.scan.now → ¬ IsHot (F.bytes files.journal) → IfErr result (λ error. AreCommitsStopped
-        told.now.limits (bytes_of F.bytes files) (texts_of told.now.selected.names.now) told.now.form from
-        frames.entry.now error (W.contents out.old) (W.contents out.new)) }
+        told.now.limits (bytes_of F.bytes files) told.now.front (texts_of told.now.selected.names.now) told.now.form
+        from frames.entry.now error (W.contents out.old) (W.contents out.new)) }
 {
     let mut before = from;
     for frame in frames {

@@ -1,6 +1,6 @@
 //! Why not all commits are printed (own).
 use cli_show_rows::Stop;
-use sqview::ViewError;
+use sqpast::PastError;
 use thiserror::Error;
 
 /// Why not all commits are printed. What stands before it is.
@@ -8,7 +8,7 @@ use thiserror::Error;
 pub enum HistoryError {
     /// There is no view at the next commit, or at the one before it.
     #[error("{0}")]
-    View(ViewError),
+    View(PastError),
     /// The changes of the next commit aren't printed to their end.
     #[error("{0}")]
     Stop(Stop),

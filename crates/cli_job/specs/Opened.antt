@@ -29,22 +29,22 @@ abbrev pub AreLogsOf : {F : Type 0} → Paths → Option SuperJournal → Beheld
 AreLogsOf paths said found wal journal = IsOpenedOf wal paths.wal 1 found.wal
     × (((said ≡ Some Gone) × IsMissing journal) ⊎ IsOpenedOf journal paths.journal 28 found.journal)
 
--- The database file and its logs were; at 0 none of the logs.
-abbrev pub AreAllOpened : {F : Type 0} → Paths → Option SuperJournal → (at : Option ℕ) → Beheld → Contents (OpenedFile F) → Type 0
-AreAllOpened paths said at found files = IsOpenedAt files.db paths.db (metadata_len found.db)
-    × (at ≡ Some 0 → IsMissing files.wal × IsMissing files.journal)
-    × (at ≢ Some 0 → AreLogsOf paths said found files.wal files.journal)
+-- The database file and its logs were; at front 0, where no frame counts, none of the logs.
+abbrev pub AreAllOpened : {F : Type 0} → Paths → Option SuperJournal → (front : Option ℕ) → Beheld → Contents (OpenedFile F) → Type 0
+AreAllOpened paths said front found files = IsOpenedAt files.db paths.db (metadata_len found.db)
+    × (front ≡ Some 0 → IsMissing files.wal × IsMissing files.journal)
+    × (front ≢ Some 0 → AreLogsOf paths said found files.wal files.journal)
 
 -- They were; or where the logs alone are wanted these were.
-abbrev pub AreWanted : {F : Type 0} → (only_logs : Bool) → Paths → Option SuperJournal → (at : Option ℕ) → Beheld → Contents (OpenedFile F) → Type 0
-AreWanted true paths said at found files = IsMissing files.db × AreLogsOf paths said found files.wal files.journal
-AreWanted false paths said at found files = AreAllOpened paths said at found files
+abbrev pub AreWanted : {F : Type 0} → (only_logs : Bool) → Paths → Option SuperJournal → (front : Option ℕ) → Beheld → Contents (OpenedFile F) → Type 0
+AreWanted true paths said front found files = IsMissing files.db × AreLogsOf paths said found files.wal files.journal
+AreWanted false paths said front found files = AreAllOpened paths said front found files
 
 -- The files that the system found at these paths, which are regular ones.
-pub record AreOpened {F : Type 0} (only_logs : Bool) (paths : Paths) (said : Option SuperJournal) (at : Option ℕ) (files : Contents (OpenedFile F)) : Type 0 where
+pub record AreOpened {F : Type 0} (only_logs : Bool) (paths : Paths) (said : Option SuperJournal) (front : Option ℕ) (files : Contents (OpenedFile F)) : Type 0 where
   pub found : Beheld
   pub regular : AreRegular found
-  pub wanted : AreWanted only_logs paths said at found files
+  pub wanted : AreWanted only_logs paths said front found files
 
 -- the file gives its bytes: it keeps its word and its length, and no read of it fails
 abbrev pub GivesBytes : {F : Type 0} → (bytes : F → List ℕ) → (keeps_word never_fails : F → Type 0) → OpenedFile F → Type 0
@@ -56,9 +56,9 @@ IsUnchosen bytes gives files refusal = ((error : ViewError) × (refusal ≡ refu
     × (gives files.wal → gives files.journal → (refusal ≡ TwoLogs) × AreTwoLogs (bytes files.wal) (bytes files.journal))
 
 -- Why no files are opened: an error of the system, or one of those that were which counts.
-abbrev pub IsUnopened : {F : Type 0} → (bytes : OpenedFile F → List ℕ) → (gives : OpenedFile F → Type 0) → Paths → Option SuperJournal → (at : Option ℕ) → Refusal → Type 0
-IsUnopened {F} bytes gives paths said at refusal = IsFromSystem refusal
-    ⊎ ((files : Contents (OpenedFile F)) × AreOpened false paths said at files × IsUnchosen bytes gives files refusal)
+abbrev pub IsUnopened : {F : Type 0} → (bytes : OpenedFile F → List ℕ) → (gives : OpenedFile F → Type 0) → Paths → Option SuperJournal → (front : Option ℕ) → Refusal → Type 0
+IsUnopened {F} bytes gives paths said front refusal = IsFromSystem refusal
+    ⊎ ((files : Contents (OpenedFile F)) × AreOpened false paths said front files × IsUnchosen bytes gives files refusal)
 
 -- an opened file that is read ahead, and of which it may be counted how much is read
 abbrev pub Counted : (F M : Type 0) → Type 0
@@ -77,11 +77,11 @@ AreFresh files = (files.db.file.held ≡ 0) × (files.wal.file.held ≡ 0) × (f
 
 -- the files of a source as they are opened for it
 abbrev pub AreOpenedFor : {F : Type 0} → (only_logs : Bool) → Source → Contents (OpenedFile F) → Type 0
-AreOpenedFor only_logs source files = AreOpened only_logs source.paths source.options.super_journal source.options.at files
+AreOpenedFor only_logs source files = AreOpened only_logs source.paths source.options.super_journal source.options.front files
 
 -- why they aren't
 abbrev pub IsUnopenedFor : {F : Type 0} → (bytes : OpenedFile F → List ℕ) → (gives : OpenedFile F → Type 0) → Source → Refusal → Type 0
-IsUnopenedFor bytes gives source refusal = IsUnopened bytes gives source.paths source.options.super_journal source.options.at refusal
+IsUnopenedFor bytes gives source refusal = IsUnopened bytes gives source.paths source.options.super_journal source.options.front refusal
 
 -- a command that reads the logs alone
 abbrev pub reads_logs : Command → Bool

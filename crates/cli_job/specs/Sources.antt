@@ -1,5 +1,7 @@
--- Which commit of a log is read, while locks keep its frames up to a front (own).
-use Rattle.std.specs.Prelude.{◌≡◌, ◌≤◌, ℕ, Option, Some, None, ◌⊎◌, Bool, true, false, List, IsSome}
+-- Up to which front a log is read, and how it is watched meanwhile (own).
+use Rattle.std.specs.Prelude.{◌≡◌, ◌≤◌, ℕ, Option, Some, None, ◌⊎◌, false, List, IsSome}
+use Rattle.cli_job.specs.declared.sources.Extent.{Extent}
+use Rattle.cli_job.specs.declared.sources.Extent.TheVariants.{One, Several, Log}
 use Rattle.cli_job.specs.declared.sources.Watch.{Watch}
 use Rattle.cli_job.specs.declared.sources.Watch.TheVariants.{Dated, Undated, Still, Indexed}
 use Rattle.std.specs.Borrow.{Bor}
@@ -20,12 +22,6 @@ use Rattle.cli_job.specs.declared.sources.Before.{Before}
 use Rattle.cli_job.specs.declared.sources.Before.TheVariants as readings
 use Rattle.cli_job.specs.declared.sources.Source.{Source}
 
--- the front where none is asked for, and else the one that is, which isn't behind it
-abbrev pub AtFront : (asked front at : Option ℕ) → Type 0
-AtFront None front at = at ≡ front
-AtFront (Some frame) None at = at ≡ Some frame
-AtFront (Some frame) (Some front) at = (at ≡ Some frame) × (frame ≤ front)
-
 -- the front of the log that is read under this watch: by an index that is watched the one that it named first, and none
 -- where files are watched by what they are
 abbrev pub IsFrontUnder : Watch → (front : Option ℕ) → Type 0
@@ -34,31 +30,40 @@ IsFrontUnder Undated front = front ≡ None
 IsFrontUnder Still front = Unit {0}
 IsFrontUnder (Indexed head) front = front ≡ Some head.frames
 
-pub record IsReadAt (asked : Option ℕ) (watch : Watch) (at : Option ℕ) : Type 0 where
-  pub front : Option ℕ
-  pub under : IsFrontUnder watch front
-  pub at_front : AtFront asked front at
+-- the commit that is asked for isn't behind the front, where both are known
+abbrev pub IsWithin : (asked front : Option ℕ) → Type 0
+IsWithin None front = Unit {0}
+IsWithin (Some m) None = Unit {0}
+IsWithin (Some m) (Some front) = m ≤ front
 
--- the file alone is read, or the commit that was asked for
-abbrev pub AtFile : (asked at : Option ℕ) → Type 0
-AtFile None at = at ≡ Some 0
-AtFile (Some frame) at = at ≡ Some frame
+-- all of a log is read to its end; otherwise one to the front under this watch, and the commit that is asked for is within
+abbrev pub IsReadTo : Extent → (asked : Option ℕ) → Watch → (front : Option ℕ) → Type 0
+IsReadTo Log asked watch front = front ≡ None
+IsReadTo One asked watch front = IsFrontUnder watch front × IsWithin asked front
+IsReadTo Several asked watch front = IsFrontUnder watch front × IsWithin asked front
 
--- the files of a reading, as they are read: with these options, but for the commit
-pub record IsSourceOf (file : Bor (List ℕ)) (options : Options) (only_log : Bool) (source : Source) : Type 0 where
+-- By its index a log is watched only where the last commit alone is read: a checkpoint may copy the commits up to the front
+-- into the database file meanwhile, from which an earlier one is read.
+abbrev pub IsWatchFor : Extent → (asked : Option ℕ) → Watch → Type 0
+IsWatchFor extent asked Dated = Unit {0}
+IsWatchFor extent asked Undated = Unit {0}
+IsWatchFor extent asked Still = Unit {0}
+IsWatchFor extent asked (Indexed head) = (extent ≡ One) × (asked ≡ None)
+
+-- the files of a reading, as they are read: with these options, but for the front
+pub record IsSourceOf (file : Bor (List ℕ)) (options : Options) (extent : Extent) (source : Source) : Type 0 where
   pub named : source.file.now ≡ file.now
   pub unlinked : source.paths.is_link ≡ false → path_of source.paths.db ≡ file.now
   pub beside : AreBeside source.paths
-  pub as_asked : source.options ≡ record options { at = source.options.at }
-  pub at : only_log ≡ false → IsReadAt options.at source.watch source.options.at
-  pub of_log : only_log ≡ true → source.options.at ≡ options.at
+  pub as_asked : source.options ≡ record options { front = source.options.front }
+  pub front : IsReadTo extent options.at source.watch source.options.front
+  pub watched : IsWatchFor extent options.at source.watch
 
 -- the same, of which the database file alone is read
 pub record IsAloneOf (source alone : Source) : Type 0 where
   pub file : alone.file ≡ source.file
   pub paths : alone.paths ≡ source.paths
-  pub as_asked : alone.options ≡ record source.options { at = alone.options.at }
-  pub at : AtFile source.options.at alone.options.at
+  pub as_asked : alone.options ≡ record source.options { front = Some 0 }
   pub still : alone.watch ≡ Still
 
 -- Why no files are read: an error of the system, one changed, the index of a log that is in use has no valid header, or the

@@ -170,11 +170,11 @@ where
             (GivesBytes R.File.bytes R.File.keeps_word R.File.never_fails) self.entry.now.source.now) }
     {
         let (rt, source) = (self.rt, self.source);
-        let (super_journal, at) = (source.options.super_journal, source.options.at);
+        let (super_journal, front) = (source.options.super_journal, source.options.front);
         if only_logs {
-            logs_alone(rt, &source.paths, super_journal, at, notes)
+            logs_alone(rt, &source.paths, super_journal, front, notes)
         } else {
-            open_all(rt, &source.paths, super_journal, at, notes)
+            open_all(rt, &source.paths, super_journal, front, notes)
         }
     }
 

@@ -18,4 +18,4 @@ pub use jobs::{Counted, Job};
 pub use metered::{Metered, all_ahead, all_metered, both_ahead};
 pub use opening::{open_all, open_seen};
 pub use outputs::{judge_name, kept, named};
-pub use sources::{Before, Source, Watch, alone, source_of, wait_for};
+pub use sources::{Before, Extent, Source, Watch, alone, source_of, wait_for};

@@ -19,16 +19,16 @@ use std::rt::Files;
 /// What the system says of a database file, and the opened files, of which each may be missing.
 type Seen<'a, F> = (Metadata, Contents<OpenedFile<'a, F>>);
 
-/// The files, of which at 0 the database file alone counts, whatever lies beside it.
-fn as_asked<F: Drop>(
+/// The files, of which at front 0 the database file alone counts, whatever lies beside it.
+fn up_to<F: Drop>(
     files: Contents<OpenedFile<'_, F>>,
-    at: Option<u32>,
+    front: Option<u32>,
 ) -> Contents<OpenedFile<'_, F>>
     ensures db { result.db ≡ files.entry.db }
-    ensures alone { at ≡ Some 0 → IsMissing result.wal × IsMissing result.journal }
-    ensures logs { at ≢ Some 0 → result ≡ files.entry }
+    ensures alone { front ≡ Some 0 → IsMissing result.wal × IsMissing result.journal }
+    ensures logs { front ≢ Some 0 → result ≡ files.entry }
 {
-    if at != Some(0) {
+    if front != Some(0) {
         return files;
     }
     let Contents { db, .. } = files;
@@ -61,29 +61,30 @@ fn tell_by_log<F: SystemFile, E: Write>(
     Ok(())
 }
 
-/// Opens a database file and its logs, of which each may be missing, and says what the system says of the file. Refused
-/// by `FileFailed` and `NoMemory` as the system refuses a call, by `TwoLogs` where it isn't said which log counts.
+/// Opens a database file and its logs, of which each may be missing, and says what the system says of the file. At
+/// front 0, by the index of the log, no frame counts, and the logs are taken as missing. Refused by `FileFailed` and
+/// `NoMemory` as the system refuses a call, by `TwoLogs` where it isn't said which log counts.
 pub fn open_seen<'a, R: Files, E: Write>(
     rt: &R,
     paths: &'a Paths,
     super_journal: Option<SuperJournal>,
-    at: Option<u32>,
+    front: Option<u32>,
     notes: &mut Notes<'_, E>,
 ) -> Result<Seen<'a, R::File>, Refusal>
 where
     R::File: SystemFile,
-    ensures opened { IfOk result (λ seen. AreOpened false paths.entry.now super_journal at seen.1) }
+    ensures opened { IfOk result (λ seen. AreOpened false paths.entry.now super_journal front seen.1) }
     ensures refused { IfErr result (IsUnopened (opened_bytes R.File.bytes)
-        (GivesBytes R.File.bytes R.File.keeps_word R.File.never_fails) paths.entry.now super_journal at) }
+        (GivesBytes R.File.bytes R.File.keeps_word R.File.never_fails) paths.entry.now super_journal front) }
 {
     let Beside {
         found: Beheld { db: found, .. },
         wal,
         journal,
         ..
-    } = open_logs(rt, paths, super_journal, at, notes)?;
+    } = open_logs(rt, paths, super_journal, front, notes)?;
     let files = match open_database(rt, paths, &found, notes) {
-        Ok(db) => as_asked(Contents { db, wal, journal }, at),
+        Ok(db) => up_to(Contents { db, wal, journal }, front),
         Err(refusal) => return Err(refusal),
     };
     match tell_by_log(paths, &files, notes) {
@@ -92,21 +93,22 @@ where
     }
 }
 
-/// Opens a database file and its logs, of which each may be missing. Refused as `open_seen` is.
+/// Opens a database file and its logs, of which each may be missing; at front 0 the logs are taken as missing. Refused
+/// as `open_seen` is.
 pub fn open_all<'a, R: Files, E: Write>(
     rt: &R,
     paths: &'a Paths,
     super_journal: Option<SuperJournal>,
-    at: Option<u32>,
+    front: Option<u32>,
     notes: &mut Notes<'_, E>,
 ) -> Result<Contents<OpenedFile<'a, R::File>>, Refusal>
 where
     R::File: SystemFile,
-    ensures opened { IfOk result (AreOpened false paths.entry.now super_journal at) }
+    ensures opened { IfOk result (AreOpened false paths.entry.now super_journal front) }
     ensures refused { IfErr result (IsUnopened (opened_bytes R.File.bytes)
-        (GivesBytes R.File.bytes R.File.keeps_word R.File.never_fails) paths.entry.now super_journal at) }
+        (GivesBytes R.File.bytes R.File.keeps_word R.File.never_fails) paths.entry.now super_journal front) }
 {
-    match open_seen(rt, paths, super_journal, at, notes) {
+    match open_seen(rt, paths, super_journal, front, notes) {
         Ok((_, files)) => Ok(files),
         Err(refusal) => Err(refusal),
     }
@@ -117,16 +119,16 @@ pub(crate) fn logs_alone<'a, R: Files, E: Write>(
     rt: &R,
     paths: &'a Paths,
     super_journal: Option<SuperJournal>,
-    at: Option<u32>,
+    front: Option<u32>,
     notes: &mut Notes<'_, E>,
 ) -> Result<Contents<OpenedFile<'a, R::File>>, Refusal>
 where
     R::File: SystemFile,
-    ensures opened { IfOk result (AreOpened true paths.entry.now super_journal at) }
+    ensures opened { IfOk result (AreOpened true paths.entry.now super_journal front) }
     ensures refused { IfErr result IsFromSystem }
 {
     tell_seen(rt, paths, notes);
-    match open_logs(rt, paths, super_journal, at, notes) {
+    match open_logs(rt, paths, super_journal, front, notes) {
         Ok(Beside { wal, journal, .. }) => Ok(Contents {
             db: OpenedFile::missing(),
             wal,

@@ -1,9 +1,9 @@
 //! The files of a database as a command reads them, and how it is seen that others change them meanwhile.
-ghost use Rattle.std.specs.Prelude.{◌≡◌, ◌⊎◌, ◌↔◌, IfErr, IfOk, IsSome, IsTrue, false, true};
+ghost use Rattle.std.specs.Prelude.{◌≡◌, ◌⊎◌, ◌↔◌, IfErr, IfOk, IsSome, IsTrue, None, false};
 ghost use Rattle.cli_files.specs.Refusals.{IsFromSystem, IsFromWatch};
-ghost use Rattle.cli_job.specs.Sources.{AtFile, AtFront, IsAloneOf, IsBefore, IsFrontUnder, IsReadAt, IsSourceOf};
+ghost use Rattle.cli_job.specs.Sources.{IsAloneOf, IsBefore, IsFrontUnder, IsReadTo, IsSourceOf, IsUnsourced};
 ghost use Rattle.std.specs.Duration.{as_nanos};
-ghost use Rattle.cli_job.specs.Sources.{IsUnsourced, IsWaitFor, IsWatchUnder};
+ghost use Rattle.cli_job.specs.Sources.{IsWaitFor, IsWatchFor, IsWatchUnder, IsWithin};
 ghost use Rattle.cli_job.specs.internal.Watches.{AreUndated, IsUndated, StandsYet};
 
 use cli_facts::{Front, Notes, Reading, Readings, Refusal, SystemFile, read_or_zeros, unchanged};
@@ -22,6 +22,17 @@ use std::time::{Clock, Duration};
 /// How often the index of a log is looked at, a millisecond apart, until its two headers are one: a writer writes one
 /// behind the other.
 const LOOKS: u32 = 1000;
+
+/// How much of a database's history is read.
+#[derive(Clone, Copy, Debug, PartialEq, Eq)]
+pub enum Extent {
+    /// The database at one commit of its log: the one that is asked for, otherwise the last one.
+    One,
+    /// The database at several of them.
+    Several,
+    /// A log, all of it.
+    Log,
+}
 
 /// How it is seen that others change what is read.
 #[derive(Clone, Copy, Debug, PartialEq, Eq)]
@@ -163,42 +174,44 @@ where
     }
 }
 
-/// The commit that is read of a log, of which the frames up to this front stay: the one that is asked for, or the
-/// front. Refused by `NoSuchCommit` where that is behind the front.
-fn commit_at(asked: Option<u32>, front: Option<u32>) -> Result<Option<u32>, Refusal>
-    ensures at { IfOk result (AtFront asked front) }
-    ensures refused { IfErr result (λ refusal. (refusal ≡ Refusal.NoSuchCommit) × IsSome asked) }
+/// Whether the commit that is asked for is behind the front.
+fn is_behind(asked: Option<u32>, front: Option<u32>) -> bool
+    ensures within { result ≡ false → IsWithin asked front }
+    ensures behind { IsTrue result → IsSome asked }
 {
     match (asked, front) {
-        (None, _) => Ok(front),
-        (Some(frame), Some(front)) if front < frame => Err(Refusal::NoSuchCommit),
-        _ => Ok(asked),
+        (Some(frame), Some(front)) => front < frame,
+        _ => false,
     }
 }
 
-/// How files are watched, and which commit of their log is read, of which this front stays where one is said. Of the
-/// log alone all is shown, and it may change where it may be begun anew.
-fn read_at(
-    only_log: bool,
+/// Whether any commit but the last one is read.
+fn reads_past(extent: Extent, asked: Option<u32>) -> bool
+    ensures { result ≡ false → (extent ≡ Extent.One) × (asked ≡ None) }
+{
+    extent != Extent::One || asked.is_some()
+}
+
+/// How files are watched for a reading, and up to which front their log is read. Of all of a log, which may change
+/// where it may be begun anew, no front is taken; and where earlier commits are read, an index isn't enough. Refused by
+/// `NoSuchCommit` where the commit that is asked for is behind the front.
+fn read_to(
+    extent: Extent,
     asked: Option<u32>,
     of: (Watch, Option<u32>),
 ) -> Result<(Watch, Option<u32>), Refusal>
-    ensures at { only_log ≡ false → IsFrontUnder of.0 of.1
-        → IfOk result (λ found. IsReadAt asked found.0 found.1) }
-    ensures of_log { only_log ≡ true → IfOk result (λ found. found.1 ≡ asked) }
+    ensures read { IsFrontUnder of.0 of.1 → IfOk result (λ found. IsReadTo extent asked found.0 found.1) }
+    ensures watched { IfOk result (λ found. IsWatchFor extent asked found.0) }
     ensures watch { IfOk result (λ found. (found.0 ≡ of.0) ⊎ (found.0 ≡ Watch.Dated)) }
     ensures refused { IfErr result (λ refusal. (refusal ≡ Refusal.NoSuchCommit) × IsSome asked) }
 {
     let (watch, front) = of;
-    if !only_log {
-        return match commit_at(asked, front) {
-            Ok(at) => Ok((watch, at)),
-            Err(refusal) => Err(refusal),
-        };
-    }
-    match watch {
-        Watch::Still if front != Some(0) => Ok((Watch::Still, asked)),
-        _ => Ok((Watch::Dated, asked)),
+    match (extent, watch) {
+        (Extent::Log, Watch::Still) if front != Some(0) => Ok((Watch::Still, None)),
+        (Extent::Log, _) => Ok((Watch::Dated, None)),
+        (_, Watch::Indexed(_)) if reads_past(extent, asked) => Ok((Watch::Dated, None)),
+        _ if is_behind(asked, front) => Err(Refusal::NoSuchCommit),
+        _ => Ok((watch, front)),
     }
 }
 
@@ -208,38 +221,27 @@ fn read_at(
 pub fn source_of<'a, R: Files + AllocGlobal + Clock, E: Write>(
     rt: &R,
     of: (&'a str, Options),
-    only_log: bool,
+    extent: Extent,
     locks: Locks,
     notes: &mut Notes<'_, E>,
 ) -> Result<Source<'a>, Refusal>
 where
     R::File: SystemFile,
-    // Of all but the log alone, what is read is the commit at the front, or the one that is asked for.
-    ensures source { IfOk result (IsSourceOf of.entry.0 of.entry.1 only_log) }
+    ensures source { IfOk result (IsSourceOf of.entry.0 of.entry.1 extent) }
     ensures watch { IfOk result (λ source. IsWatchUnder locks source.watch) }
     ensures refused { IfErr result (IsUnsourced of.entry.1.at) }
 {
     let (file, options) = of;
     let paths = paths_of(rt, file, notes)?;
     let under = watch_under(rt, &paths, locks, notes)?;
-    match read_at(only_log, options.at, under) {
-        Ok((watch, at)) => Ok(Source {
+    match read_to(extent, options.at, under) {
+        Ok((watch, front)) => Ok(Source {
             file,
             paths,
-            options: Options { at, ..options },
+            options: Options { front, ..options },
             watch,
         }),
         Err(refusal) => Err(refusal),
-    }
-}
-
-/// The commit that is read of a database file alone: none of a log, or the one that is asked for.
-fn commit_of_file(asked: Option<u32>) -> Option<u32>
-    ensures { AtFile asked result }
-{
-    match asked {
-        None => Some(0),
-        Some(frame) => Some(frame),
     }
 }
 
@@ -253,11 +255,13 @@ pub fn alone<'a>(source: Source<'a>) -> Source<'a>
         options,
         watch: _,
     } = source;
-    let at = commit_of_file(options.at);
     Source {
         file,
         paths,
-        options: Options { at, ..options },
+        options: Options {
+            front: Some(0),
+            ..options
+        },
         watch: Watch::Still,
     }
 }

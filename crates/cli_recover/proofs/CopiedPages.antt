@@ -18,18 +18,24 @@ use Rattle.sqview.specs.LogView.{IsLogged, IsShownWithin, ViewRefusedWithin, Vie
 use Rattle.sqview.specs.declared.view.View.{View}
 use Rattle.sqview.specs.declared.view_error.ViewError.{ViewError}
 use Rattle.sqview.proofs.openings.ViewAtCommit.{front_to}
+use Rattle.sqpast.specs.Files.{IsPastShownWithin, PastRefusedWithin}
+use Rattle.sqpast.specs.declared.past_error.PastError.{PastError}
+use Rattle.sqpast.specs.declared.past_error.PastError.TheVariants.{Refused, CommitOverwritten}
 use Rattle.sqview.specs.Ahead.{IsUnread}
 use Rattle.sqview.specs.internal.Laid.{HoldsPart}
 use Rattle.sqview.specs.declared.read_ahead.ReadAhead.{ReadAhead}
 use Rattle.sqview.proofs.file.HeldPartOfFile.{holds_nothing}
+use Rattle.cli_words.specs.declared.requests.Commit.TheVariants.{Last}
 use Rattle.cli_words.specs.declared.requests.Options.{Options}
-use Rattle.cli_facts.specs.Refusals.{refusal_of}
+use Rattle.cli_facts.specs.Refusals.{refusal_of, refusal_of_past}
 use Rattle.cli_facts.specs.declared.outcome.Outcome.{Outcome}
 use Rattle.cli_facts.specs.declared.outcome.Outcome.TheVariants as outcomes
 use Rattle.cli_facts.specs.declared.outcome.Refusal.{Refusal}
 use Rattle.cli_show.specs.Limits.{limits_named}
+use Rattle.cli_show.specs.Views.{AskedRefused}
 use Rattle.cli_job.specs.declared.metered.Metered.{Metered}
-use Rattle.cli_recover.specs.Copies.{HasCopy, HasFold, HasReplay, IsCopyOf, IsFoldedTo, IsUncopied}
+use Rattle.cli_recover.specs.Copies.{HasCopy, HasFold, HasPast, HasReplay, IsCopyAt, IsCopyOf, IsFoldedTo, IsPlannedCopy, IsUncopied, IsUncopiedAt, IsUnpast, IsUnplannedCopy}
+use Rattle.cli_recover.specs.Engines.{folded_as}
 use Rattle.cli_recover.specs.Plans.{CountsWal, IsCommitOf, IsPlanOf}
 use Rattle.cli_recover.specs.declared.plans.Recovery.{Recovery}
 use Rattle.cli_recover.specs.declared.plans.Recovery.TheVariants.{Fold, RollBack}
@@ -79,13 +85,13 @@ module _ (options : Options) (size : ℕ) (scan : Option Scan) (db wal journal :
   header : IsHeader size wal
   header = folds.0.0
 
-  no_front : IsFront (named_size wal) wal 0 → HasFold options.at size db wal journal outcomes.NoFront db
-  no_front front = (none_asked options.at scan wal folds.0.2 front, subst (λ (n : ℕ). IsFront n wal 0) header.named front, refl)
+  no_front : IsFront (named_size wal) wal 0 → HasFold options.front size db wal journal outcomes.NoFront db
+  no_front front = (none_asked options.front scan wal folds.0.2 front, subst (λ (n : ℕ). IsFront n wal 0) header.named front, refl)
 
-  pub none_counts : (most : ℕ) (w : List ℕ) (f : Front) → w ≡ wal → IsCommittedWithin most w f → f.frames ≡ 0 → HasFold options.at size db wal journal outcomes.NoFront db
+  pub none_counts : (most : ℕ) (w : List ℕ) (f : Front) → w ≡ wal → IsCommittedWithin most w f → f.frames ≡ 0 → HasFold options.front size db wal journal outcomes.NoFront db
   none_counts most w f same committed none = no_front (front_none most wal f (subst (λ (l : List ℕ). IsCommittedWithin most l f) same committed) none)
 
-  pub none_headed : (w : List ℕ) → w ≡ wal → (¬ IsHeader (named_size w) w) → HasFold options.at size db wal journal outcomes.NoFront db
+  pub none_headed : (w : List ℕ) → w ≡ wal → (¬ IsHeader (named_size w) w) → HasFold options.front size db wal journal outcomes.NoFront db
   none_headed w same none = absurd (subst (λ (l : List ℕ). ¬ IsHeader (named_size l) l) same none (subst (λ (n : ℕ). IsHeader n wal) (sym header.named) header))
 
   -- the commit frame up to which it is folded
@@ -119,18 +125,18 @@ module _ (options : Options) (size : ℕ) (scan : Option Scan) (db wal journal :
 
     module _ {A : Type 0} (outcome_of : A → Outcome) (text_of : A → List ℕ) where
       by_result : (result : Result A Refusal)
-          → MatchResult result (λ a. HasFold (Some (unwrap_or options.at front)) (named_size wal) db wal journal (outcome_of a) (text_of a))
-          (IsUnfoldedAt (limits_named options.large) (unwrap_or options.at front) db wal journal)
-          → MatchResult result (λ a. HasFold options.at size db wal journal (outcome_of a) (text_of a)) (IsUnfolded options size db wal journal)
-      by_result (Ok a) has = as_asked options.at (outcome_of a) (text_of a)
-          (subst (λ (n : ℕ). HasFold (Some (unwrap_or options.at front)) n db wal journal (outcome_of a) (text_of a)) header.named has)
-      by_result (Err refusal) unfolded = inr (unwrap_or options.at front, reached options.at, unfolded)
+          → MatchResult result (λ a. HasFold (Some (unwrap_or options.front front)) (named_size wal) db wal journal (outcome_of a) (text_of a))
+          (IsUnfoldedAt (limits_named options.large) (unwrap_or options.front front) db wal journal)
+          → MatchResult result (λ a. HasFold options.front size db wal journal (outcome_of a) (text_of a)) (IsUnfolded options size db wal journal)
+      by_result (Ok a) has = as_asked options.front (outcome_of a) (text_of a)
+          (subst (λ (n : ℕ). HasFold (Some (unwrap_or options.front front)) n db wal journal (outcome_of a) (text_of a)) header.named has)
+      by_result (Err refusal) unfolded = inr (unwrap_or options.front front, reached options.front, unfolded)
 
-      pub folds_as_asked : (limits : Bounds) (frame : ℕ) (result : Result A Refusal) → limits ≡ limits_named options.large → frame ≡ unwrap_or options.at front
+      pub folds_as_asked : (limits : Bounds) (frame : ℕ) (result : Result A Refusal) → limits ≡ limits_named options.large → frame ≡ unwrap_or options.front front
           → (1 ≤ frame → MatchResult result (λ a. HasFold (Some frame) (named_size wal) db wal journal (outcome_of a) (text_of a)) (IsUnfoldedAt limits frame db wal journal))
-          → MatchResult result (λ a. HasFold options.at size db wal journal (outcome_of a) (text_of a)) (IsUnfolded options size db wal journal)
+          → MatchResult result (λ a. HasFold options.front size db wal journal (outcome_of a) (text_of a)) (IsUnfolded options size db wal journal)
       folds_as_asked limits frame result are is has =
-          let one_frame : 1 ≤ frame = subst (λ (n : ℕ). 1 ≤ n) (sym is) (first options.at folds.0.2) in
+          let one_frame : 1 ≤ frame = subst (λ (n : ℕ). 1 ≤ n) (sym is) (first options.front folds.0.2) in
           let by_limits = subst (λ (l : Bounds).
           MatchResult result (λ a. HasFold (Some frame) (named_size wal) db wal journal (outcome_of a) (text_of a)) (IsUnfoldedAt l frame db wal journal)) are (has one_frame) in
           by_result result (subst (λ (n : ℕ).
@@ -185,33 +191,69 @@ replay_copied limits bytes db wal journal own log hot_log records v pages same_d
     subst (λ (n : ℕ). HasReplay db wal journal (outcomes.RolledBack records n) (concat (pages_of bytes v))) (sym by_pages)
     (replay_viewed limits bytes db wal journal records v hot count of_journal)
 
-pub unreplayed : (limits : Bounds) (db wal journal own log hot_log : List ℕ) (error : ViewError) (refusal : Refusal) → own ≡ db → log ≡ wal → hot_log ≡ journal
-    → refusal ≡ refusal_of error → ViewRefusedWithin limits own log hot_log error → IsUnreplayed limits db wal journal refusal
-unreplayed limits db wal journal own log hot_log error refusal same_db same_wal same_journal is refused =
+pub unreplayed : (limits : Bounds) (db wal journal own log hot_log : List ℕ) (error : PastError) (refusal : Refusal) → own ≡ db → log ≡ wal → hot_log ≡ journal
+    → refusal ≡ refusal_of_past error → AskedRefused limits Last own log hot_log error → IsUnreplayed limits db wal journal refusal
+unreplayed limits db wal journal own log hot_log CommitOverwritten refusal same_db same_wal same_journal is refused = absurd refused
+unreplayed limits db wal journal own log hot_log (Refused error) refusal same_db same_wal same_journal is refused =
     let of_db = subst (λ (l : List ℕ). ViewRefusedWithin limits l log hot_log error) same_db refused in
     let of_wal = subst (λ (l : List ℕ). ViewRefusedWithin limits db l hot_log error) same_wal of_db in
     inr (inr (error, is, subst (λ (l : List ℕ). ViewRefusedWithin limits db wal l error) same_journal of_wal))
+
+-- ---- a commit that is asked for
+
+-- the pages of the view of files there, which have these bytes
+pub past_copied : {F : Type 0} (limits : Bounds) (bytes : F → List ℕ) (m : ℕ) (db wal journal own log other : List ℕ) (v : View F) (outcome : Outcome) (pages : ℕ) → own ≡ db
+    → log ≡ wal → other ≡ journal → outcome ≡ folded_as m pages → pages ≡ length (pages_of bytes v) → IsPastShownWithin limits bytes m own log other v
+    → HasPast m db wal journal outcome (concat (pages_of bytes v))
+past_copied limits bytes m db wal journal own log other v outcome pages same_db same_wal same_journal is by_pages shown =
+    let of_db = subst (λ (l : List ℕ). IsPastShownWithin limits bytes m l log other v) same_db shown in
+    let of_wal = subst (λ (l : List ℕ). IsPastShownWithin limits bytes m db l other v) same_wal of_db in
+    let of_journal : IsPastShownWithin limits bytes m db wal journal v = subst (λ (l : List ℕ). IsPastShownWithin limits bytes m db wal l v) same_journal of_wal in
+    (v.page_size, pages_of bytes v, of_journal.shows, is ∙ ap (λ (n : ℕ). folded_as m n) by_pages, refl)
+
+-- their view is refused
+pub unpast : (limits : Bounds) (m : ℕ) (db wal journal own log other : List ℕ) (error : PastError) (refusal : Refusal) → own ≡ db → log ≡ wal → other ≡ journal
+    → refusal ≡ refusal_of_past error → PastRefusedWithin limits m own log other error → IsUnpast limits m db wal journal refusal
+unpast limits m db wal journal own log other error refusal same_db same_wal same_journal is refused =
+    let of_db = subst (λ (l : List ℕ). PastRefusedWithin limits m l log other error) same_db refused in
+    let of_wal = subst (λ (l : List ℕ). PastRefusedWithin limits m db l other error) same_wal of_db in
+    inr (error, is, subst (λ (l : List ℕ). PastRefusedWithin limits m db wal l error) same_journal of_wal)
+
+module _ {A : Type 0} (outcome_of : A → Outcome) (text_of : A → List ℕ) (options : Options) (db wal journal : List ℕ) where
+  -- a copy at the commit that is asked for, or by a plan where none is
+  pub copied_at : (m : ℕ) (limits : Bounds) (result : Result A Refusal) → options.at ≡ Some m → limits ≡ limits_named options.large
+      → MatchResult result (λ a. HasPast m db wal journal (outcome_of a) (text_of a)) (IsUnpast limits m db wal journal)
+      → MatchResult result (λ a. IsCopyOf options db wal journal (outcome_of a) (text_of a)) (IsUncopied options db wal journal)
+  copied_at m limits (Ok a) at are has = subst (λ (o : Option ℕ). IsCopyAt o options db wal journal (outcome_of a) (text_of a)) (sym at) has
+  copied_at m limits (Err refusal) at are refused = subst (λ (o : Option ℕ). IsUncopiedAt o options db wal journal refusal) (sym at)
+      (subst (λ (l : Bounds). IsUnpast l m db wal journal refusal) are refused)
+
+  pub copied_as_planned : (result : Result A Refusal) → options.at ≡ None
+      → MatchResult result (λ a. IsPlannedCopy options db wal journal (outcome_of a) (text_of a)) (IsUnplannedCopy options db wal journal)
+      → MatchResult result (λ a. IsCopyOf options db wal journal (outcome_of a) (text_of a)) (IsUncopied options db wal journal)
+  copied_as_planned (Ok a) at has = subst (λ (o : Option ℕ). IsCopyAt o options db wal journal (outcome_of a) (text_of a)) (sym at) has
+  copied_as_planned (Err refusal) at refused = subst (λ (o : Option ℕ). IsUncopiedAt o options db wal journal refusal) (sym at) refused
 
 -- ---- what is planned
 
 module _ {A : Type 0} (outcome_of : A → Outcome) (text_of : A → List ℕ) (options : Options) (db wal journal : List ℕ) where
   -- what a copy of files has by a plan, or why there is none
   abbrev pub CopiesBy : Recovery → Result A Refusal → Type 0
-  CopiesBy plan result = MatchResult result (λ a. HasCopy options.at db wal journal plan (outcome_of a) (text_of a)) (IsUncopied options db wal journal)
+  CopiesBy plan result = MatchResult result (λ a. HasCopy options.front db wal journal plan (outcome_of a) (text_of a)) (IsUnplannedCopy options db wal journal)
 
-  pub folds_by : (size : ℕ) (scan : Option Scan) (plan : Recovery) (result : Result A Refusal) → plan ≡ Fold size scan → CountsWal options.at wal journal
-      → MatchResult result (λ a. HasFold options.at size db wal journal (outcome_of a) (text_of a)) (IsUnfolded options size db wal journal) → CopiesBy plan result
+  pub folds_by : (size : ℕ) (scan : Option Scan) (plan : Recovery) (result : Result A Refusal) → plan ≡ Fold size scan → CountsWal options.front wal journal
+      → MatchResult result (λ a. HasFold options.front size db wal journal (outcome_of a) (text_of a)) (IsUnfolded options size db wal journal) → CopiesBy plan result
   folds_by size scan plan result is counts has = subst (λ (p : Recovery). CopiesBy p result) (sym is) (by result has)
     where
-      refused : (refusal : Refusal) → (frame : ℕ) × IsFoldedTo options.at size wal frame × IsUnfoldedAt (limits_named options.large) frame db wal journal refusal
-          → IsUncopied options db wal journal refusal
+      refused : (refusal : Refusal) → (frame : ℕ) × IsFoldedTo options.front size wal frame × IsUnfoldedAt (limits_named options.large) frame db wal journal refusal
+          → IsUnplannedCopy options db wal journal refusal
       refused refusal at = ⊎_elim inl (λ view. inr (inr (inr (view.0, view.1, inl (size, at.0, at.1, view.2))))) at.2
 
-      by : (result : Result A Refusal) → MatchResult result (λ a. HasFold options.at size db wal journal (outcome_of a) (text_of a)) (IsUnfolded options size db wal journal)
+      by : (result : Result A Refusal) → MatchResult result (λ a. HasFold options.front size db wal journal (outcome_of a) (text_of a)) (IsUnfolded options size db wal journal)
           → CopiesBy (Fold size scan) result
       by (Ok a) has = has
       by (Err refusal) unfolded = ⊎_elim
-          (λ scanned. inr (inl (inr (inr (inr (counts, unscanned (limits_named options.large) options.at db wal refusal scanned))))))
+          (λ scanned. inr (inl (inr (inr (inr (counts, unscanned (limits_named options.large) options.front db wal refusal scanned))))))
           (refused refusal)
           unfolded
 
@@ -227,7 +269,7 @@ module _ {A : Type 0} (outcome_of : A → Outcome) (text_of : A → List ℕ) (o
 
   -- a copy of files, or why there is none
   abbrev pub IsCopiedBy : Result A Refusal → Type 0
-  IsCopiedBy result = MatchResult result (λ a. IsCopyOf options db wal journal (outcome_of a) (text_of a)) (IsUncopied options db wal journal)
+  IsCopiedBy result = MatchResult result (λ a. IsPlannedCopy options db wal journal (outcome_of a) (text_of a)) (IsUnplannedCopy options db wal journal)
 
   pub copied_by : (plan : Recovery) (result : Result A Refusal) → IsPlanOf options db wal journal plan → CopiesBy plan result → IsCopiedBy result
   copied_by plan (Ok a) planned has = (plan, planned, has)

@@ -18,6 +18,7 @@ use Rattle.cli_job.specs.declared.metered.Metered.{Metered}
 use Rattle.cli_job.specs.declared.sources.Source.{Source}
 use Rattle.cli_recover.specs.Copies.{CopiesTo, IsBegun, IsCopied, IsCopyOf, IsUncopied, IsUnmade}
 use Rattle.cli_recover.specs.Outcomes.{outcome_text}
+use Rattle.cli_recover.specs.Plans.{AreAlike, AreUnlike}
 
 module _ {F M : Type 0} (bytes : OpenedFile F → List ℕ) (gives : OpenedFile F → Type 0) (source : Source)
     (files : Contents (OpenedFile F)) (metered : Contents (Metered (OpenedFile F) M))
@@ -33,14 +34,22 @@ module _ {F M : Type 0} (bytes : OpenedFile F → List ℕ) (gives : OpenedFile 
       let by_wal = subst (λ (x : OpenedFile F). AreOpenedFor false source (record { db = metered.db.file; wal = x; journal = files.journal })) (sym wal) by_db in
       subst (λ (x : OpenedFile F). AreOpenedFor false source (record { db = metered.db.file; wal = metered.wal.file; journal = x })) (sym journal) by_wal
 
+  counted_alike : (AreGiven gives files → AreAlike source.options.at (bytes files.db) (bytes files.wal))
+      → AreGiven gives (record { db = metered.db.file; wal = metered.wal.file; journal = metered.journal.file }) → AreAlike source.options.at (bytes metered.db.file) (bytes metered.wal.file)
+  counted_alike alike =
+      let by_db = subst (λ (x : OpenedFile F). AreGiven gives (record { db = x; wal = files.wal; journal = files.journal }) → AreAlike source.options.at (bytes x) (bytes files.wal)) (sym db) alike in
+      let by_wal = subst (λ (x : OpenedFile F). AreGiven gives (record { db = metered.db.file; wal = x; journal = files.journal }) → AreAlike source.options.at (bytes metered.db.file) (bytes x)) (sym wal) by_db in
+      subst (λ (x : OpenedFile F). AreGiven gives (record { db = metered.db.file; wal = metered.wal.file; journal = x }) → AreAlike source.options.at (bytes metered.db.file) (bytes metered.wal.file)) (sym journal) by_wal
+
   -- a copy of them is one of files that were opened
-  pub copy_opened : (outcome : Outcome) (text : List ℕ)
+  pub copy_opened : (outcome : Outcome) (text : List ℕ) → (AreGiven gives files → AreAlike source.options.at (bytes files.db) (bytes files.wal))
       → (AreGiven (λ (file : Metered (OpenedFile F) M). gives file.file) metered
       → IsCopyOf source.options (bytes metered.db.file) (bytes metered.wal.file) (bytes metered.journal.file) outcome text)
       → IsCopied bytes gives source outcome
-  copy_opened outcome text is = record {
+  copy_opened outcome text alike is = record {
     files = record { db = metered.db.file; wal = metered.wal.file; journal = metered.journal.file };
     opened = counted_opened;
+    alike = counted_alike alike;
     copy = λ given. (text, is given);
   }
 
@@ -52,8 +61,12 @@ module _ {F M : Type 0} (bytes : OpenedFile F → List ℕ) (gives : OpenedFile 
   none_opened refusal is = inr (inr (record {
     files = record { db = metered.db.file; wal = metered.wal.file; journal = metered.journal.file };
     opened = counted_opened;
-    none = is;
+    none = λ given. inl (is given);
   }))
+
+  -- nor is there one of files that name two page sizes
+  pub unlike_opened : (refusal : Refusal) → (AreGiven gives files → AreUnlike (bytes files.db) (bytes files.wal) refusal) → IsUnmade bytes gives source refusal
+  unlike_opened refusal is = inr (inr (record { files = files; opened = opened; none = λ given. inr (is given) }))
 
 -- what was found stands where it is answered, or the watch refuses it
 pub stood : {A : Type 0} (P : A → Type 0) (found answer : Result A Refusal) → IfOk found P → (answer ≡ found) ⊎ IsErrAnd answer IsFromWatch → IfOk answer P

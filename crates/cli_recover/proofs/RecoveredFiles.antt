@@ -34,7 +34,7 @@ use Rattle.cli_recover.specs.declared.plans.Recovery.TheVariants.{Nothing}
 module _ {F : Type 0} (bytes : OpenedFile F → List ℕ) (gives : OpenedFile F → Type 0) (paths : Paths) (options : Options) (found : Beheld) (wal journal : OpenedFile F)
     (logs : AreLogsOf paths options.super_journal found wal journal) where
   -- no log counts of files that were opened
-  pub nothing_planned : (missing : OpenedFile F) → IsMissing missing → options.at ≡ None
+  pub nothing_planned : (missing : OpenedFile F) → IsMissing missing → options.front ≡ None
       → (gives wal → gives journal → CountsAnswer (bytes wal) (bytes journal) (Ok Neither)) → IsPlanned bytes gives paths options Nothing
   nothing_planned missing is at counts = record {
     found = found;

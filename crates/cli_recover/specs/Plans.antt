@@ -47,48 +47,58 @@ HasNoHeader wal = (length wal < 32) ⊎ ((error : WalFormatError) × (error ≢ 
 abbrev pub IsCommitOf : (wal : List ℕ) → (frame : ℕ) → Type 0
 IsCommitOf wal frame = IsValidFrame (named_size wal) wal frame × IsCommit (named_size wal) wal frame
 
+-- Of a commit frame that is asked for: the log has no valid header, or the database file names no other page size than it.
+abbrev pub AreAlike : (at : Option ℕ) → (db wal : List ℕ) → Type 0
+AreAlike (Some (suc m)) db wal = HasNoHeader wal ⊎ ((size : ℕ) × IsHeader size wal × ¬ HasOtherSize db size)
+AreAlike _ db wal = Unit {0}
+
+-- it names another one, or the log is of another version
+abbrev pub AreUnlike : (db wal : List ℕ) → Refusal → Type 0
+AreUnlike db wal refusal = ((refusal ≡ PageSizesDiffer) × (size : ℕ) × IsHeader size wal × HasOtherSize db size)
+    ⊎ ((refusal ≡ UnknownLogVersion) × (32 ≤ length wal) × HeaderRefused wal UnknownVersion)
+
 -- why it isn't said what a recovery does of a log
-abbrev pub IsUnplanned : Bounds → (at : Option ℕ) → (db wal : List ℕ) → Refusal → Type 0
-IsUnplanned limits at db wal UnknownLogVersion = (32 ≤ length wal) × HeaderRefused wal UnknownVersion
-IsUnplanned limits at db wal NoSuchCommit = IsSomeAnd at (λ frame. ¬ IsCommitOf wal frame)
-IsUnplanned limits at db wal PageSizesDiffer =
+abbrev pub IsUnplanned : Bounds → (front : Option ℕ) → (db wal : List ℕ) → Refusal → Type 0
+IsUnplanned limits front db wal UnknownLogVersion = (32 ≤ length wal) × HeaderRefused wal UnknownVersion
+IsUnplanned limits front db wal NoSuchCommit = IsSomeAnd front (λ frame. ¬ IsCommitOf wal frame)
+IsUnplanned limits front db wal PageSizesDiffer =
     IsHeader (named_size wal) wal × HasOtherSize db (named_size wal) × ((frame : ℕ) × IsCommitOf wal frame)
-IsUnplanned limits at db wal TooLarge = IsValidFrame (named_size wal) wal (suc limits.frames)
-IsUnplanned limits at db wal NoMemory = Unit {0}
-IsUnplanned limits at db wal _ = ⊥
+IsUnplanned limits front db wal TooLarge = IsValidFrame (named_size wal) wal (suc limits.frames)
+IsUnplanned limits front db wal NoMemory = Unit {0}
+IsUnplanned limits front db wal _ = ⊥
 
--- A log without a valid header is emptied. Another one is folded, in the size of its pages, up to the commit that is asked
--- for if one is, whose scan is there then; a database file that names another size has to be one to which no frame counts.
-abbrev pub PlansFold : Bounds → (at : Option ℕ) → (db wal : List ℕ) → Result Recovery Refusal → Type 0
-PlansFold limits at db wal (Ok Empty) = (at ≡ None) × HasNoHeader wal
-PlansFold limits at db wal (Ok (Fold size scan)) = IsHeader size wal × IfSome scan (TookWithin limits.frames wal)
-    × IfSome at (λ frame. IsSome scan × IsCommitOf wal frame) × (HasOtherSize db size → IsFront size wal 0)
-PlansFold limits at db wal (Ok _) = ⊥
-PlansFold limits at db wal (Err refusal) = IsUnplanned limits at db wal refusal
+-- A log without a valid header is emptied. Another one is folded, in the size of its pages, up to the front that its index
+-- names if one is said, whose scan is there then; a database file that names another size has to be one to which no frame counts.
+abbrev pub PlansFold : Bounds → (front : Option ℕ) → (db wal : List ℕ) → Result Recovery Refusal → Type 0
+PlansFold limits front db wal (Ok Empty) = (front ≡ None) × HasNoHeader wal
+PlansFold limits front db wal (Ok (Fold size scan)) = IsHeader size wal × IfSome scan (TookWithin limits.frames wal)
+    × IfSome front (λ frame. IsSome scan × IsCommitOf wal frame) × (HasOtherSize db size → IsFront size wal 0)
+PlansFold limits front db wal (Ok _) = ⊥
+PlansFold limits front db wal (Err refusal) = IsUnplanned limits front db wal refusal
 
--- the write-ahead log counts, and the database isn't asked for without it
-abbrev pub CountsWal : (at : Option ℕ) → (wal journal : List ℕ) → Type 0
-CountsWal at wal journal = CountsAnswer wal journal (Ok Wal) × (at ≢ Some 0)
+-- the write-ahead log counts, and its index doesn't say that none of its frames does
+abbrev pub CountsWal : (front : Option ℕ) → (wal journal : List ℕ) → Type 0
+CountsWal front wal journal = CountsAnswer wal journal (Ok Wal) × (front ≢ Some 0)
 
--- the journal counts, and no commit is asked for
-abbrev pub CountsJournal : (at : Option ℕ) → (wal journal : List ℕ) → Type 0
-CountsJournal at wal journal = (at ≡ None) × ((header : JournalHeader) × CountsAnswer wal journal (Ok (Journal header)))
+-- the journal counts, and no index names a front
+abbrev pub CountsJournal : (front : Option ℕ) → (wal journal : List ℕ) → Type 0
+CountsJournal front wal journal = (front ≡ None) × ((header : JournalHeader) × CountsAnswer wal journal (Ok (Journal header)))
 
--- What a recovery does of files of these bytes, by the log that counts of them.
+-- What a recovery does of files of these bytes, by the log that counts of them, if no commit is asked for.
 abbrev pub IsPlanOf : Options → (db wal journal : List ℕ) → Recovery → Type 0
-IsPlanOf options db wal journal Nothing = (options.at ≡ Some 0) ⊎ ((options.at ≡ None) × CountsAnswer wal journal (Ok Neither))
-IsPlanOf options db wal journal Empty = CountsWal options.at wal journal × PlansFold (limits_named options.large) options.at db wal (Ok Empty)
+IsPlanOf options db wal journal Nothing = (options.front ≡ Some 0) ⊎ ((options.front ≡ None) × CountsAnswer wal journal (Ok Neither))
+IsPlanOf options db wal journal Empty = CountsWal options.front wal journal × PlansFold (limits_named options.large) options.front db wal (Ok Empty)
 IsPlanOf options db wal journal (Fold size scan) =
-    CountsWal options.at wal journal × PlansFold (limits_named options.large) options.at db wal (Ok (Fold size scan))
-IsPlanOf options db wal journal RollBack = CountsJournal options.at wal journal × RollsBack options.super_journal journal (Ok RollBack)
+    CountsWal options.front wal journal × PlansFold (limits_named options.large) options.front db wal (Ok (Fold size scan))
+IsPlanOf options db wal journal RollBack = CountsJournal options.front wal journal × RollsBack options.super_journal journal (Ok RollBack)
 
--- another commit than the file's own is asked for where no write-ahead log counts
-abbrev pub LacksCommit : (at : Option ℕ) → (wal journal : List ℕ) → Type 0
-LacksCommit at wal journal = IsSomeAnd at (λ m. m ≢ 0) × ¬ CountsAnswer wal journal (Ok Wal)
+-- an index names a front where no write-ahead log counts
+abbrev pub LacksCommit : (front : Option ℕ) → (wal journal : List ℕ) → Type 0
+LacksCommit front wal journal = IsSomeAnd front (λ m. m ≢ 0) × ¬ CountsAnswer wal journal (Ok Wal)
 
 -- Why nothing is planned of them: two logs count, or one of them isn't recovered.
 abbrev pub IsUnplannedOf : Options → (db wal journal : List ℕ) → Refusal → Type 0
 IsUnplannedOf options db wal journal refusal = ((refusal ≡ TwoLogs) × AreTwoLogs wal journal)
-    ⊎ (((refusal ≡ NoSuchCommit) × LacksCommit options.at wal journal)
-    ⊎ ((CountsJournal options.at wal journal × RollsBack options.super_journal journal (Err refusal))
-    ⊎ (CountsWal options.at wal journal × IsUnplanned (limits_named options.large) options.at db wal refusal)))
+    ⊎ (((refusal ≡ NoSuchCommit) × LacksCommit options.front wal journal)
+    ⊎ ((CountsJournal options.front wal journal × RollsBack options.super_journal journal (Err refusal))
+    ⊎ (CountsWal options.front wal journal × IsUnplanned (limits_named options.large) options.front db wal refusal)))

@@ -57,9 +57,9 @@ IsUnrecovered bytes gives paths options refusal = IsFromGuard refusal
     ⊎ (IsUnplannedAt bytes gives paths options refusal
     ⊎ ((plan : Recovery) × IsPlanned bytes gives paths options plan × IsRefusalOf plan refusal))
 
--- the options of a recovery in place, which is one to the front
+-- the options of a recovery in place, which is one to the log's own front
 abbrev pub to_front : Options → Options
-to_front options = record options { at = None }
+to_front options = record options { front = None }
 
 -- A plan is carried out on a disk that keeps its word, where the guard lets each change be.
 abbrev pub IsDone : {D : Type 0} → (keeps_word : D → Type 0) → (state : D → DiskState) → (lets_change : Type 0) → Bounds → Recovery → Outcome → (old new : D) → Type 0

@@ -3,6 +3,7 @@ ghost use Rattle.std.specs.Prelude.{◌≡◌, IfErr, IfOk};
 ghost use Rattle.crashdisk.specs.During.{During};
 ghost use Rattle.cli_recover.specs.Engines.{CarriesOut, FoldsTo, ReplaysTo, answer_of_fold, answer_of_replay};
 ghost use Rattle.cli_recover.specs.Engines.{IsOfFold, IsOfReplay, IsOutcomeOf, IsRefusalOf, IsUnfolded, IsUnreplayed};
+ghost use Rattle.cli_recover.specs.Engines.{folded_as};
 
 use crate::plans::Recovery;
 use crate::refusals::{refusal_of_roll, refusal_of_wal};
@@ -57,6 +58,17 @@ fn roll_back<D: Disk>(alloc: Global, limits: Limits, disk: &mut D) -> Result<Out
     answer_of_replay(replay_within(alloc, disk, limits))
 }
 
+/// So many frames of a log, which came to so many pages of its database.
+pub(crate) fn folded_as(frames: u32, pages: u32) -> Outcome
+    ensures is { result ≡ folded_as frames pages }
+    ensures outcome { IsOfFold result }
+{
+    match frames {
+        0 => Outcome::NoFront,
+        _ => Outcome::Folded { frames, pages },
+    }
+}
+
 /// What a fold comes to.
 fn answer_of_fold(folded: Result<Folded, WalError>) -> Result<Outcome, Refusal>
     ensures answer { result ≡ answer_of_fold folded }
@@ -64,11 +76,7 @@ fn answer_of_fold(folded: Result<Folded, WalError>) -> Result<Outcome, Refusal>
     ensures refused { IfErr result IsUnfolded }
 {
     match folded {
-        Ok(Folded { frames: 0, .. }) => Ok(Outcome::NoFront),
-        Ok(Folded { frames, size }) => Ok(Outcome::Folded {
-            frames,
-            pages: size,
-        }),
+        Ok(Folded { frames, size }) => Ok(folded_as(frames, size)),
         Err(error) => Err(refusal_of_wal(error)),
     }
 }

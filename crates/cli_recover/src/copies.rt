@@ -12,15 +12,17 @@ ghost use Rattle.cli_files.specs.Refusals.{IsFromSystem, IsFromWatch};
 ghost use Rattle.cli_show.specs.Contents.{AreGiven, KeepsBytes};
 ghost use Rattle.cli_job.specs.Answers.{IsDoneOr};
 ghost use Rattle.cli_job.specs.Opened.{GivesBytes};
-ghost use Rattle.cli_recover.specs.Copies.{CopiesTo, HasCopy, HasFold, HasReplay, IsBegun, IsCopied, IsCopyOf};
-ghost use Rattle.cli_recover.specs.Copies.{IsUncopied, IsUnmade, left_as};
-ghost use Rattle.cli_recover.specs.Plans.{IsPlanOf};
+ghost use Rattle.cli_recover.specs.Copies.{CopiesTo, HasCopy, HasFold, HasPast, HasReplay, IsBegun, IsCopied};
+ghost use Rattle.cli_recover.specs.Copies.{IsCopyOf, IsPlannedCopy, IsUncopied, IsUnmade, IsUnpast};
+ghost use Rattle.cli_recover.specs.Copies.{IsUnplannedCopy, left_as};
+ghost use Rattle.cli_recover.specs.Plans.{AreAlike, AreUnlike, IsPlanOf};
 ghost use Rattle.cli_recover.specs.internal.Contents.{FoldsAt, IsUnfolded, IsUnfoldedAt, IsUnreplayed, content_bytes};
 ghost use Rattle.cli_recover.specs.internal.Contents.{content_reads};
 ghost use Rattle.cli_recover.specs.internal.Scans.{ScansLog};
 
+use crate::carrying::folded_as;
 use crate::outcomes::print_outcome;
-use crate::plans::{Recovery, plan_recovery, scan_of};
+use crate::plans::{Recovery, judge_sizes, plan_recovery, scan_of};
 use cli_facts::{Front, Notes, Outcome, Refusal, SystemFile};
 use cli_files::{
     Count, NewFile, OpenedFile, begin_file, counting_log, discard_file, end_file, told,
@@ -30,7 +32,7 @@ use cli_job::{
     wait_for,
 };
 use cli_show::{Contents, ShowError, limits_of, replayed, view_of};
-use cli_words::Options;
+use cli_words::{Commit, Options};
 use sqpage::PageSource;
 use sqval::Limits;
 use sqview::{CopyError, FileBytes, ReadAhead, View, copy};
@@ -172,6 +174,19 @@ where
     }
 }
 
+/// The same of opened files as `judge_sizes` of a file and its log.
+fn judge_files<F: SystemFile>(
+    files: &Contents<OpenedFile<'_, F>>,
+    at: Option<u32>,
+) -> Result<(), Refusal>
+    ensures { AreGiven (GivesBytes F.bytes F.keeps_word F.never_fails) files.entry.now → MatchResult result
+        (λ _. AreAlike at (opened_bytes F.bytes files.entry.now.db) (opened_bytes F.bytes files.entry.now.wal))
+        (AreUnlike (opened_bytes F.bytes files.entry.now.db) (opened_bytes F.bytes files.entry.now.wal)) }
+{
+    let (mut db, mut wal) = (&files.db, &files.wal);
+    judge_sizes(&mut db, &mut wal, at)
+}
+
 /// What a recovery of these files comes to.
 fn found_in<'a, R: Files + AllocGlobal + Clock, M: Count, E: Write>(
     job: &Job<'a, R, M>,
@@ -190,9 +205,13 @@ where
         job.rt,
         &source.paths,
         options.super_journal,
-        options.at,
+        options.front,
         notes,
     )?;
+    match judge_files(&files, options.at) {
+        Ok(()) => {}
+        Err(refusal) => return Err(refusal),
+    }
     meter.begin(log_reads(files.wal.len(), files.journal.len()));
     match content_of(job.rt.alloc(), all_metered(files, meter), options) {
         Ok((outcome, content)) => Ok(Found {
@@ -216,7 +235,8 @@ fn log_reads(wal: u64, journal: u64) -> u64
     }
 }
 
-/// What a recovery of opened files comes to, and leaves in the database file, as it is planned.
+/// What a recovery of opened files comes to, and leaves in the database file: at the commit that is asked for,
+/// otherwise as it is planned.
 fn content_of<'a, F: FileBytes + Drop, M: Count>(
     alloc: Global,
     files: Contents<Metered<'a, F, M>>,
@@ -226,6 +246,47 @@ fn content_of<'a, F: FileBytes + Drop, M: Count>(
         (λ found. IsCopyOf options (F.bytes files.entry.db.file) (F.bytes files.entry.wal.file)
         (F.bytes files.entry.journal.file) found.0 (content_bytes F.bytes found.1))
         (IsUncopied options (F.bytes files.entry.db.file) (F.bytes files.entry.wal.file)
+        (F.bytes files.entry.journal.file)) }
+{
+    match options.at {
+        Some(frame) => at_commit(alloc, limits_of(options), files, frame),
+        None => as_planned(alloc, files, options),
+    }
+}
+
+/// The database at this commit, whatever was copied into the file since.
+fn at_commit<'a, F: FileBytes + Drop, M: Count>(
+    alloc: Global,
+    limits: Limits,
+    files: Contents<Metered<'a, F, M>>,
+    frame: u32,
+) -> Recovered<'a, F, M>
+    ensures { AreGiven (λ file. F.gives_bytes file.file) files.entry → MatchResult result
+        (λ found. HasPast frame (F.bytes files.entry.db.file) (F.bytes files.entry.wal.file)
+        (F.bytes files.entry.journal.file) found.0 (content_bytes F.bytes found.1))
+        (IsUnpast limits frame (F.bytes files.entry.db.file) (F.bytes files.entry.wal.file)
+        (F.bytes files.entry.journal.file)) }
+{
+    let Contents { db, wal, journal } = all_ahead(alloc, files, PIECE)?;
+    match view_of(alloc, limits, db, wal, journal, Commit::At(frame)) {
+        Ok(view) => {
+            let pages = view.count();
+            Ok((folded_as(frame, pages), Content::Pages(view)))
+        }
+        Err(error) => Err(Refusal::from(error)),
+    }
+}
+
+/// What a recovery of opened files comes to as it is planned, where no commit is asked for.
+fn as_planned<'a, F: FileBytes + Drop, M: Count>(
+    alloc: Global,
+    files: Contents<Metered<'a, F, M>>,
+    options: Options,
+) -> Recovered<'a, F, M>
+    ensures { AreGiven (λ file. F.gives_bytes file.file) files.entry → MatchResult result
+        (λ found. IsPlannedCopy options (F.bytes files.entry.db.file) (F.bytes files.entry.wal.file)
+        (F.bytes files.entry.journal.file) found.0 (content_bytes F.bytes found.1))
+        (IsUnplannedCopy options (F.bytes files.entry.db.file) (F.bytes files.entry.wal.file)
         (F.bytes files.entry.journal.file)) }
 {
     let mut files = files;
@@ -247,13 +308,13 @@ fn content_by<'a, F: FileBytes + Drop, M: Count>(
     ensures { AreGiven (λ file. F.gives_bytes file.file) files.entry
         → IsPlanOf options (F.bytes files.entry.db.file) (F.bytes files.entry.wal.file)
         (F.bytes files.entry.journal.file) plan
-        → MatchResult result (λ found. HasCopy options.at (F.bytes files.entry.db.file) (F.bytes files.entry.wal.file)
-        (F.bytes files.entry.journal.file) plan found.0 (content_bytes F.bytes found.1))
-        (IsUncopied options (F.bytes files.entry.db.file) (F.bytes files.entry.wal.file)
+        → MatchResult result (λ found. HasCopy options.front (F.bytes files.entry.db.file)
+        (F.bytes files.entry.wal.file) (F.bytes files.entry.journal.file) plan found.0 (content_bytes F.bytes found.1))
+        (IsUnplannedCopy options (F.bytes files.entry.db.file) (F.bytes files.entry.wal.file)
         (F.bytes files.entry.journal.file)) }
 {
     match plan {
-        Recovery::Nothing => Ok((left_as(options.at), as_it_stands(files))),
+        Recovery::Nothing => Ok((left_as(options.front), as_it_stands(files))),
         Recovery::Empty => Ok((Outcome::NoFront, as_it_stands(files))),
         Recovery::Fold(_, scan) => folded(alloc, options, files, scan),
         Recovery::RollBack => rolled_back(alloc, limits_of(options), files),
@@ -261,10 +322,10 @@ fn content_by<'a, F: FileBytes + Drop, M: Count>(
 }
 
 /// What it comes to where nothing is done.
-fn left_as(at: Option<u32>) -> Outcome
-    ensures { result ≡ left_as at }
+fn left_as(front: Option<u32>) -> Outcome
+    ensures { result ≡ left_as front }
 {
-    match at {
+    match front {
         None => Outcome::Nothing,
         Some(_) => Outcome::NoFront,
     }
@@ -297,7 +358,7 @@ fn scan_or<F: FileBytes>(
     }
 }
 
-/// What is left where a log is folded, up to the commit that is asked for or the front.
+/// What is left where a log is folded, up to the front that its index names or to its own.
 fn folded<'a, F: FileBytes + Drop, M: Count>(
     alloc: Global,
     options: Options,
@@ -307,7 +368,7 @@ fn folded<'a, F: FileBytes + Drop, M: Count>(
     ensures { (size : ℕ) → AreGiven (λ file. F.gives_bytes file.file) files.entry
         → FoldsAt options (F.bytes files.entry.db.file) (F.bytes files.entry.wal.file)
         (F.bytes files.entry.journal.file) size scan
-        → MatchResult result (λ found. HasFold options.at size (F.bytes files.entry.db.file)
+        → MatchResult result (λ found. HasFold options.front size (F.bytes files.entry.db.file)
         (F.bytes files.entry.wal.file) (F.bytes files.entry.journal.file) found.0 (content_bytes F.bytes found.1))
         (IsUnfolded options size (F.bytes files.entry.db.file) (F.bytes files.entry.wal.file)
         (F.bytes files.entry.journal.file)) }
@@ -320,7 +381,7 @@ fn folded<'a, F: FileBytes + Drop, M: Count>(
     if front == 0 {
         return Ok((Outcome::NoFront, as_it_stands(files)));
     }
-    folded_to(alloc, limits, files, &scan, options.at.unwrap_or(front))
+    folded_to(alloc, limits, files, &scan, options.front.unwrap_or(front))
 }
 
 /// What is left where a log with this scan is folded up to a commit frame.
@@ -366,7 +427,7 @@ fn rolled_back<'a, F: FileBytes + Drop, M: Count>(
     let mut files = files;
     let records = replayed(alloc, &mut files.journal)?.count();
     let Contents { db, wal, journal } = all_ahead(alloc, files, PIECE)?;
-    match view_of(alloc, limits, db, wal, journal, None) {
+    match view_of(alloc, limits, db, wal, journal, Commit::Last) {
         Ok(view) => {
             let pages = view.count();
             Ok((Outcome::RolledBack { records, pages }, Content::Pages(view)))

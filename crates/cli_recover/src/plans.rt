@@ -1,10 +1,10 @@
 //! What a recovery does, as data: `recover` carries it out, and `--to` copies by it.
-ghost use Rattle.std.specs.Prelude.{◌≡◌, ◌≢◌, ◌↔◌, ℕ, suc, List, IfOk, IfSome, IsOkAnd, IsTrue};
+ghost use Rattle.std.specs.Prelude.{◌≡◌, ◌≢◌, ◌↔◌, ℕ, suc, List, IfOk, IfSome, IsOkAnd, IsTrue, MatchResult};
 ghost use Rattle.sqjournal.specs.declared.header.JournalHeader.{JournalHeader};
 ghost use Rattle.cli_show.specs.Contents.{KeepsBytes};
 ghost use Rattle.cli_show.specs.Limits.{limits_named};
 ghost use Rattle.sqwal.specs.Took.{TookWithin};
-ghost use Rattle.cli_recover.specs.Plans.{AreKept, HasOtherSize, IsCommitOf, PlansFold, RollsBack};
+ghost use Rattle.cli_recover.specs.Plans.{AreAlike, AreKept, AreUnlike, HasOtherSize, IsCommitOf, PlansFold, RollsBack};
 ghost use Rattle.cli_recover.specs.internal.Scans.{FoldsByFront, FoldsBySize, NamesSize, ScansLog, ScansTo};
 
 use cli_facts::Refusal;
@@ -20,38 +20,39 @@ use std::alloc::Global;
 /// What a recovery does.
 #[derive(Drop)]
 pub enum Recovery {
-    /// Nothing: no log counts, or the file is asked for without it.
+    /// Nothing: no log counts, or by its index none of its frames does.
     Nothing,
     /// It empties the write-ahead log, whose header isn't valid, so that no frame counts.
     Empty,
-    /// It folds the write-ahead log, of pages of this size, into the database file, up to its front or the commit that
-    /// is asked for, and empties it. With its scan, where one was made.
+    /// It folds the write-ahead log, of pages of this size, into the database file, up to its front, and empties it.
+    /// With its scan, where one was made.
     Fold(PageSize, Option<Scan>),
     /// It replays the hot journal into the database file, and zeroes the journal's header.
     RollBack,
 }
 
-/// What a recovery does of files of which this log counts. Refused by `UnknownLogVersion`, `PageSizesDiffer`,
-/// `NoSuchCommit`, `SuperJournal`, `TooLarge`, `NoMemory` and `FileFailed`. Of the write-ahead log no more than its
-/// header is read, but where a commit is asked for, or the database file names another page size.
+/// What a recovery does of files of which this log counts, if no commit is asked for: up to the front that the log's
+/// index names, or to its own. Refused by `UnknownLogVersion`, `PageSizesDiffer`, `SuperJournal`, `TooLarge`,
+/// `NoMemory` and `FileFailed`, and by `NoSuchCommit` if the log has no commit at that front. Of the write-ahead log no
+/// more than its header is read, but where its index names a front, or the database file another page size.
 pub fn plan_recovery<F: FileBytes>(
     alloc: Global,
     options: Options,
     in_use: LogInUse,
     files: &mut Contents<F>,
 ) -> Result<Recovery, Refusal>
-    ensures file { options.at ≡ Some 0 → result ≡ Ok Recovery.Nothing }
-    ensures nothing { in_use ≡ LogInUse.Neither → options.at ≡ None → result ≡ Ok Recovery.Nothing }
-    ensures journal { (header : JournalHeader) → in_use ≡ LogInUse.Journal header → options.at ≡ None
+    ensures file { options.front ≡ Some 0 → result ≡ Ok Recovery.Nothing }
+    ensures nothing { in_use ≡ LogInUse.Neither → options.front ≡ None → result ≡ Ok Recovery.Nothing }
+    ensures journal { (header : JournalHeader) → in_use ≡ LogInUse.Journal header → options.front ≡ None
         → F.gives_bytes files.old.journal → RollsBack options.super_journal (F.bytes files.old.journal) result }
-    ensures no_commit { (m : ℕ) → options.at ≡ Some (suc m) → in_use ≢ LogInUse.Wal
+    ensures no_commit { (m : ℕ) → options.front ≡ Some (suc m) → in_use ≢ LogInUse.Wal
         → result ≡ Err Refusal.NoSuchCommit }
-    ensures wal { in_use ≡ LogInUse.Wal → options.at ≢ Some 0 → F.gives_bytes files.old.db
+    ensures wal { in_use ≡ LogInUse.Wal → options.front ≢ Some 0 → F.gives_bytes files.old.db
         → F.gives_bytes files.old.wal
-        → PlansFold (limits_named options.large) options.at (F.bytes files.old.db) (F.bytes files.old.wal) result }
+        → PlansFold (limits_named options.large) options.front (F.bytes files.old.db) (F.bytes files.old.wal) result }
     ensures kept { AreKept F.bytes F.gives_bytes files.old files.new }
 {
-    match (in_use, options.at) {
+    match (in_use, options.front) {
         (_, Some(0)) | (LogInUse::Neither, None) => Ok(Recovery::Nothing),
         (LogInUse::Wal, _) => plan_fold(alloc, options, files),
         (_, Some(_)) => Err(Refusal::NoSuchCommit),
@@ -77,11 +78,11 @@ fn plan_fold<F: FileBytes>(
     files: &mut Contents<F>,
 ) -> Result<Recovery, Refusal>
     ensures plan { F.gives_bytes files.old.db → F.gives_bytes files.old.wal
-        → PlansFold (limits_named options.large) options.at (F.bytes files.old.db) (F.bytes files.old.wal) result }
+        → PlansFold (limits_named options.large) options.front (F.bytes files.old.db) (F.bytes files.old.wal) result }
     ensures kept { AreKept F.bytes F.gives_bytes files.old files.new }
 {
     let limits = limits_of(options);
-    match (log_page_size(&mut files.wal)?, options.at) {
+    match (log_page_size(&mut files.wal)?, options.front) {
         (None, None) => Ok(Recovery::Empty),
         (None, Some(_)) => Err(Refusal::NoSuchCommit),
         (Some(page_size), at) => {
@@ -92,7 +93,7 @@ fn plan_fold<F: FileBytes>(
     }
 }
 
-/// The scan of a log where this commit of it is asked for. Refused by `NoSuchCommit` where it has none there.
+/// The scan of a log of which the index names this front. Refused by `NoSuchCommit` where it has no commit there.
 fn scan_to<F: FileBytes>(
     alloc: Global,
     limits: Limits,
@@ -174,6 +175,28 @@ fn is_commit(scan: &Scan, frame: u32) -> bool
     match scan.entry(frame as usize) {
         Some(entry) => entry.size != 0,
         None => false,
+    }
+}
+
+/// That a database file names no page size other than its log, of which this commit is asked for. Refused by
+/// `PageSizesDiffer`, and by `UnknownLogVersion`.
+pub(crate) fn judge_sizes<D: FileBytes, W: FileBytes>(
+    db: &mut D,
+    wal: &mut W,
+    at: Option<u32>,
+) -> Result<(), Refusal>
+    ensures { D.gives_bytes db.old → W.gives_bytes wal.old → MatchResult result
+        (λ _. AreAlike at (D.bytes db.old) (W.bytes wal.old)) (AreUnlike (D.bytes db.old) (W.bytes wal.old)) }
+{
+    if at.unwrap_or(0) == 0 {
+        return Ok(());
+    }
+    let Some(size) = log_page_size(wal)? else {
+        return Ok(());
+    };
+    match has_other_size(db, size)? {
+        true => Err(Refusal::PageSizesDiffer),
+        false => Ok(()),
     }
 }
 

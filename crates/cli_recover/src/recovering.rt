@@ -80,7 +80,7 @@ where
         of.entry.0.now of.entry.2 result (O.contents out.old) (O.contents out.new) }
 {
     let (file, forced, mut options) = of;
-    options.at = None;
+    options.front = None;
     let source = Source {
         file,
         paths: paths_of(rt, file, notes)?,
@@ -113,7 +113,7 @@ fn recovered<R: Files + AllocGlobal, D: Over<R::File>, M: Count, E: Write>(
 ) -> Result<Outcome, Refusal>
 where
     R::File: SystemFile,
-    ensures recovered { job.entry.now.source.now.options.at ≡ None
+    ensures recovered { job.entry.now.source.now.options.front ≡ None
         → IfOk result (IsRecoveredOn (opened_bytes R.File.bytes)
         (GivesBytes R.File.bytes R.File.keeps_word R.File.never_fails) D.keeps_word D.state (forced ≡ true)
         job.entry.now.source.now.paths job.entry.now.source.now.options) }
@@ -147,7 +147,7 @@ fn recovered_by<R: Files + AllocGlobal, D: Over<R::File>, G: Gate, M: Count, E: 
 ) -> Result<Outcome, Refusal>
 where
     R::File: SystemFile,
-    ensures recovered { job.entry.now.source.now.options.at ≡ None
+    ensures recovered { job.entry.now.source.now.options.front ≡ None
         → IfOk result (IsRecoveredOn (opened_bytes R.File.bytes)
         (GivesBytes R.File.bytes R.File.keeps_word R.File.never_fails) D.keeps_word D.state (G.lets_change guard)
         job.entry.now.source.now.paths job.entry.now.source.now.options) }

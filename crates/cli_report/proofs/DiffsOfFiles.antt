@@ -1,5 +1,5 @@
 -- What a diff comes to, by what was shown of the files that were opened for it.
-use Rattle.std.proofs.Common.{◌≡◌, ◌⊎◌, inl, inr, ⊎_elim, ℕ, Bool, true, false, List, Option, Some, sym, subst}
+use Rattle.std.proofs.Common.{◌≡◌, ◌⊎◌, inl, inr, ⊎_elim, ℕ, Bool, true, false, List, Option, sym, subst}
 use Rattle.std.specs.Prelude.{Result, Ok, Err, IfErr, IfOk, IsErrAnd}
 use Rattle.cli_words.specs.declared.requests.Between.{Between}
 use Rattle.cli_words.specs.declared.requests.Compared.{Compared}
@@ -11,14 +11,14 @@ use Rattle.sqview.proofs.file.HeldPartOfFile.{holds_nothing}
 use Rattle.cli_files.specs.Refusals.{IsFromWatch}
 use Rattle.cli_files.specs.declared.opened_file.OpenedFile.{OpenedFile}
 use Rattle.cli_show.specs.Contents.{AreGiven, AreUnread, contents_of}
-use Rattle.cli_show.specs.Limits.{limits_named}
 use Rattle.cli_show.specs.declared.contents.Contents.{Contents}
 use Rattle.cli_dump.specs.Changes.{AreChangesShown, IsUncompared}
 use Rattle.cli_dump.specs.DeletedChanges.{AreDeletedChangesShown, IsUnbetween}
 use Rattle.cli_dump.specs.History.{IsHistoryRefused, IsHistoryShown}
 use Rattle.cli_dump.specs.declared.rows.Printed.{Printed}
+use Rattle.cli_job.specs.Opened.{AreOpenedFor}
 use Rattle.cli_job.specs.declared.sources.Source.{Source}
-use Rattle.cli_report.specs.Diffs.{AreOpenedAt, ComparesOpened, Diffs, FollowsOpened, RowsOpened, ShowsBetween, ShowsChanges, ShowsDeleted, ShowsHistory, first_of, last_of, lent_bytes}
+use Rattle.cli_report.specs.Diffs.{ComparesOpened, Diffs, FollowsOpened, RowsOpened, ShowsBetween, ShowsChanges, ShowsDeleted, ShowsHistory, lent_bytes}
 use Rattle.cli_report.specs.internal.Diffs.{AreNew, Compares, files_ahead}
 use Rattle.cli_report.specs.declared.difference.Difference.{Difference}
 use Rattle.cli_report.specs.declared.difference.Difference.TheVariants.{Rows}
@@ -34,12 +34,12 @@ if_err (Ok value) so is = tt
 if_err (Err error) so is = so error is
 
 -- files that are read ahead are those that were opened, and nothing was read of them yet
-pub opened_ahead : {F : Type 0} (source : Source) (at : Option ℕ) (files : Contents (OpenedFile F)) (ahead : Contents (ReadAhead (OpenedFile F))) {most : ℕ} → AreUnread files most ahead
-    → AreOpenedAt source at files → AreOpenedAt source at (files_ahead ahead)
-opened_ahead {F} source at files ahead unread opened =
-    let by_db = subst (λ (x : OpenedFile F). AreOpenedAt source at (record { db = x; wal = files.wal; journal = files.journal })) (sym unread.db.same) opened in
-    let by_wal = subst (λ (x : OpenedFile F). AreOpenedAt source at (record { db = ahead.db.file; wal = x; journal = files.journal })) (sym unread.wal.same) by_db in
-    subst (λ (x : OpenedFile F). AreOpenedAt source at (record { db = ahead.db.file; wal = ahead.wal.file; journal = x })) (sym unread.journal.same) by_wal
+pub opened_ahead : {F : Type 0} (source : Source) (files : Contents (OpenedFile F)) (ahead : Contents (ReadAhead (OpenedFile F))) {most : ℕ} → AreUnread files most ahead
+    → AreOpenedFor false source files → AreOpenedFor false source (files_ahead ahead)
+opened_ahead {F} source files ahead unread opened =
+    let by_db = subst (λ (x : OpenedFile F). AreOpenedFor false source (record { db = x; wal = files.wal; journal = files.journal })) (sym unread.db.same) opened in
+    let by_wal = subst (λ (x : OpenedFile F). AreOpenedFor false source (record { db = ahead.db.file; wal = x; journal = files.journal })) (sym unread.wal.same) by_db in
+    subst (λ (x : OpenedFile F). AreOpenedFor false source (record { db = ahead.db.file; wal = ahead.wal.file; journal = x })) (sym unread.journal.same) by_wal
 
 pub new_ahead : {F : Type 0} (files : Contents (OpenedFile F)) (ahead : Contents (ReadAhead (OpenedFile F))) {most : ℕ} → AreUnread files most ahead → AreNew ahead
 new_ahead files ahead unread = (unread.db.nothing, unread.wal.nothing, unread.journal.nothing)
@@ -56,13 +56,13 @@ new_gives bytes gives files new given = (
 
 -- the changes of rows, and those of deleted cells
 module _ (options : Options) (from to : Contents (List ℕ)) (before after : Option (List ℕ)) where
-  pub rows_shown : (compared : Compared) (found : Result Printed Refusal) → IfOk found (λ printed. AreChangesShown compared from to before after printed.ended)
+  pub rows_shown : (compared : Compared) (found : Result Printed Refusal) → IfOk found (λ printed. AreChangesShown options compared from to before after printed.ended)
       → IfErr found (IsUncompared options compared from to) → ShowsChanges options compared from to found
   rows_shown compared (Ok printed) is _ = (before, after, is)
   rows_shown compared (Err refusal) _ is = is
 
   pub deleted_shown : (between : Between) (found : Result Printed Refusal)
-      → IfOk found (λ printed. AreDeletedChangesShown options.style between from to before after printed.ended)
+      → IfOk found (λ printed. AreDeletedChangesShown options between from to before after printed.ended)
       → IfErr found (IsUnbetween options between from to) → ShowsDeleted options between from to found
   deleted_shown between (Ok printed) is _ = (before, after, is)
   deleted_shown between (Err refusal) _ is = is
@@ -76,11 +76,11 @@ module _ {F : Type 0} (bytes : OpenedFile F → List ℕ) (gives : OpenedFile F 
     where
       watched : (answer : Result Printed Refusal) → IsErrAnd answer IsFromWatch → Diffs bytes gives source difference answer
       watched (Ok printed) is = absurd is
-      watched (Err refusal) is = inr (inr (inr is))
+      watched (Err refusal) is = inr (inr is)
 
   -- the changes of each commit
-  pub follows : (compared : Compared) (files : Contents (OpenedFile F)) (found : Result Printed Refusal) (before after : Option (List ℕ)) → AreOpenedAt source compared.to files
-      → (AreGiven gives files → IfOk found (λ printed. IsHistoryShown (limits_named source.options.large) (lent_bytes (contents_of bytes files)) compared before after printed.ended))
+  pub follows : (compared : Compared) (files : Contents (OpenedFile F)) (found : Result Printed Refusal) (before after : Option (List ℕ)) → AreOpenedFor false source files
+      → (AreGiven gives files → IfOk found (λ printed. IsHistoryShown source.options (lent_bytes (contents_of bytes files)) compared before after printed.ended))
       → (AreGiven gives files → IfErr found (IsHistoryRefused source.options (lent_bytes (contents_of bytes files)) compared before after))
       → compared.commits ≡ true → Diffs bytes gives source (Rows compared) found
   follows compared files found before after opened shown refused asked =
@@ -88,25 +88,24 @@ module _ {F : Type 0} (bytes : OpenedFile F → List ℕ) (gives : OpenedFile F 
       inl (subst (λ (commits : Bool). RowsOpened bytes gives commits source compared found) (sym asked) is)
     where
       shows : (found : Result Printed Refusal)
-          → IfOk found (λ printed. IsHistoryShown (limits_named source.options.large) (lent_bytes (contents_of bytes files)) compared before after printed.ended)
+          → IfOk found (λ printed. IsHistoryShown source.options (lent_bytes (contents_of bytes files)) compared before after printed.ended)
           → IfErr found (IsHistoryRefused source.options (lent_bytes (contents_of bytes files)) compared before after)
           → ShowsHistory source.options compared (contents_of bytes files) found
       shows (Ok printed) is _ = (before, after, is)
       shows (Err refusal) _ is = (before, after, is)
 
   -- those between both
-  pub compares : (difference : Difference) (first : ℕ) (last : Option ℕ) (old new : Contents (ReadAhead (OpenedFile F))) (found : Result Printed Refusal)
-      → first ≡ first_of difference → last ≡ last_of difference
-      → AreOpenedAt source (Some first) (files_ahead old) → AreNew old → AreOpenedAt source last (files_ahead new) → AreNew new
+  pub compares : (difference : Difference) (old new : Contents (ReadAhead (OpenedFile F))) (found : Result Printed Refusal)
+      → AreOpenedFor false source (files_ahead old) → AreNew old → AreOpenedFor false source (files_ahead new) → AreNew new
       → (AreGiven (λ (a : ReadAhead (OpenedFile F)). gives a.file × HoldsPart (bytes a.file) a.from a.held a.piece.items) old
       → AreGiven (λ (a : ReadAhead (OpenedFile F)). gives a.file × HoldsPart (bytes a.file) a.from a.held a.piece.items) new
       → ShowsBetween source.options difference (contents_of bytes (files_ahead old)) (contents_of bytes (files_ahead new)) found)
       → ComparesOpened bytes gives source difference found
-  compares difference first last old new found is_first is_last old_opened old_new new_opened new_new shows = record {
+  compares difference old new found old_opened old_new new_opened new_new shows = record {
     old = files_ahead old;
     new = files_ahead new;
-    old_opened = subst (λ (n : ℕ). AreOpenedAt source (Some n) (files_ahead old)) is_first old_opened;
-    new_opened = subst (λ (at : Option ℕ). AreOpenedAt source at (files_ahead new)) is_last new_opened;
+    old_opened = old_opened;
+    new_opened = new_opened;
     shows = λ given also. shows (new_gives bytes gives old old_new given) (new_gives bytes gives new new_new also);
   }
 

@@ -4,6 +4,8 @@ use Rattle.std.specs.Prelude.{Result, Ok, Err, IfErr, IfOk, IsErrAnd, MatchResul
 use Rattle.std.specs.Io.KnownBytes.{Appends}
 use Rattle.sqval.specs.Limits.{Bounds}
 use Rattle.sqview.specs.internal.Laid.{HoldsPart}
+use Rattle.cli_words.specs.Commits.{commit_named}
+use Rattle.cli_words.specs.declared.requests.Commit.{Commit}
 use Rattle.cli_facts.specs.Runs.{expanded}
 use Rattle.cli_facts.specs.declared.outcome.Refusal.{Refusal}
 use Rattle.cli_files.specs.NewFiles.{IsBegunFile}
@@ -44,7 +46,7 @@ use Rattle.cli_report.specs.declared.pages.Template.{Template}
 -- the facts of what a survey of counted files found are those of the ones that were opened
 pub facts_are : {F M : Type 0} (bytes : OpenedFile F → List ℕ) (gives : OpenedFile F → Type 0) (source : Source) (asked : Asked) (files : Contents (Counted F M)) (found : Found (Counted F M))
     (log : LogFound) (made : Result (ReportFacts (Counted F M)) Refusal)
-    → asked.limits ≡ limits_named source.options.large → asked.at ≡ source.options.at → asked.maps.pointer_maps ≡ source.options.pointer_maps
+    → asked.limits ≡ limits_named source.options.large → asked.at ≡ commit_named source.options → asked.maps.pointer_maps ≡ source.options.pointer_maps
     → AreOpenedFor false source (all_opened files) → AreFresh files
     → (AreGiven (λ (file : Counted F M). gives (opened_of file) × HoldsPart (bytes (opened_of file)) file.file.from file.file.held file.file.piece.items) files
     → IsFoundOf asked.maps.pointer_maps asked.limits (λ (file : Counted F M). bytes (opened_of file)) asked.at (contents_of bytes (all_opened files)) found)
@@ -65,12 +67,12 @@ facts_are {F} {M} bytes gives source asked files found log (Ok facts) limits at 
     all = contents_of bytes (all_opened files)
 
     as_asked : AreGiven gives (all_opened files)
-        → IsFoundOf source.options.pointer_maps (limits_named source.options.large) (λ (file : Counted F M). bytes (opened_of file)) source.options.at all found
+        → IsFoundOf source.options.pointer_maps (limits_named source.options.large) (λ (file : Counted F M). bytes (opened_of file)) (commit_named source.options) all found
     as_asked given =
         let by_limits = subst (λ (l : Bounds). IsFoundOf asked.maps.pointer_maps l (λ (file : Counted F M). bytes (opened_of file)) asked.at all found) limits
         (is (fresh_gives bytes gives files fresh given)) in
-        let by_commit = subst (λ (o : Option ℕ). IsFoundOf asked.maps.pointer_maps (limits_named source.options.large) (λ (file : Counted F M). bytes (opened_of file)) o all found) at by_limits in
-        subst (λ (b : Bool). IsFoundOf b (limits_named source.options.large) (λ (file : Counted F M). bytes (opened_of file)) source.options.at all found) maps by_commit
+        let by_commit = subst (λ (o : Commit). IsFoundOf asked.maps.pointer_maps (limits_named source.options.large) (λ (file : Counted F M). bytes (opened_of file)) o all found) at by_limits in
+        subst (λ (b : Bool). IsFoundOf b (limits_named source.options.large) (λ (file : Counted F M). bytes (opened_of file)) (commit_named source.options) all found) maps by_commit
 
 -- the pages of what such facts are of were surveyed
 surveyed_of : {F M : Type 0} (bytes : OpenedFile F → List ℕ) (gives : OpenedFile F → Type 0) (source : Source) (facts : ReportFacts (Counted F M)) → AreFactsOf bytes gives source facts
@@ -80,13 +82,13 @@ surveyed_of {F} {M} bytes gives source facts are = record {
   opened = are.opened;
   surveyed = λ given. (
     fault_in are.found,
-    fault_had source.options.pointer_maps (limits_named source.options.large) (λ (file : Counted F M). bytes (opened_of file)) source.options.at (contents_of bytes are.files) are.found (are.surveyed given),
+    fault_had source.options.pointer_maps (limits_named source.options.large) (λ (file : Counted F M). bytes (opened_of file)) (commit_named source.options) (contents_of bytes are.files) are.found (are.surveyed given),
   );
 }
 
 -- files that were counted of which nothing is found
 pub unfound_of : {F M : Type 0} (bytes : OpenedFile F → List ℕ) (gives : OpenedFile F → Type 0) (source : Source) (asked : Asked) (files : Contents (Counted F M)) (refusal : Refusal)
-    → asked.limits ≡ limits_named source.options.large → asked.at ≡ source.options.at → asked.maps.pointer_maps ≡ source.options.pointer_maps
+    → asked.limits ≡ limits_named source.options.large → asked.at ≡ commit_named source.options → asked.maps.pointer_maps ≡ source.options.pointer_maps
     → AreOpenedFor false source (all_opened files) → AreFresh files
     → (AreGiven (λ (file : Counted F M). gives (opened_of file) × HoldsPart (bytes (opened_of file)) file.file.from file.file.held file.file.piece.items) files
     → IsUnfound asked.maps.pointer_maps asked.limits asked.at (contents_of bytes (all_opened files)) refusal)
@@ -100,11 +102,11 @@ unfound_of {F} {M} bytes gives source asked files refusal limits at maps opened 
     all : Contents (List ℕ)
     all = contents_of bytes (all_opened files)
 
-    as_asked : AreGiven gives (all_opened files) → IsUnfound source.options.pointer_maps (limits_named source.options.large) source.options.at all refusal
+    as_asked : AreGiven gives (all_opened files) → IsUnfound source.options.pointer_maps (limits_named source.options.large) (commit_named source.options) all refusal
     as_asked given =
         let by_limits = subst (λ (l : Bounds). IsUnfound asked.maps.pointer_maps l asked.at all refusal) limits (is (fresh_gives bytes gives files fresh given)) in
-        let by_commit = subst (λ (o : Option ℕ). IsUnfound asked.maps.pointer_maps (limits_named source.options.large) o all refusal) at by_limits in
-        subst (λ (b : Bool). IsUnfound b (limits_named source.options.large) source.options.at all refusal) maps by_commit
+        let by_commit = subst (λ (o : Commit). IsUnfound asked.maps.pointer_maps (limits_named source.options.large) o all refusal) at by_limits in
+        subst (λ (b : Bool). IsUnfound b (limits_named source.options.large) (commit_named source.options) all refusal) maps by_commit
 
 module _ {F A : Type 0} (bytes : OpenedFile F → List ℕ) (gives : OpenedFile F → Type 0) (source : Source) where
   -- what is shown stands, or the watch refuses it
@@ -142,7 +144,7 @@ changes_unread bytes gives source files (Err refusal) opened read = inr (inr (in
 -- the log that was found of logs that lie beside the file
 pub log_shown : {F : Type 0} (P : Refusal → Type 0) (bytes : OpenedFile F → List ℕ) (gives : OpenedFile F → Type 0) (source : Source) (found : Beheld) (wal journal : OpenedFile F)
     (answer : Result LogFound Refusal) → AreLogsOf source.paths source.options.super_journal found wal journal
-    → (gives wal → gives journal → MatchResult answer (IsLogIn (limits_named source.options.large) source.options.at (bytes wal) (bytes journal)) P) → IfOk answer (IsLogOf bytes gives source)
+    → (gives wal → gives journal → MatchResult answer (IsLogIn (limits_named source.options.large) source.options.front (bytes wal) (bytes journal)) P) → IfOk answer (IsLogOf bytes gives source)
 log_shown P bytes gives source found wal journal (Ok log) opened read = record { found = found; wal = wal; journal = journal; opened = opened; counts = read }
 log_shown P bytes gives source found wal journal (Err refusal) opened read = tt
 
@@ -173,7 +175,7 @@ pub page_printed : {R F M : Type 0} (bytes : OpenedFile F → List ℕ) (gives :
 page_printed bytes gives template job with_changes shown (Ok answer) before after is page = (
   shown,
   is,
-  λ wal journal. page (limits_named job.source.now.options.large) job.source.now.options.at (bytes is.facts.log.wal) (bytes is.facts.log.journal) (is.facts.log.counts wal journal),
+  λ wal journal. page (limits_named job.source.now.options.large) job.source.now.options.front (bytes is.facts.log.wal) (bytes is.facts.log.journal) (is.facts.log.counts wal journal),
 )
 page_printed bytes gives template job with_changes shown (Err error) before after is page = tt
 

@@ -1,6 +1,7 @@
 -- What a salvage comes to, by the script that was written.
 use Rattle.std.proofs.Common.{◌≡◌, ◌⊎◌, inl, inr, ⊎_elim, ℕ, List, Option, refl, sym, subst, true≢false}
 use Rattle.std.specs.Prelude.{Bool, false, Result, Ok, Err, IfOk, IsErr, IsOk}
+use Rattle.cli_words.specs.Commits.{commit_named}
 use Rattle.cli_facts.specs.declared.outcome.Refusal.{Refusal}
 use Rattle.cli_show_rows.specs.declared.stop.Stop.{Stop}
 use Rattle.sqview.specs.internal.Laid.{HoldsPart}
@@ -23,7 +24,7 @@ use Rattle.cli_job.proofs.OpenedLooks.{fresh_gives}
 pub scripts_of : {F M : Type 0} (bytes : OpenedFile F → List ℕ) (gives : OpenedFile F → Type 0) (source : Source) (places : Bool) (files : Contents (Counted F M))
     (found : Result Salvaged Refusal) (before after : Option (List ℕ)) → AreOpenedFor false source (all_opened files) → AreFresh files
     → (AreGiven (λ (file : Counted F M). gives (opened_of file) × HoldsPart (bytes (opened_of file)) file.file.from file.file.held file.file.piece.items) files
-    → IfOk found (λ salvaged. IsSalvageShown source.options.at places (bytes (opened_of files.db)) (bytes (opened_of files.wal)) (bytes (opened_of files.journal)) before after salvaged.ended))
+    → IfOk found (λ salvaged. IsSalvageShown (commit_named source.options) places (bytes (opened_of files.db)) (bytes (opened_of files.wal)) (bytes (opened_of files.journal)) before after salvaged.ended))
     → IfOk found (λ salvaged. Scripts bytes gives source places salvaged.ended)
 scripts_of bytes gives source places files (Ok salvaged) before after opened fresh shown = inl (record {
   files = all_opened files;

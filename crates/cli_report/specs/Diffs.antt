@@ -1,5 +1,5 @@
 -- What a diff comes to, by the changes of the files that were opened for it (own).
-use Rattle.std.specs.Prelude.{◌⊎◌, ℕ, Bool, true, false, List, Option, Some, Result, Ok, Err, IsErrAnd}
+use Rattle.std.specs.Prelude.{◌⊎◌, ℕ, Bool, true, false, List, Option, Result, Ok, Err, IsErrAnd}
 use Rattle.cli_words.specs.declared.requests.Between.{Between}
 use Rattle.cli_words.specs.declared.requests.Compared.{Compared}
 use Rattle.cli_words.specs.declared.requests.Options.{Options}
@@ -7,7 +7,6 @@ use Rattle.cli_facts.specs.declared.outcome.Refusal.{Refusal}
 use Rattle.cli_files.specs.Refusals.{IsFromWatch}
 use Rattle.cli_files.specs.declared.opened_file.OpenedFile.{OpenedFile}
 use Rattle.cli_show.specs.Contents.{AreGiven, contents_of}
-use Rattle.cli_show.specs.Limits.{limits_named}
 use Rattle.cli_show.specs.declared.contents.Contents.{Contents}
 use Rattle.cli_show.specs.declared.error.ShowError.{ShowError}
 use Rattle.cli_show.specs.declared.error.ShowError.TheVariants as errors
@@ -17,26 +16,11 @@ use Rattle.cli_dump.specs.DeletedChanges.{AreDeletedChangesShown, IsUnbetween}
 use Rattle.cli_dump.specs.History.{IsHistoryRefused, IsHistoryShown}
 use Rattle.cli_dump.specs.declared.rows.Printed.{Printed}
 use Rattle.cli_job.specs.Answers.{Tells, answer_of_rows}
-use Rattle.cli_job.specs.Opened.{AreOpened, IsUnopened}
+use Rattle.cli_job.specs.Opened.{AreOpenedFor, IsUnopenedFor}
 use Rattle.cli_job.specs.declared.answers.Answer.{Answer}
 use Rattle.cli_job.specs.declared.sources.Source.{Source}
 use Rattle.cli_report.specs.declared.difference.Difference.{Difference}
 use Rattle.cli_report.specs.declared.difference.Difference.TheVariants.{Rows, Deleted}
-
--- the commit from which on there is a difference
-abbrev pub first_of : Difference → ℕ
-first_of (Rows compared) = compared.from
-first_of (Deleted between) = between.from
-
--- the commit up to which; none: the last one
-abbrev pub last_of : Difference → Option ℕ
-last_of (Rows compared) = compared.to
-last_of (Deleted between) = between.to
-
--- the same up to this commit
-abbrev pub up_to : Difference → Option ℕ → Difference
-up_to (Rows compared) to = Rows (record compared { to = to })
-up_to (Deleted between) to = Deleted (record between { to = to })
 
 -- the bytes of files as the history of their log is read from them
 abbrev pub lent_bytes : Contents (List ℕ) → Files (List ℕ)
@@ -44,13 +28,13 @@ lent_bytes files = record { db = files.db; wal = files.wal; journal = files.jour
 
 -- Of files at both commits their changes are shown, to their end or up to a stop; or there is no view at one of both.
 abbrev pub ShowsChanges : Options → Compared → (from to : Contents (List ℕ)) → Result Printed Refusal → Type 0
-ShowsChanges options compared from to (Ok printed) = (before after : Option (List ℕ)) × AreChangesShown compared from to before after printed.ended
+ShowsChanges options compared from to (Ok printed) = (before after : Option (List ℕ)) × AreChangesShown options compared from to before after printed.ended
 ShowsChanges options compared from to (Err refusal) = IsUncompared options compared from to refusal
 
 -- The deleted cells that stand at one of both alone are shown so; or there is no view at one of both.
 abbrev pub ShowsDeleted : Options → Between → (from to : Contents (List ℕ)) → Result Printed Refusal → Type 0
 ShowsDeleted options between from to (Ok printed) =
-    (before after : Option (List ℕ)) × AreDeletedChangesShown options.style between from to before after printed.ended
+    (before after : Option (List ℕ)) × AreDeletedChangesShown options between from to before after printed.ended
 ShowsDeleted options between from to (Err refusal) = IsUnbetween options between from to refusal
 
 -- the changes of rows or of deleted cells, as they are asked for
@@ -61,27 +45,23 @@ ShowsBetween options (Deleted between) from to found = ShowsDeleted options betw
 -- Those of each commit between both are, or this is why they aren't.
 abbrev pub ShowsHistory : Options → Compared → (files : Contents (List ℕ)) → Result Printed Refusal → Type 0
 ShowsHistory options compared files (Ok printed) =
-    (before after : Option (List ℕ)) × IsHistoryShown (limits_named options.large) (lent_bytes files) compared before after printed.ended
+    (before after : Option (List ℕ)) × IsHistoryShown options (lent_bytes files) compared before after printed.ended
 ShowsHistory options compared files (Err refusal) = (before after : Option (List ℕ)) × IsHistoryRefused options (lent_bytes files) compared before after refusal
 
--- The files were opened at this commit.
-abbrev pub AreOpenedAt : {F : Type 0} → Source → (at : Option ℕ) → Contents (OpenedFile F) → Type 0
-AreOpenedAt source at files = AreOpened false source.paths source.options.super_journal at files
-
--- the changes are shown of files that were opened at each of both commits
+-- the changes are shown of files that were opened for each of both commits
 pub record ComparesOpened {F : Type 0} (bytes : OpenedFile F → List ℕ) (gives : OpenedFile F → Type 0) (source : Source) (difference : Difference)
     (found : Result Printed Refusal) : Type 0 where
   pub old : Contents (OpenedFile F)
   pub new : Contents (OpenedFile F)
-  pub old_opened : AreOpenedAt source (Some (first_of difference)) old
-  pub new_opened : AreOpenedAt source (last_of difference) new
+  pub old_opened : AreOpenedFor false source old
+  pub new_opened : AreOpenedFor false source new
   pub shows : AreGiven gives old → AreGiven gives new → ShowsBetween source.options difference (contents_of bytes old) (contents_of bytes new) found
 
--- those of each commit are of files that were opened at the later one
+-- those of each commit are of files that were opened once
 pub record FollowsOpened {F : Type 0} (bytes : OpenedFile F → List ℕ) (gives : OpenedFile F → Type 0) (source : Source) (compared : Compared)
     (found : Result Printed Refusal) : Type 0 where
   pub files : Contents (OpenedFile F)
-  pub opened : AreOpenedAt source compared.to files
+  pub opened : AreOpenedFor false source files
   pub shows : AreGiven gives files → ShowsHistory source.options compared (contents_of bytes files) found
 
 -- the one or the other of rows, as each commit's changes are asked for
@@ -94,21 +74,20 @@ abbrev pub DiffsOpened : {F : Type 0} → (bytes : OpenedFile F → List ℕ) �
 DiffsOpened bytes gives source (Rows compared) found = RowsOpened bytes gives compared.commits source compared found
 DiffsOpened bytes gives source (Deleted between) found = ComparesOpened bytes gives source (Deleted between) found
 
--- no files are opened at one of both commits, or files that are watched changed
-abbrev pub IsUndiffed : {F : Type 0} → (bytes : OpenedFile F → List ℕ) → (gives : OpenedFile F → Type 0) → Source → Difference → Refusal → Type 0
-IsUndiffed bytes gives source difference refusal = IsUnopened bytes gives source.paths source.options.super_journal (Some (first_of difference)) refusal
-    ⊎ (IsUnopened bytes gives source.paths source.options.super_journal (last_of difference) refusal ⊎ IsFromWatch refusal)
+-- no files are opened, or files that are watched changed
+abbrev pub IsUndiffed : {F : Type 0} → (bytes : OpenedFile F → List ℕ) → (gives : OpenedFile F → Type 0) → Source → Refusal → Type 0
+IsUndiffed bytes gives source refusal = IsUnopenedFor bytes gives source refusal ⊎ IsFromWatch refusal
 
 -- What is printed of the changes of a database.
 abbrev pub Diffs : {F : Type 0} → (bytes : OpenedFile F → List ℕ) → (gives : OpenedFile F → Type 0) → Source → Difference → Result Printed Refusal → Type 0
-Diffs bytes gives source difference found = DiffsOpened bytes gives source difference found ⊎ IsErrAnd found (IsUndiffed bytes gives source difference)
+Diffs bytes gives source difference found = DiffsOpened bytes gives source difference found ⊎ IsErrAnd found (IsUndiffed bytes gives source)
 
 -- what comes of it
 abbrev pub answer_of_printed : Result Printed Refusal → Result Answer ShowError
 answer_of_printed (Ok printed) = answer_of_rows printed.ended
 answer_of_printed (Err refusal) = Err (errors.Refused refusal)
 
--- What is told of a diff, up to the commit that is read of a source, is what comes of its changes.
+-- What is told of a diff is what comes of its changes.
 abbrev pub DiffsTo : {F : Type 0} → (bytes : OpenedFile F → List ℕ) → (gives : OpenedFile F → Type 0) → Source → Difference → Result Answer ShowError → Type 0
 DiffsTo bytes gives source difference answer =
-    (found : Result Printed Refusal) × Diffs bytes gives source (up_to difference source.options.at) found × Tells (answer_of_printed found) answer
+    (found : Result Printed Refusal) × Diffs bytes gives source difference found × Tells (answer_of_printed found) answer

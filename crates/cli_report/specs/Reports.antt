@@ -1,6 +1,7 @@
 -- What a report comes to, by the files that were opened for it (own).
 use Rattle.std.specs.Prelude.{◌≡◌, ◌⊎◌, ℕ, false, List, Option, Result, Ok, Err}
 use Rattle.sqpage.specs.declared.fault.CheckError.{CheckError}
+use Rattle.cli_words.specs.Commits.{commit_named}
 use Rattle.cli_facts.specs.declared.outcome.Refusal.{Refusal}
 use Rattle.cli_files.specs.Refusals.{IsFromWatch}
 use Rattle.cli_files.specs.declared.logs.Beheld.{Beheld}
@@ -23,14 +24,14 @@ pub record IsSurveyedOf {F : Type 0} (bytes : OpenedFile F → List ℕ) (gives 
   pub files : Contents (OpenedFile F)
   pub opened : AreOpenedFor false source files
   pub surveyed : AreGiven gives files
-      → (fault : Option CheckError) × HaveFault source.options.pointer_maps (limits_named source.options.large) source.options.at (contents_of bytes files) fault
+      → (fault : Option CheckError) × HaveFault source.options.pointer_maps (limits_named source.options.large) (commit_named source.options) (contents_of bytes files) fault
 
 -- Of such files nothing is found, or the changes of their log aren't read.
 pub record IsRefusedOf {F : Type 0} (bytes : OpenedFile F → List ℕ) (gives : OpenedFile F → Type 0) (source : Source) (refusal : Refusal) : Type 0 where
   pub files : Contents (OpenedFile F)
   pub opened : AreOpenedFor false source files
   pub refused : AreGiven gives files
-      → IsUnfound source.options.pointer_maps (limits_named source.options.large) source.options.at (contents_of bytes files) refusal
+      → IsUnfound source.options.pointer_maps (limits_named source.options.large) (commit_named source.options) (contents_of bytes files) refusal
       ⊎ IsUnreadLog (limits_named source.options.large) (bytes files.wal) (bytes files.journal) refusal
 
 -- The log isn't read of logs that lie beside the file.

@@ -1,5 +1,6 @@
 -- What a salvage comes to, by the script that is written of the files that were opened for it (own).
 use Rattle.std.specs.Prelude.{◌≡◌, ◌⊎◌, ℕ, Bool, false, List, Option, Result, Ok, IfOk, IsErr}
+use Rattle.cli_words.specs.Commits.{commit_named}
 use Rattle.cli_show_rows.specs.declared.stop.Stop.{Stop}
 use Rattle.cli_files.specs.declared.opened_file.OpenedFile.{OpenedFile}
 use Rattle.cli_show.specs.Contents.{AreGiven}
@@ -17,7 +18,7 @@ pub record ScriptsOpened {F : Type 0} (bytes : OpenedFile F → List ℕ) (gives
   pub files : Contents (OpenedFile F)
   pub opened : AreOpenedFor false source files
   pub scripts : AreGiven gives files
-      → (before after : Option (List ℕ)) × IsSalvageShown source.options.at places (bytes files.db) (bytes files.wal) (bytes files.journal) before after ended
+      → (before after : Option (List ℕ)) × IsSalvageShown (commit_named source.options) places (bytes files.db) (bytes files.wal) (bytes files.journal) before after ended
 
 -- one ended so, or it is refused for what stopped it
 abbrev pub Scripts : {F : Type 0} → (bytes : OpenedFile F → List ℕ) → (gives : OpenedFile F → Type 0) → Source → (places : Bool) → Result Bool Stop → Type 0

@@ -2,6 +2,7 @@
 use Rattle.std.specs.Prelude.{◌≡◌, ◌⊎◌, ℕ, Bool, true, false, List, [], map, Option, None, Some}
 use Rattle.sqval.specs.Limits.{Bounds}
 use Rattle.sqview.specs.Logs.{AreTwoLogs}
+use Rattle.cli_words.specs.Commits.{commit_named}
 use Rattle.cli_words.specs.declared.requests.Options.{Options}
 use Rattle.cli_facts.specs.Runs.{expanded}
 use Rattle.cli_files.specs.declared.logs.Beheld.{Beheld}
@@ -22,9 +23,9 @@ use Rattle.cli_job.specs.Opened.{AreLogsOf, AreOpenedFor, Counted, opened_of}
 use Rattle.cli_job.specs.declared.sources.Source.{Source}
 use Rattle.cli_report.specs.declared.pages.Shown.{Shown}
 
--- The log that counts of these; at 0, where two do, none.
-abbrev pub IsLogIn : Bounds → (at : Option ℕ) → (wal journal : List ℕ) → LogFound → Type 0
-IsLogIn limits at wal journal log = IsLogFound limits wal journal log ⊎ ((at ≡ Some 0) × (log ≡ logs.None) × AreTwoLogs wal journal)
+-- The log that counts of these; where two do, none if by the index no frame counts.
+abbrev pub IsLogIn : Bounds → (front : Option ℕ) → (wal journal : List ℕ) → LogFound → Type 0
+IsLogIn limits front wal journal log = IsLogFound limits wal journal log ⊎ ((front ≡ Some 0) × (log ≡ logs.None) × AreTwoLogs wal journal)
 
 -- That of logs which were opened beside the file of a source.
 pub record IsLogOf {F : Type 0} (bytes : OpenedFile F → List ℕ) (gives : OpenedFile F → Type 0) (source : Source) (log : LogFound) : Type 0 where
@@ -32,7 +33,7 @@ pub record IsLogOf {F : Type 0} (bytes : OpenedFile F → List ℕ) (gives : Ope
   pub wal : OpenedFile F
   pub journal : OpenedFile F
   pub opened : AreLogsOf source.paths source.options.super_journal found wal journal
-  pub counts : gives wal → gives journal → IsLogIn (limits_named source.options.large) source.options.at (bytes wal) (bytes journal) log
+  pub counts : gives wal → gives journal → IsLogIn (limits_named source.options.large) source.options.front (bytes wal) (bytes journal) log
 
 -- The facts of a report are those of what a survey finds of files that were opened for a source, and of such a log.
 pub record AreFactsOf {F M : Type 0} (bytes : OpenedFile F → List ℕ) (gives : OpenedFile F → Type 0) (source : Source) (facts : ReportFacts (Counted F M)) : Type 0 where
@@ -40,7 +41,7 @@ pub record AreFactsOf {F M : Type 0} (bytes : OpenedFile F → List ℕ) (gives 
   pub opened : AreOpenedFor false source files
   pub found : Found (Counted F M)
   pub surveyed : AreGiven gives files
-      → IsFoundOf source.options.pointer_maps (limits_named source.options.large) (λ file. bytes (opened_of file)) source.options.at (contents_of bytes files) found
+      → IsFoundOf source.options.pointer_maps (limits_named source.options.large) (λ file. bytes (opened_of file)) (commit_named source.options) (contents_of bytes files) found
   pub only_reads : OnlyReads found facts.found
   pub runs : map (λ used. used.role) (expanded facts.runs.items) ≡ roles_in found
   pub log : IsLogOf bytes gives source facts.log
@@ -48,7 +49,7 @@ pub record AreFactsOf {F M : Type 0} (bytes : OpenedFile F → List ℕ) (gives 
 -- The changes of the commits of files, as far as 4 MiB hold them.
 abbrev pub AreChangesIn : Options → (files : Contents (List ℕ)) → Kept → Type 0
 AreChangesIn options files kept =
-    IsHistoryKept (limits_named options.large) (record { db = files.db; wal = files.wal; journal = files.journal }) [] 4194304 options.at kept
+    IsHistoryKept (limits_named options.large) (record { db = files.db; wal = files.wal; journal = files.journal }) [] 4194304 (commit_named options) kept
 
 -- Its changes are those of files that were opened; none where they aren't asked for.
 abbrev pub AreChangesOf : {F : Type 0} → (bytes : OpenedFile F → List ℕ) → (gives : OpenedFile F → Type 0) → Source → (asked : Bool) → Option Kept → Type 0

@@ -1,9 +1,9 @@
 //! What `diff` prints.
-ghost use Rattle.std.specs.Prelude.{◌≡◌, IfErr, IfOk, true};
+ghost use Rattle.std.specs.Prelude.{◌≡◌, IfErr, IfOk, false, true};
 ghost use Rattle.cli_files.specs.Files.{opened_bytes};
-ghost use Rattle.cli_job.specs.Opened.{GivesBytes, IsUnopened};
+ghost use Rattle.cli_job.specs.Opened.{AreOpenedFor, GivesBytes, IsUnopenedFor};
 ghost use Rattle.cli_show.specs.Contents.{AreGiven, contents_of};
-ghost use Rattle.cli_report.specs.Diffs.{AreOpenedAt, Diffs, DiffsTo, ShowsBetween, up_to};
+ghost use Rattle.cli_report.specs.Diffs.{Diffs, DiffsTo, ShowsBetween};
 ghost use Rattle.cli_report.specs.internal.Diffs.{AreNew, Compares, files_ahead};
 
 use crate::difference::Difference;
@@ -23,8 +23,8 @@ use std::time::Clock;
 
 /// Prints what changed in a database file between two commits of its log: which rows, or what each commit between those
 /// changed of them against the one before it, or which cells of deleted rows went and came. No file is opened for
-/// writing, and none is made. Refused by `FileChanged` where a file changed meanwhile; lines may have been printed
-/// then.
+/// writing, and none is made. Refused by `CommitOverwritten` if a later checkpoint may have changed a database that is
+/// compared, and by `FileChanged` where a file changed meanwhile; lines may have been printed then.
 pub fn print_diff<R: Files + AllocGlobal + Clock, M: Count, O: Write, E: Write>(
     job: &Job<'_, R, M>,
     difference: Difference<'_>,
@@ -54,8 +54,7 @@ where
     }
 }
 
-/// What came of printing changes, if the files are as they were before. The later commit is the one that is read of the
-/// source.
+/// What came of printing changes, if the files are as they were before.
 fn changes_standing<R: Files + AllocGlobal + Clock, M: Count, W: Write, E: Write>(
     job: &Job<'_, R, M>,
     difference: Difference<'_>,
@@ -66,11 +65,10 @@ where
     R::File: SystemFile,
     ensures { Diffs (opened_bytes R.File.bytes)
         (GivesBytes R.File.bytes R.File.keeps_word R.File.never_fails) job.entry.now.source.now
-        (up_to difference.entry job.entry.now.source.now.options.at) result }
+        difference.entry result }
 {
     let before = job.before(false, notes)?;
-    let meant = difference.up_to(job.source.options.at);
-    let printed = changes_now(job, meant, out, notes);
+    let printed = changes_now(job, difference, out, notes);
     let front = match &printed {
         Ok(printed) => printed.front,
         Err(_) => None,
@@ -115,8 +113,8 @@ where
         (GivesBytes R.File.bytes R.File.keeps_word R.File.never_fails) job.entry.now.source.now
         difference.entry result }
 {
-    let from = opened_at(job, Some(difference.first()), notes)?;
-    match opened_at(job, difference.last(), notes) {
+    let from = opened(job, notes)?;
+    match opened(job, notes) {
         Ok(to) => show_between(
             job.rt.alloc(),
             from,
@@ -163,7 +161,7 @@ where
         (Difference.Rows compared.entry) result }
 {
     let (paths, options) = (&job.source.paths, job.source.options);
-    match open_all(job.rt, paths, options.super_journal, compared.to, notes) {
+    match open_all(job.rt, paths, options.super_journal, options.front, notes) {
         Ok(files) => {
             let lent = Lent {
                 db: &files.db,
@@ -176,22 +174,20 @@ where
     }
 }
 
-/// The files, opened for a commit of the log.
-fn opened_at<'a, R: Files + AllocGlobal, M, E: Write>(
+/// The files, opened and read ahead.
+fn opened<'a, R: Files + AllocGlobal, M, E: Write>(
     job: &Job<'a, R, M>,
-    at: Option<u32>,
     notes: &mut Notes<'_, E>,
 ) -> Result<Contents<ReadAhead<OpenedFile<'a, R::File>>>, Refusal>
 where
     R::File: SystemFile,
-    ensures opened { IfOk result (λ files. AreOpenedAt job.entry.now.source.now at (files_ahead files)) }
+    ensures opened { IfOk result (λ files. AreOpenedFor false job.entry.now.source.now (files_ahead files)) }
     ensures new { IfOk result AreNew }
-    ensures refused { IfErr result (IsUnopened (opened_bytes R.File.bytes)
-        (GivesBytes R.File.bytes R.File.keeps_word R.File.never_fails) job.entry.now.source.now.paths
-        job.entry.now.source.now.options.super_journal at) }
+    ensures refused { IfErr result (IsUnopenedFor (opened_bytes R.File.bytes)
+        (GivesBytes R.File.bytes R.File.keeps_word R.File.never_fails) job.entry.now.source.now) }
 {
     let (paths, options) = (&job.source.paths, job.source.options);
-    match open_all(job.rt, paths, options.super_journal, at, notes) {
+    match open_all(job.rt, paths, options.super_journal, options.front, notes) {
         Ok(files) => read_ahead(job.rt.alloc(), files, Wants::UNCOUNTED.ahead),
         Err(refusal) => Err(refusal),
     }

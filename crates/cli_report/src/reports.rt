@@ -57,7 +57,7 @@ fn template() -> Template<'static> {
 /// What a page shows of real files.
 type ShownOf<'a, F, M> = Shown<Counted<'a, F, M>>;
 
-/// The log that counts of these; at commit 0, where two do, none.
+/// The log that counts of these; where two do, none if by the index no frame counts.
 fn log_in<F: FileBytes>(
     alloc: Global,
     options: Options,
@@ -65,12 +65,12 @@ fn log_in<F: FileBytes>(
     journal: &mut F,
 ) -> Result<LogFound, Refusal>
     ensures { F.gives_bytes wal.old → F.gives_bytes journal.old → MatchResult result
-        (IsLogIn (limits_named options.large) options.at (F.bytes wal.old) (F.bytes journal.old))
+        (IsLogIn (limits_named options.large) options.front (F.bytes wal.old) (F.bytes journal.old))
         (IsUnreadLog (limits_named options.large) (F.bytes wal.old) (F.bytes journal.old)) }
 {
     match log_of(alloc, limits_of(options), wal, journal) {
         // The database is shown without either.
-        Err(Refusal::TwoLogs) if options.at == Some(0) => Ok(LogFound::None),
+        Err(Refusal::TwoLogs) if options.front == Some(0) => Ok(LogFound::None),
         answer => answer,
     }
 }
@@ -91,7 +91,7 @@ where
         job.rt,
         paths,
         options.super_journal,
-        options.at,
+        options.front,
         &mut unheard,
     )?;
     let Beside {
@@ -137,7 +137,7 @@ where
         job.rt,
         paths,
         options.super_journal,
-        options.at,
+        options.front,
         &mut unheard,
     ) {
         Ok(files) => changes_in(job.rt.alloc(), options, &files),

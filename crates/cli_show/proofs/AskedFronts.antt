@@ -1,21 +1,27 @@
 -- The front of a view that is asked for, and of a log.
-use Rattle.std.proofs.Common.{◌≡◌, ◌⊎◌, ⊎_elim, ℕ, List, [], length, sym, ◌∙◌, ap, subst, arith}
+use Rattle.std.proofs.Common.{◌≡◌, ◌≤◌, ◌⊎◌, ⊎_elim, ℕ, List, [], length, sym, ◌∙◌, ap, subst, arith}
 use Rattle.std.specs.Prelude.{Option, None, Some, Ok}
 use Rattle.sqval.specs.Limits.{Bounds}
-use Rattle.sqwal.specs.Frames.{IsFront}
+use Rattle.sqwal.specs.Frames.{IsFront, IsValidFrame, IsCommit}
 use Rattle.sqwal.specs.Header.{named_size, IsHeader, HeaderRefused}
 use Rattle.sqwal.specs.declared.error.WalFormatError.{WalFormatError}
 use Rattle.sqwal.specs.declared.error.WalFormatError.TheVariants.{NotAWal, PageSize, HeaderSum, UnknownVersion, TooLong, NoMemory}
 use Rattle.sqjournal.specs.Journal.{IsHot}
 use Rattle.sqjournal.specs.declared.replay.Replay.{Replay}
+use Rattle.sqwal.proofs.log.CommitsAmongFrames.{valid_to}
+use Rattle.sqview.specs.At.{IsCommitAt}
 use Rattle.sqview.specs.LogView.{IsLogged, pages_of}
+use Rattle.sqpast.specs.Past.{ShowsAt}
+use Rattle.sqpast.specs.declared.past_error.PastError.TheVariants.{Refused as Why}
 use Rattle.sqview.specs.declared.view.View.{View}
 use Rattle.cli_facts.specs.Fronts.{IsFrontOf, IsLogFront}
-use Rattle.cli_facts.specs.declared.fronts.Front.{Front}
-use Rattle.cli_show.specs.Fronts.{IsShownFront, IsAskedFront}
+use Rattle.cli_facts.specs.declared.fronts.Front.{Front as LogFront}
+use Rattle.cli_words.specs.declared.requests.Commit.{Commit}
+use Rattle.cli_words.specs.declared.requests.Commit.TheVariants.{Last, Front, At}
+use Rattle.cli_show.specs.Fronts.{IsShownFront, IsAskedFront, IsFrontAt}
 use Rattle.cli_show.specs.internal.LogsShown.{IsShownLog}
 use Rattle.sqview.specs.declared.view_error.ViewError.TheVariants.{Unread}
-use Rattle.cli_show.specs.Views.{AskedAnswer, AskedRefused, AskedShows}
+use Rattle.cli_show.specs.Views.{IsAskedView, AskedRefused, AskedShows}
 use Rattle.cli_show.specs.declared.logs.Shown.{Shown}
 use Rattle.cli_show.specs.declared.logs.Shown.TheVariants.{Neither, Refused, Journal}
 
@@ -26,7 +32,7 @@ unlogged wal journal none m logged = ⊎_elim
     (λ front. omega (arith, logged.some, none.greatest m front.0 front.1)) logged.is.is
 
 -- the front of a log that counts
-pub log_shown : (wal journal : List ℕ) (o : Option Front) → (¬ IsHot journal) → IsLogFront wal o → IsShownFront wal journal o
+pub log_shown : (wal journal : List ℕ) (o : Option LogFront) → (¬ IsHot journal) → IsLogFront wal o → IsShownFront wal journal o
 log_shown wal journal None cold none = (unlogged wal journal none, λ two. cold two.0)
 log_shown wal journal (Some front) cold found = (record { cold = cold; some = omega (arith, found.0); is = found.1 }, found.2)
 
@@ -64,12 +70,21 @@ none_shown limits wal journal shown which is = ⊎_elim
     (λ hot. let s = subst (λ (x : Shown). IsShownLog limits wal journal x) hot.1 is in hot_shown wal journal s.0 s.2) rest) which
 
 -- files that are given are read
-pub asked_read : (limits : Bounds) (at : Option ℕ) (db wal journal : List ℕ) → AskedRefused limits at db wal journal Unread → ⊥
-asked_read limits None db wal journal unread = unread
-asked_read limits (Some m) db wal journal unread = unread
+pub asked_read : (limits : Bounds) (at : Commit) (db wal journal : List ℕ) → AskedRefused limits at db wal journal (Why Unread) → ⊥
+asked_read limits Last db wal journal unread = unread
+asked_read limits (Front m) db wal journal unread = unread
+asked_read limits (At m) db wal journal unread = unread
+
+-- a commit of a log up to its front
+commit_at : (wal journal : List ℕ) (front m : ℕ) → IsLogged wal journal front → 1 ≤ m → m ≤ front → (m ≡ 0) ⊎ IsCommit (named_size wal) wal m → IsCommitAt wal journal m
+commit_at wal journal front m logged some low point = record {
+  cold = logged.cold;
+  valid = valid_to (named_size wal) wal front m logged.is some low;
+  commit = ⊎_elim (λ zero. absurd (omega (arith, some, zero))) (λ commit. commit) point;
+}
 
 module _ {F : Type 0} (limits : Bounds) (bytes : F → List ℕ) (db wal journal : List ℕ) (v : View F) where
-  shown_front : (o : Option Front) → AskedAnswer limits bytes None db wal journal (Ok v) → IsFrontOf v.front v.page_size o → IsShownFront wal journal o
+  shown_front : (o : Option LogFront) → IsAskedView limits bytes Last db wal journal v → IsFrontOf v.front v.page_size o → IsShownFront wal journal o
   shown_front None answer zero = (
     λ m logged. ⊎_elim
         (λ (here : IsLogged wal journal v.front). omega (arith, here.some, zero))
@@ -87,14 +102,33 @@ module _ {F : Type 0} (limits : Bounds) (bytes : F → List ℕ) (db wal journal
       ))
       (λ none. absurd (at.0 none.0)) answer.stands
 
-  pub front_asked : (at : Option ℕ) (o : Option Front) → AskedAnswer limits bytes at db wal journal (Ok v) → IsFrontOf v.front v.page_size o → IsAskedFront at wal journal o
-  front_asked None o answer is = shown_front o answer is
-  front_asked (Some m) None answer zero = sym answer.stands ∙ zero
-  front_asked (Some m) (Some front) answer at = ⊎_elim
+  front_at : (m : ℕ) (o : Option LogFront) → IsAskedView limits bytes (Front m) db wal journal v → IsFrontOf v.front v.page_size o → IsFrontAt m wal journal o
+  front_at m None answer zero = sym answer.stands ∙ zero
+  front_at m (Some front) answer at = ⊎_elim
       (λ own. absurd (at.0 (answer.stands ∙ own.0)))
       (λ commit. (at.1 ∙ answer.stands, commit.0, at.2 ∙ commit.1)) answer.shows
 
+  past_low : (front m : ℕ) → ShowsAt front m v.page_size db wal (pages_of bytes v) → m ≤ front
+  past_low front m shows = ⊎_elim (λ is. omega (arith, is.0)) (λ is. omega (arith, is.0)) shows
+
+  past_front : (m : ℕ) (o : Option LogFront) → IsAskedView limits bytes (At m) db wal journal v → IsFrontOf v.front v.page_size o → IsFrontAt m wal journal o
+  past_front m None answer zero = sym answer.stands ∙ zero
+  past_front m (Some front) answer at = ⊎_elim
+      (λ own. absurd (at.0 (answer.stands ∙ own.0)))
+      (λ past. (
+        at.1 ∙ answer.stands,
+        commit_at wal journal past.0 m past.1 (omega (arith, answer.stands, at.0)) (past_low past.0 m past.4)
+            (subst (λ (n : ℕ). (m ≡ 0) ⊎ IsCommit n wal m) past.3 past.2),
+        at.2 ∙ past.3,
+      )) answer.shows
+
+  pub front_asked : (at : Commit) (o : Option LogFront) → IsAskedView limits bytes at db wal journal v → IsFrontOf v.front v.page_size o → IsAskedFront at wal journal o
+  front_asked Last o answer is = shown_front o answer is
+  front_asked (Front m) o answer is = front_at m o answer is
+  front_asked (At m) o answer is = past_front m o answer is
+
   -- its pages are those of the database that is asked for
-  pub shows_asked : (at : Option ℕ) → AskedAnswer limits bytes at db wal journal (Ok v) → AskedShows at v.page_size db wal journal (pages_of bytes v)
-  shows_asked None answer = answer.shows
-  shows_asked (Some m) answer = answer.shows
+  pub shows_asked : (at : Commit) → IsAskedView limits bytes at db wal journal v → AskedShows at v.page_size db wal journal (pages_of bytes v)
+  shows_asked Last answer = answer.shows
+  shows_asked (Front m) answer = answer.shows
+  shows_asked (At m) answer = answer.shows

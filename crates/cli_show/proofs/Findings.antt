@@ -11,13 +11,14 @@ use Rattle.sqview.specs.declared.verdict.Verdict.TheVariants.{Damaged}
 use Rattle.sqview.specs.declared.view.View.{View}
 use Rattle.sqview.specs.declared.view_error.ViewError.{ViewError}
 use Rattle.sqview.specs.declared.view_error.ViewError.TheVariants as views
-use Rattle.sqview.proofs.judgments.VerdictOnFiles.{of_files, of_files_at}
+use Rattle.sqpast.specs.declared.past_error.PastError.TheVariants.{Refused as Why}
+use Rattle.cli_words.specs.declared.requests.Commit.{Commit}
 use Rattle.cli_facts.specs.Fronts.{IsFrontOf}
 use Rattle.cli_facts.specs.internal.Refusals.{refusal_of_judge}
 use Rattle.cli_facts.specs.declared.fronts.Front.{Front}
 use Rattle.cli_facts.specs.declared.outcome.Refusal.{Refusal}
 use Rattle.cli_show.specs.Fronts.{IsAskedFront}
-use Rattle.cli_show.specs.Views.{AskedAnswer, AskedRefused, IsFound, IsHeadless, IsNotFound}
+use Rattle.cli_show.specs.Views.{IsAskedView, AskedRefused, IsFound, IsHeadless, IsNotFound}
 use Rattle.cli_show.specs.declared.views.Finding.{Finding}
 use Rattle.cli_show.proofs.AskedFronts.{asked_read, front_asked, shows_asked}
 
@@ -51,11 +52,11 @@ all_ok P (Ok x) all = all x
 all_ok P (Err e) all = tt
 
 module _ {F : Type 0} (maps : Bool) (limits : Bounds) (bytes : F → List ℕ) (db wal journal : List ℕ) where
-  found_of : (at : Option ℕ) (v : View F) (r : Result Verdict JudgeError) → AskedAnswer limits bytes at db wal journal (Ok v) → IfOk r (IsVerdictWith maps bytes v) → IfOk r (IsFound maps limits at db wal journal)
-  found_of None v r shown finds = of_files limits bytes db wal journal v maps r shown finds
-  found_of (Some m) v r shown finds = of_files_at limits bytes db wal journal v maps m r shown finds
+  found_of : (at : Commit) (v : View F) (r : Result Verdict JudgeError) → IsAskedView limits bytes at db wal journal v → IfOk r (IsVerdictWith maps bytes v) → IfOk r (IsFound maps limits at db wal journal)
+  found_of at v (Ok verdict) shown finds = inl (v.page_size, pages_of bytes v, shows_asked limits bytes db wal journal v at shown, finds)
+  found_of at v (Err e) shown finds = tt
 
-  unjudged_of : (at : Option ℕ) (v : View F) (q : Result Verdict JudgeError) → AskedAnswer limits bytes at db wal journal (Ok v) → IfErr q (IsUnjudgedWith maps (pages_of bytes v))
+  unjudged_of : (at : Commit) (v : View F) (q : Result Verdict JudgeError) → IsAskedView limits bytes at db wal journal v → IfErr q (IsUnjudgedWith maps (pages_of bytes v))
       → IfErr q (λ e. IsNotFound maps limits at db wal journal (refusal_of_judge e))
   unjudged_of at v (Ok verdict) shown refused = tt
   unjudged_of at v (Err judgments.AutoVacuum) shown refused = (v.page_size, pages_of bytes v, shows_asked limits bytes db wal journal v at shown, refused)
@@ -66,7 +67,7 @@ module _ {F : Type 0} (maps : Bool) (limits : Bounds) (bytes : F → List ℕ) (
   unjudged_of at v (Err judgments.NoSuchCommit) shown refused = absurd refused
 
   -- of a view
-  module _ (at : Option ℕ) (v : View F) (front : Option Front) (q : Result Verdict JudgeError) (r : Result Finding Refusal) (shown : AskedAnswer limits bytes at db wal journal (Ok v)) where
+  module _ (at : Commit) (v : View F) (front : Option Front) (q : Result Verdict JudgeError) (r : Result Finding Refusal) (shown : IsAskedView limits bytes at db wal journal v) where
     pub view_found : IfOk r (λ x. (q ≡ Ok x.verdict) × (x.front ≡ front)) → IfOk q (IsVerdictWith maps bytes v) → IfOk r (λ x. IsFound maps limits at db wal journal x.verdict)
     view_found is finds = found_by (IsFound maps limits at db wal journal) front q r is (found_of at v q shown finds)
 
@@ -82,22 +83,16 @@ module _ {F : Type 0} (maps : Bool) (limits : Bounds) (bytes : F → List ℕ) (
     view_refused is refused = refused_by (IsNotFound maps limits at db wal journal) q r is (unjudged_of at v q shown refused)
 
 -- where there is no view
-module _ (maps : Bool) (limits : Bounds) (at : Option ℕ) (db wal journal : List ℕ) where
-  headed : (fault : _) → AskedRefused limits at db wal journal (views.Header fault) → IsHeadless limits at db wal journal (Damaged (record { page = 1; fault = fault }))
-  headed fault refused = elim at as (λ (o : Option ℕ). AskedRefused limits o db wal journal (views.Header fault) → IsHeadless limits o db wal journal (Damaged (record { page = 1; fault = fault }))) [
-    | None ↦ (λ is. (refl, is))
-    | Some m ↦ (λ is. (refl, is))
-  ] refused
-
-  headless : (error : ViewError) → AskedRefused limits at db wal journal error → IfOk (verdict_without error) (IsHeadless limits at db wal journal)
-  headless (views.Header fault) refused = headed fault refused
+module _ (maps : Bool) (limits : Bounds) (at : Commit) (db wal journal : List ℕ) where
+  headless : (error : ViewError) → AskedRefused limits at db wal journal (Why error) → IfOk (verdict_without error) (IsHeadless limits at db wal journal)
+  headless (views.Header fault) refused = (refl, refused)
   headless views.TwoLogs refused = tt
   headless views.TooLarge refused = tt
   headless views.Unread refused = tt
   headless views.NoMemory refused = tt
   headless views.NoSuchCommit refused = tt
 
-  unviewed : (error : ViewError) → AskedRefused limits at db wal journal error → IfErr (verdict_without error) (λ e. IsNotFound maps limits at db wal journal (refusal_of_judge e))
+  unviewed : (error : ViewError) → AskedRefused limits at db wal journal (Why error) → IfErr (verdict_without error) (λ e. IsNotFound maps limits at db wal journal (refusal_of_judge e))
   unviewed (views.Header fault) refused = tt
   unviewed views.TwoLogs refused = refused
   unviewed views.TooLarge refused = refused
@@ -105,12 +100,8 @@ module _ (maps : Bool) (limits : Bounds) (at : Option ℕ) (db wal journal : Lis
   unviewed views.NoMemory refused = tt
   unviewed views.NoSuchCommit refused = refused
 
-  of_headless : (o : Option ℕ) (verdict : Verdict) → IsHeadless limits o db wal journal verdict → IsFound maps limits o db wal journal verdict
-  of_headless None verdict is = inr is
-  of_headless (Some m) verdict is = inr is
-
   weaker : (q : Result Verdict JudgeError) → IfOk q (IsHeadless limits at db wal journal) → IfOk q (IsFound maps limits at db wal journal)
-  weaker (Ok verdict) is = of_headless at verdict is
+  weaker (Ok verdict) is = inr is
   weaker (Err e) is = tt
 
   beside : (q : Result Verdict JudgeError) → IfOk q (IsHeadless limits at db wal journal)
@@ -118,7 +109,7 @@ module _ (maps : Bool) (limits : Bounds) (at : Option ℕ) (db wal journal : Lis
   beside (Ok verdict) is = inr (refl, is)
   beside (Err e) is = tt
 
-  module _ (error : ViewError) (q : Result Verdict JudgeError) (r : Result Finding Refusal) (refused : AskedRefused limits at db wal journal error) (same : q ≡ verdict_without error) where
+  module _ (error : ViewError) (q : Result Verdict JudgeError) (r : Result Finding Refusal) (refused : AskedRefused limits at db wal journal (Why error)) (same : q ≡ verdict_without error) where
     here : IfOk q (IsHeadless limits at db wal journal)
     here = subst (λ (o : Result Verdict JudgeError). IfOk o (IsHeadless limits at db wal journal)) (sym same) (headless error refused)
 

@@ -1,6 +1,6 @@
 -- What is found of files, by what is found in their view.
 use Rattle.std.proofs.Common.{◌≡◌, Bool, ℕ, ◌≤◌, List, [], length, refl, sym, subst, inl, inr}
-use Rattle.std.specs.Prelude.{Option, None, Some, Result, Ok, Err, IfOk, IfErr}
+use Rattle.std.specs.Prelude.{Result, Ok, Err, IfOk, IfErr}
 use Rattle.sqval.specs.Limits.{Bounds}
 use Rattle.sqjournal.specs.Journal.{IsHot}
 use Rattle.sqview.specs.At.{ViewsAt}
@@ -8,7 +8,11 @@ use Rattle.sqview.specs.LogView.{Views, StandsAt, IsAlone, pages_of}
 use Rattle.sqview.specs.Origins.{AreFramePlaces, AreJournalPlaces}
 use Rattle.sqview.specs.Shapes.{Shape, shape_of}
 use Rattle.sqview.specs.declared.view.View.{View}
-use Rattle.sqview.specs.declared.view_error.ViewError.{ViewError}
+use Rattle.sqpast.specs.Files.{PastViews}
+use Rattle.sqpast.specs.declared.past_error.PastError.{PastError}
+use Rattle.sqpast.specs.declared.past_error.PastError.TheVariants.{Refused as Why, CommitOverwritten as Overwritten}
+use Rattle.cli_words.specs.declared.requests.Commit.{Commit}
+use Rattle.cli_words.specs.declared.requests.Commit.TheVariants.{Last, Front, At}
 use Rattle.sqview.specs.declared.view_error.ViewError.TheVariants as views
 use Rattle.cli_facts.specs.declared.outcome.Refusal.{Refusal}
 use Rattle.cli_facts.specs.declared.outcome.Refusal.TheVariants.{AutoVacuum, NoSuchPage, NoMemory}
@@ -16,7 +20,7 @@ use Rattle.cli_show.specs.Found.{IsFoundOf, IsUnfound}
 use Rattle.cli_show.specs.internal.Found.{found_without, pages_in, IsFoundIn, IsUnfoundIn}
 use Rattle.cli_show.specs.Pages.{IsSurveyed}
 use Rattle.cli_show.specs.Records.{AreRecordsOf}
-use Rattle.cli_show.specs.Views.{AskedAnswer, AskedRefused}
+use Rattle.cli_show.specs.Views.{IsAskedView, AskedRefused}
 use Rattle.cli_show.specs.declared.contents.Contents.{Contents}
 use Rattle.cli_show.specs.declared.records.Records.{Records}
 use Rattle.cli_show.specs.declared.surveys.Found.{Found}
@@ -25,8 +29,8 @@ use Rattle.cli_show.proofs.AskedFronts.{asked_read, shows_asked}
 
 module _ {F : Type 0} (limits : Bounds) (bytes : F → List ℕ) (db wal journal : List ℕ) (v now : View F) (same : shape_of bytes now ≡ shape_of bytes v) where
   -- a view that shows the same is the one that is asked for, too
-  same_view : (at : Option ℕ) → AskedAnswer limits bytes at db wal journal (Ok v) → AskedAnswer limits bytes at db wal journal (Ok now)
-  same_view None is = record {
+  same_view : (at : Commit) → IsAskedView limits bytes at db wal journal v → IsAskedView limits bytes at db wal journal now
+  same_view Last is = record {
     shows = subst (λ (s : Shape). Views s.page_size db wal journal (pages_in s)) (sym same) is.shows;
     one = is.one;
     short = is.short;
@@ -38,8 +42,19 @@ module _ {F : Type 0} (limits : Bounds) (bytes : F → List ℕ) (db wal journal
     framed = subst (λ (s : Shape). 1 ≤ s.front → AreFramePlaces s.page_size wal s.front s.count s.places) (sym same) is.framed;
     recorded = subst (λ (s : Shape). IsHot journal → AreJournalPlaces journal s.count s.places) (sym same) is.recorded;
   }
-  same_view (Some m) is = record {
+  same_view (Front m) is = record {
     shows = subst (λ (s : Shape). ViewsAt m s.page_size db wal journal (pages_in s)) (sym same) is.shows;
+    stands = subst (λ (s : Shape). s.front ≡ m) (sym same) is.stands;
+    one = is.one;
+    short = is.short;
+    within = is.within;
+    headed = is.headed;
+    unplaced = subst (λ (s : Shape). m ≡ 0 → s.places ≡ []) (sym same) is.unplaced;
+    placed = subst (λ (s : Shape). 1 ≤ m → length s.places ≡ s.count) (sym same) is.placed;
+    framed = subst (λ (s : Shape). 1 ≤ m → AreFramePlaces s.page_size wal m s.count s.places) (sym same) is.framed;
+  }
+  same_view (At m) is = record {
+    shows = subst (λ (s : Shape). PastViews m s.page_size db wal journal (pages_in s)) (sym same) is.shows;
     stands = subst (λ (s : Shape). s.front ≡ m) (sym same) is.stands;
     one = is.one;
     short = is.short;
@@ -51,24 +66,26 @@ module _ {F : Type 0} (limits : Bounds) (bytes : F → List ℕ) (db wal journal
   }
 
 -- what is found without a view
-module _ {F : Type 0} (maps : Bool) (limits : Bounds) (bytes : F → List ℕ) (at : Option ℕ) (files : Contents (List ℕ)) where
-  pub found_of_none : (error : ViewError) → AskedRefused limits at files.db files.wal files.journal error → IfOk (found_without {F = F} error) (IsFoundOf maps limits bytes at files)
-  found_of_none (views.Header fault) refused = inl (refl, refused)
-  found_of_none views.TwoLogs refused = tt
-  found_of_none views.TooLarge refused = tt
-  found_of_none views.Unread refused = tt
-  found_of_none views.NoMemory refused = tt
-  found_of_none views.NoSuchCommit refused = tt
+module _ {F : Type 0} (maps : Bool) (limits : Bounds) (bytes : F → List ℕ) (at : Commit) (files : Contents (List ℕ)) where
+  pub found_of_none : (error : PastError) → AskedRefused limits at files.db files.wal files.journal error → IfOk (found_without {F = F} error) (IsFoundOf maps limits bytes at files)
+  found_of_none (Why (views.Header fault)) refused = inl (refl, refused)
+  found_of_none (Why views.TwoLogs) refused = tt
+  found_of_none (Why views.TooLarge) refused = tt
+  found_of_none (Why views.Unread) refused = tt
+  found_of_none (Why views.NoMemory) refused = tt
+  found_of_none (Why views.NoSuchCommit) refused = tt
+  found_of_none Overwritten refused = tt
 
-  pub refused_of_none : (error : ViewError) → AskedRefused limits at files.db files.wal files.journal error → IfErr (found_without {F = F} error) (IsUnfound maps limits at files)
-  refused_of_none (views.Header fault) refused = tt
-  refused_of_none views.TwoLogs refused = refused
-  refused_of_none views.TooLarge refused = inr refused
-  refused_of_none views.Unread refused = absurd (asked_read limits at files.db files.wal files.journal refused)
-  refused_of_none views.NoMemory refused = tt
-  refused_of_none views.NoSuchCommit refused = refused
+  pub refused_of_none : (error : PastError) → AskedRefused limits at files.db files.wal files.journal error → IfErr (found_without {F = F} error) (IsUnfound maps limits at files)
+  refused_of_none (Why (views.Header fault)) refused = tt
+  refused_of_none (Why views.TwoLogs) refused = refused
+  refused_of_none (Why views.TooLarge) refused = inr refused
+  refused_of_none (Why views.Unread) refused = absurd (asked_read limits at files.db files.wal files.journal refused)
+  refused_of_none (Why views.NoMemory) refused = tt
+  refused_of_none (Why views.NoSuchCommit) refused = refused
+  refused_of_none Overwritten refused = refused
 
-module _ {F : Type 0} (maps : Bool) (limits : Bounds) (bytes : F → List ℕ) (at : Option ℕ) (files : Contents (List ℕ)) (v : View F) (records : Records) (asked : AskedAnswer limits bytes at files.db files.wal files.journal (Ok v)) where
+module _ {F : Type 0} (maps : Bool) (limits : Bounds) (bytes : F → List ℕ) (at : Commit) (files : Contents (List ℕ)) (v : View F) (records : Records) (asked : IsAskedView limits bytes at files.db files.wal files.journal v) where
   pub found_of_view : (r : Result (Found F) Refusal) → AreRecordsOf files.journal records → IfOk r (IsFoundIn maps bytes (shape_of bytes v) records) → IfOk r (IsFoundOf maps limits bytes at files)
   found_of_view (Ok (Pages found)) are is = record {
     view = same_view limits bytes files.db files.wal files.journal v found.view is.0 at asked;

@@ -11,22 +11,19 @@ use Rattle.sqjournal.specs.Journal.{IsHot}
 use Rattle.sqview.specs.declared.view_error.ViewError.{ViewError}
 use Rattle.cli_facts.specs.declared.outcome.Refusal.{Refusal}
 use Rattle.cli_facts.specs.declared.outcome.Refusal.TheVariants.{TooLarge, FileFailed, NotADatabase, NoSuchPage, NoMemory}
+use Rattle.cli_words.specs.Commits.{commit_named}
 use Rattle.cli_words.specs.declared.requests.Options.{Options}
 use Rattle.cli_show.specs.Errors.{IfRefused}
 use Rattle.cli_show.specs.Logs.{ReplayFound, IsUnreadLog}
 use Rattle.cli_show.specs.Shown.{IsPageUnread, HasHeader, IsHeaderUnshown, IsPageUnshown}
 use Rattle.cli_show.specs.internal.Shown.{IsHeaderUnread}
-use Rattle.cli_show.specs.Views.{AskedAnswer, AskedShows, AskedRefused}
+use Rattle.cli_show.specs.Views.{AskedShows}
 use Rattle.cli_show.specs.declared.error.ShowError.{ShowError}
 use Rattle.cli_show.specs.declared.error.ShowError.TheVariants.{Refused, Unwritten}
 
 pub refused_weaker : (P Q : Refusal → Type 0) (error : ShowError) → ((refusal : Refusal) → P refusal → Q refusal) → IfRefused P error → IfRefused Q error
 refused_weaker P Q (Refused refusal) weaker holds = weaker refusal holds
 refused_weaker P Q Unwritten weaker holds = tt
-
-pub refused_asked : {F : Type 0} (limits : Bounds) (bytes : F → List ℕ) (at : Option ℕ) (db wal journal : List ℕ) (error : ViewError) → AskedAnswer limits bytes at db wal journal (Err error) → AskedRefused limits at db wal journal error
-refused_asked limits bytes None db wal journal error answer = answer
-refused_asked limits bytes (Some m) db wal journal error answer = answer
 
 -- a hot journal begins with a header
 pub hot_unread : (limits : Bounds) (wal journal : List ℕ) (refusal : Refusal) → IsHot journal → ReplayFound journal (Err refusal) → IsUnreadLog limits wal journal refusal
@@ -47,7 +44,7 @@ header_refused faults.Fraction header b refused is = refused.2 is.fractions
 header_refused faults.Reserved header b refused is = refused.3 is.room
 header_refused _ header b refused is = refused
 
-module _ (options : Options) (db wal journal : List ℕ) (size : ℕ) (d : Database) (shows : AskedShows options.at size db wal journal d) where
+module _ (options : Options) (db wal journal : List ℕ) (size : ℕ) (d : Database) (shows : AskedShows (commit_named options) size db wal journal d) where
   pub header_unshown : (refusal : Refusal) → IsHeaderUnread d refusal → IsHeaderUnshown options db wal journal refusal
   header_unshown NotADatabase unread = inr (size, d, shows, unread)
   header_unshown NoMemory unread = tt

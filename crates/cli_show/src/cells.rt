@@ -8,6 +8,7 @@ ghost use Rattle.sqval.specs.Database.{page as page_at};
 ghost use Rattle.sqpage.specs.Freelist.{IsPage};
 ghost use Rattle.sqview.specs.LogView.{pages_of};
 ghost use Rattle.cli_facts.specs.declared.outcome.Refusal.TheVariants.{NoMemory};
+ghost use Rattle.cli_words.specs.Commits.{commit_named};
 ghost use Rattle.cli_show.specs.Contents.{AreGiven};
 ghost use Rattle.cli_show.specs.Errors.{IfRefused, IsFromPage};
 ghost use Rattle.cli_show.specs.Fronts.{IsAskedFront};
@@ -16,7 +17,7 @@ ghost use Rattle.cli_show.specs.Shown.{IsHeaderText, IsPageUnread, ShowsHeader, 
 ghost use Rattle.cli_show.specs.internal.Shown.{IsHeaderUnread};
 ghost use Rattle.cli_show.specs.Shown.{IsHeaderUnshown, IsPageUnshown};
 ghost use Rattle.sqpage.specs.Source.{KeepsPages};
-ghost use Rattle.cli_show.specs.Views.{AskedAnswer, IsUnasked};
+ghost use Rattle.cli_show.specs.Views.{IsAskedView, IsUnasked};
 
 use crate::contents::Contents;
 use crate::error::ShowError;
@@ -98,14 +99,21 @@ fn asked_view<F: FileBytes + Drop>(
     options: Options,
 ) -> Result<View<F>, Refusal>
     ensures answer { AreGiven F.gives_bytes files → MatchResult result
-        (λ view. AskedAnswer (limits_named options.large) F.bytes options.at (F.bytes files.db) (F.bytes files.wal)
-        (F.bytes files.journal) (Ok view))
+        (IsAskedView (limits_named options.large) F.bytes (commit_named options) (F.bytes files.db) (F.bytes files.wal)
+        (F.bytes files.journal))
         (IsUnasked options (F.bytes files.db) (F.bytes files.wal) (F.bytes files.journal)) }
     ensures still_gives { AreGiven F.gives_bytes files
         → IfOk result (λ view. F.gives_bytes view.db × F.gives_bytes view.log) }
 {
     let Contents { db, wal, journal } = files;
-    match view_of(alloc, limits_of(options), db, wal, journal, options.at) {
+    match view_of(
+        alloc,
+        limits_of(options),
+        db,
+        wal,
+        journal,
+        options.commit(),
+    ) {
         Ok(view) => Ok(view),
         Err(error) => Err(Refusal::from(error)),
     }
@@ -139,7 +147,7 @@ pub fn show_header<F: FileBytes + Drop, W: Write>(
     out: &mut W,
 ) -> Result<Option<Front>, ShowError>
     ensures front { AreGiven F.gives_bytes files
-        → IfOk result (IsAskedFront options.at (F.bytes files.wal) (F.bytes files.journal)) }
+        → IfOk result (IsAskedFront (commit_named options) (F.bytes files.wal) (F.bytes files.journal)) }
     ensures shown { AreGiven F.gives_bytes files
         → OnOk result (ShowsHeader options (F.bytes files.db) (F.bytes files.wal) (F.bytes files.journal)) }
     ensures text { AreGiven F.gives_bytes files → OnOk result ((text : List ℕ)
@@ -169,7 +177,7 @@ pub fn show_page<F: FileBytes + Drop, W: Write>(
     out: &mut W,
 ) -> Result<Option<Front>, ShowError>
     ensures front { AreGiven F.gives_bytes files
-        → IfOk result (IsAskedFront options.at (F.bytes files.wal) (F.bytes files.journal)) }
+        → IfOk result (IsAskedFront (commit_named options) (F.bytes files.wal) (F.bytes files.journal)) }
     ensures shown { AreGiven F.gives_bytes files
         → OnOk result (ShowsPage options number (F.bytes files.db) (F.bytes files.wal) (F.bytes files.journal)) }
     ensures refused { AreGiven F.gives_bytes files → IfErr result

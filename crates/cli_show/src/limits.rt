@@ -1,5 +1,6 @@
 //! How large a database and its log may be.
 ghost use Rattle.std.specs.Prelude.{◌≡◌};
+ghost use Rattle.cli_words.specs.Commits.{commit_named};
 ghost use Rattle.cli_show.specs.Limits.{limits_named};
 
 use crate::views::Asked;
@@ -21,12 +22,12 @@ pub fn limits_of(options: Options) -> Limits
 /// What is asked of files.
 pub fn asked_of(options: Options) -> Asked
     ensures limits { result.limits ≡ limits_named options.large }
-    ensures commit { result.at ≡ options.at }
+    ensures commit { result.at ≡ commit_named options }
     ensures maps { result.maps.pointer_maps ≡ options.pointer_maps }
 {
     Asked {
         limits: limits_of(options),
-        at: options.at,
+        at: options.commit(),
         maps: Maps {
             pointer_maps: options.pointer_maps,
         },

@@ -31,6 +31,7 @@ use cli_text::{Logged, PageLine, write_fault, write_report};
 use cli_words::Style;
 use sqcheck::{Options as Maps, Role, Survey, survey_pages_with};
 use sqpage::{CheckError, Fault, PageSource};
+use sqpast::PastError;
 use sqview::{FileBytes, Origin, View, ViewError};
 use std::alloc::Global;
 use std::io::{self, Write};
@@ -211,16 +212,19 @@ fn found_in<F: FileBytes + Drop>(
 }
 
 /// What is found of files that have no view: the fault of a header, at page 1.
-fn without_pages<F>(error: ViewError) -> Result<Found<F>, Refusal>
+fn without_pages<F>(error: PastError) -> Result<Found<F>, Refusal>
     ensures { result ≡ found_without error }
 {
     match error {
-        ViewError::Header(fault) => Ok(Found::Nothing(CheckError { page: 1, fault })),
-        ViewError::TwoLogs => Err(Refusal::TwoLogs),
-        ViewError::TooLarge => Err(Refusal::TooLarge),
-        ViewError::Unread => Err(Refusal::FileFailed),
-        ViewError::NoMemory => Err(Refusal::NoMemory),
-        ViewError::NoSuchCommit => Err(Refusal::NoSuchCommit),
+        PastError::Refused(ViewError::Header(fault)) => {
+            Ok(Found::Nothing(CheckError { page: 1, fault }))
+        }
+        PastError::Refused(ViewError::TwoLogs) => Err(Refusal::TwoLogs),
+        PastError::Refused(ViewError::TooLarge) => Err(Refusal::TooLarge),
+        PastError::Refused(ViewError::Unread) => Err(Refusal::FileFailed),
+        PastError::Refused(ViewError::NoMemory) => Err(Refusal::NoMemory),
+        PastError::Refused(ViewError::NoSuchCommit) => Err(Refusal::NoSuchCommit),
+        PastError::CommitOverwritten => Err(Refusal::CommitOverwritten),
     }
 }
 

@@ -6,20 +6,23 @@ ghost use Rattle.cli_show.specs.Fronts.{IsAskedFront};
 ghost use Rattle.cli_show.specs.Views.{AskedAnswer, IsFound, IsHeadless, IsNotFound, ReadsLog};
 
 use cli_facts::{Front, Refusal};
+use cli_words::Commit;
 use sqcheck::Options as Maps;
+use sqpast::{PastError, past_within};
 use sqval::Limits;
-use sqview::{FileBytes, JudgeError, Verdict, View, ViewError, judge_view_with, without_view};
+use sqview::{FileBytes, JudgeError, Verdict, View, judge_view_with, without_view};
 use std::alloc::Global;
 
-/// The view of a file with its logs within limits, at a commit frame where one is named.
+/// The view of a file with its logs within limits, at this commit. Refused by CommitOverwritten where one is asked for
+/// that a later checkpoint may have changed, otherwise as a view is.
 pub fn view_of<F: FileBytes + Drop>(
     alloc: Global,
     limits: Limits,
     db: F,
     wal: F,
     journal: F,
-    at: Option<u32>,
-) -> Result<View<F>, ViewError>
+    at: Commit,
+) -> Result<View<F>, PastError>
     ensures answer { F.gives_bytes db × F.gives_bytes wal × F.gives_bytes journal
         → AskedAnswer limits F.bytes at (F.bytes db) (F.bytes wal) (F.bytes journal) result }
     ensures still_gives { F.gives_bytes db × F.gives_bytes wal × F.gives_bytes journal
@@ -28,8 +31,15 @@ pub fn view_of<F: FileBytes + Drop>(
         → IfOk result (λ view. ReadsLog at (F.bytes wal) (F.bytes journal) (F.bytes view.log)) }
 {
     match at {
-        Some(frame) => View::at_within(alloc, limits, db, wal, journal, frame),
-        None => View::new_within(alloc, limits, db, wal, journal),
+        Commit::Last => match View::new_within(alloc, limits, db, wal, journal) {
+            Ok(view) => Ok(view),
+            Err(error) => Err(PastError::Refused(error)),
+        },
+        Commit::Front(frame) => match View::at_within(alloc, limits, db, wal, journal, frame) {
+            Ok(view) => Ok(view),
+            Err(error) => Err(PastError::Refused(error)),
+        },
+        Commit::At(frame) => past_within(alloc, limits, db, wal, journal, frame),
     }
 }
 
@@ -40,13 +50,12 @@ pub struct Finding {
     pub front: Option<Front>,
 }
 
-/// What is asked of files: within which limits, at which commit frame if one is named, and whether with pointer maps.
+/// What is asked of files: within which limits, at which commit, and whether with pointer maps.
 #[derive(Clone, Copy, Debug, PartialEq, Eq)]
 pub struct Asked {
     /// How large the files may be.
     pub limits: Limits,
-    /// The commit frame; 0: the file without its log.
-    pub at: Option<u32>,
+    pub at: Commit,
     /// Whether pointer maps are judged.
     pub maps: Maps,
 }
@@ -87,6 +96,7 @@ pub fn judged<F: FileBytes + Drop>(
             let front = Front::of_view(&view);
             as_found(front, judge_view_with(alloc, &mut view, asked.maps))
         }
-        Err(error) => as_found(None, without_view(error)),
+        Err(PastError::Refused(error)) => as_found(None, without_view(error)),
+        Err(PastError::CommitOverwritten) => Err(Refusal::CommitOverwritten),
     }
 }

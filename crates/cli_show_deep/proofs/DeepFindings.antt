@@ -1,6 +1,6 @@
 -- What a deep check finds of the view that is asked for is found of the files.
 use Rattle.std.proofs.Common.{◌≡◌, ◌⊎◌, ⊎_elim, ℕ, List, Bool, inl, inr, refl, sym, subst}
-use Rattle.std.specs.Prelude.{Option, None, Some, Result, Ok, Err, IfOk, IfErr}
+use Rattle.std.specs.Prelude.{Option, None, Result, Ok, Err, IfOk, IfErr}
 use Rattle.sqval.specs.Database.{Database}
 use Rattle.sqval.specs.Limits.{Bounds}
 use Rattle.sqview.specs.LogView.{pages_of}
@@ -12,12 +12,14 @@ use Rattle.sqview.specs.declared.verdict.Verdict.TheVariants as plain
 use Rattle.sqview.specs.declared.view.View.{View}
 use Rattle.sqview.specs.declared.view_error.ViewError.{ViewError}
 use Rattle.sqview.specs.declared.view_error.ViewError.TheVariants as views
+use Rattle.sqpast.specs.declared.past_error.PastError.TheVariants.{Refused as Why}
+use Rattle.cli_words.specs.declared.requests.Commit.{Commit}
 use Rattle.cli_facts.specs.Fronts.{IsFrontOf}
 use Rattle.cli_facts.specs.internal.Refusals.{refusal_of_judge}
 use Rattle.cli_facts.specs.declared.fronts.Front.{Front}
 use Rattle.cli_facts.specs.declared.outcome.Refusal.{Refusal}
 use Rattle.cli_show.specs.Fronts.{IsAskedFront}
-use Rattle.cli_show.specs.Views.{AskedAnswer, AskedRefused, IsHeadless, IsNotFound}
+use Rattle.cli_show.specs.Views.{IsAskedView, AskedRefused, IsHeadless, IsNotFound}
 use Rattle.cli_show.proofs.AskedFronts.{asked_read, front_asked, shows_asked}
 use Rattle.cli_show_deep.specs.Found.{IsFoundDeep, IsHeadlessDeep}
 use Rattle.sqdeepjudge.specs.Verdicts.{FindsInside, FindsSchema, FindsDeep, verdict_as}
@@ -48,12 +50,12 @@ all_ok P (Err e) all = tt
 
 -- of a view
 module _ {F : Type 0} (maps : Bool) (limits : Bounds) (bytes : F → List ℕ) (db wal journal : List ℕ) where
-  found_of : (at : Option ℕ) (v : View F) (q : Result DeepVerdict JudgeError) → AskedAnswer limits bytes at db wal journal (Ok v) → IfOk q (FindsDeep maps (pages_of bytes v) v.page_size)
+  found_of : (at : Commit) (v : View F) (q : Result DeepVerdict JudgeError) → IsAskedView limits bytes at db wal journal v → IfOk q (FindsDeep maps (pages_of bytes v) v.page_size)
       → IfOk q (IsFoundDeep maps limits at db wal journal)
   found_of at v (Ok verdict) shown finds = inl (v.page_size, pages_of bytes v, shows_asked limits bytes db wal journal v at shown, finds)
   found_of at v (Err e) shown finds = tt
 
-  unjudged_of : (at : Option ℕ) (v : View F) (q : Result DeepVerdict JudgeError) → AskedAnswer limits bytes at db wal journal (Ok v) → IfErr q (IsUnjudgedWith maps (pages_of bytes v))
+  unjudged_of : (at : Commit) (v : View F) (q : Result DeepVerdict JudgeError) → IsAskedView limits bytes at db wal journal v → IfErr q (IsUnjudgedWith maps (pages_of bytes v))
       → IfErr q (λ e. IsNotFound maps limits at db wal journal (refusal_of_judge e))
   unjudged_of at v (Ok verdict) shown refused = tt
   unjudged_of at v (Err judgments.AutoVacuum) shown refused = (v.page_size, pages_of bytes v, shows_asked limits bytes db wal journal v at shown, refused)
@@ -63,7 +65,7 @@ module _ {F : Type 0} (maps : Bool) (limits : Bounds) (bytes : F → List ℕ) (
   unjudged_of at v (Err judgments.Unread) shown refused = absurd refused
   unjudged_of at v (Err judgments.NoSuchCommit) shown refused = absurd refused
 
-  module _ (at : Option ℕ) (v : View F) (front : Option Front) (q : Result DeepVerdict JudgeError) (r : Result DeepFinding Refusal) (shown : AskedAnswer limits bytes at db wal journal (Ok v)) where
+  module _ (at : Commit) (v : View F) (front : Option Front) (q : Result DeepVerdict JudgeError) (r : Result DeepFinding Refusal) (shown : IsAskedView limits bytes at db wal journal v) where
     pub view_found : IfOk r (λ x. (q ≡ Ok x.verdict) × (x.front ≡ front)) → IfOk q (FindsDeep maps (pages_of bytes v) v.page_size) → IfOk r (λ x. IsFoundDeep maps limits at db wal journal x.verdict)
     view_found is finds = found_by (IsFoundDeep maps limits at db wal journal) front q r is (found_of at v q shown finds)
 
@@ -79,22 +81,16 @@ module _ {F : Type 0} (maps : Bool) (limits : Bounds) (bytes : F → List ℕ) (
     view_refused is refused = refused_by (IsNotFound maps limits at db wal journal) q r is (unjudged_of at v q shown refused)
 
 -- where there is no view
-module _ (maps : Bool) (limits : Bounds) (at : Option ℕ) (db wal journal : List ℕ) where
-  headed : (fault : _) → AskedRefused limits at db wal journal (views.Header fault) → IsHeadless limits at db wal journal (plain.Damaged (record { page = 1; fault = fault }))
-  headed fault refused = elim at as (λ (o : Option ℕ). AskedRefused limits o db wal journal (views.Header fault) → IsHeadless limits o db wal journal (plain.Damaged (record { page = 1; fault = fault }))) [
-    | None ↦ (λ is. (refl, is))
-    | Some m ↦ (λ is. (refl, is))
-  ] refused
-
-  headless : (error : ViewError) → AskedRefused limits at db wal journal error → IfOk (deep_without error) (IsHeadlessDeep limits at db wal journal)
-  headless (views.Header fault) refused = headed fault refused
+module _ (maps : Bool) (limits : Bounds) (at : Commit) (db wal journal : List ℕ) where
+  headless : (error : ViewError) → AskedRefused limits at db wal journal (Why error) → IfOk (deep_without error) (IsHeadlessDeep limits at db wal journal)
+  headless (views.Header fault) refused = (refl, refused)
   headless views.TwoLogs refused = tt
   headless views.TooLarge refused = tt
   headless views.Unread refused = tt
   headless views.NoMemory refused = tt
   headless views.NoSuchCommit refused = tt
 
-  unviewed : (error : ViewError) → AskedRefused limits at db wal journal error → IfErr (deep_without error) (λ e. IsNotFound maps limits at db wal journal (refusal_of_judge e))
+  unviewed : (error : ViewError) → AskedRefused limits at db wal journal (Why error) → IfErr (deep_without error) (λ e. IsNotFound maps limits at db wal journal (refusal_of_judge e))
   unviewed (views.Header fault) refused = tt
   unviewed views.TwoLogs refused = refused
   unviewed views.TooLarge refused = refused
@@ -111,7 +107,7 @@ module _ (maps : Bool) (limits : Bounds) (at : Option ℕ) (db wal journal : Lis
   beside (Ok verdict) is = inr (refl, is)
   beside (Err e) is = tt
 
-  module _ (error : ViewError) (q : Result DeepVerdict JudgeError) (r : Result DeepFinding Refusal) (refused : AskedRefused limits at db wal journal error) (same : q ≡ deep_without error) where
+  module _ (error : ViewError) (q : Result DeepVerdict JudgeError) (r : Result DeepFinding Refusal) (refused : AskedRefused limits at db wal journal (Why error)) (same : q ≡ deep_without error) where
     here : IfOk q (IsHeadlessDeep limits at db wal journal)
     here = subst (λ (o : Result DeepVerdict JudgeError). IfOk o (IsHeadlessDeep limits at db wal journal)) (sym same) (headless error refused)
 
@@ -128,12 +124,11 @@ module _ (maps : Bool) (limits : Bounds) (at : Option ℕ) (db wal journal : Lis
         (subst (λ (o : Result DeepVerdict JudgeError). IfErr o (λ e. IsNotFound maps limits at db wal journal (refusal_of_judge e))) (sym same) (unviewed error refused))
 
 -- a check that isn't deep finds no header as a deep one does
-pub headless_as : (limits : Bounds) (at : Option ℕ) (db wal journal : List ℕ) (verdict : Verdict) → IsHeadless limits at db wal journal verdict → IsHeadlessDeep limits at db wal journal (verdict_as verdict)
-headless_as limits None db wal journal (plain.Clean report) is = is
-headless_as limits (Some m) db wal journal (plain.Clean report) is = is
+pub headless_as : (limits : Bounds) (at : Commit) (db wal journal : List ℕ) (verdict : Verdict) → IsHeadless limits at db wal journal verdict → IsHeadlessDeep limits at db wal journal (verdict_as verdict)
+headless_as limits at db wal journal (plain.Clean report) is = is
 headless_as limits at db wal journal (plain.Damaged e) is = is
 
-pub front_as : (limits : Bounds) (at : Option ℕ) (db wal journal : List ℕ) (verdict : Verdict) (front : Option Front)
+pub front_as : (limits : Bounds) (at : Commit) (db wal journal : List ℕ) (verdict : Verdict) (front : Option Front)
     → IsAskedFront at wal journal front ⊎ ((front ≡ None) × IsHeadless limits at db wal journal verdict)
     → IsAskedFront at wal journal front ⊎ ((front ≡ None) × IsHeadlessDeep limits at db wal journal (verdict_as verdict))
 front_as limits at db wal journal verdict front is = ⊎_elim

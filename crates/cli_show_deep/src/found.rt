@@ -9,6 +9,7 @@ ghost use Rattle.cli_show_deep.specs.Found.{IsFoundAs, IsFoundDeep, IsHeadlessDe
 use cli_facts::{Front, Refusal};
 use cli_show::{Asked, judged, view_of};
 use sqdeepjudge::{DeepVerdict, deep_without, judge_deep};
+use sqpast::PastError;
 use sqview::{FileBytes, JudgeError};
 use std::alloc::Global;
 
@@ -56,7 +57,8 @@ fn judged_deep<F: FileBytes + Drop>(
             let front = Front::of_view(&view);
             as_found(front, judge_deep(alloc, &mut view, asked.maps))
         }
-        Err(error) => as_found(None, deep_without(error)),
+        Err(PastError::Refused(error)) => as_found(None, deep_without(error)),
+        Err(PastError::CommitOverwritten) => Err(Refusal::CommitOverwritten),
     }
 }
 

@@ -156,6 +156,7 @@ pub record AsksBesides (options : List (List ℕ)) (o : Options) : Type 0 where
   pub verbose : IsTrue o.verbose ↔ (Contains options (codes "-v") ⊎ Contains options (codes "--verbose"))
   pub super_journal : AsksOf options o.super_journal
   pub at_commit : AsksAt options o.at
+  pub up_to_last : o.front ≡ None
   pub style : AsksStyle options o.style
   pub large : IsTrue o.large ↔ Contains options (codes "--large")
   pub pointer_maps : IsTrue o.pointer_maps ↔ Contains options (codes "--pointer-maps")

@@ -6,7 +6,8 @@ mod tables;
 mod words;
 
 pub use requests::{
-    Between, Cells, ChangeForm, Compared, Options, Part, Request, RowForm, Style, SuperJournal,
+    Between, Cells, ChangeForm, Commit, Compared, Options, Part, Request, RowForm, Style,
+    SuperJournal,
 };
 pub use tables::Tables;
 pub use words::{asked, asks_version};

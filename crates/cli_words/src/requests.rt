@@ -1,4 +1,7 @@
 //! What a command line asks for.
+ghost use Rattle.std.specs.Prelude.{◌≡◌};
+ghost use Rattle.cli_words.specs.Commits.{commit_named, last_of};
+
 use crate::tables::Tables;
 
 /// What of a database file is shown.
@@ -69,7 +72,7 @@ pub enum ChangeForm {
 /// Between which commits rows are compared, of which tables, and how the changes are printed.
 #[derive(Clone, Copy, Debug, PartialEq, Eq)]
 pub struct Compared<'a> {
-    /// The commit frame of the write-ahead log from which on; 0: the file without its log.
+    /// The commit frame of the write-ahead log from which on; 0: before the first one.
     pub from: u32,
     /// The commit frame up to which. None: the last one.
     pub to: Option<u32>,
@@ -82,7 +85,7 @@ pub struct Compared<'a> {
 /// Between which commits the cells of deleted rows are compared.
 #[derive(Clone, Copy, Debug, PartialEq, Eq)]
 pub struct Between {
-    /// The commit frame of the write-ahead log from which on; 0: the file without its log.
+    /// The commit frame of the write-ahead log from which on; 0: before the first one.
     pub from: u32,
     /// The commit frame up to which. None: the last one.
     pub to: Option<u32>,
@@ -95,15 +98,55 @@ pub struct Options {
     pub verbose: bool,
     /// To take the super-journal as there or as gone. None: as nothing is known of it.
     pub super_journal: Option<SuperJournal>,
-    /// To take the database as it was at this commit frame of the write-ahead log, 0 for the file without its log.
-    /// None: as it was at the last one.
+    /// To take the database as it was at this commit frame of the write-ahead log, 0 for before the first one. None: as
+    /// it was at the last one.
     pub at: Option<u32>,
+    /// The front of the log by its index, up to which its frames are read, 0 for none of them. None, as every line asks
+    /// for it: up to the last commit.
+    pub front: Option<u32>,
     /// How to write what is found.
     pub style: Style,
     /// To read databases of up to 1,099,511,627,776 bytes and logs of up to 4,294,967,294 frames.
     pub large: bool,
     /// To take a database with auto-vacuum too, and to judge its pointer maps. Nothing to a recovery.
     pub pointer_maps: bool,
+}
+
+/// At which commit of its log a database is read.
+#[derive(Clone, Copy, Debug, PartialEq, Eq)]
+pub enum Commit {
+    /// At the last one; without a log the file as it is.
+    Last,
+    /// At the front that the log's index names: the file with the frames up to this one. 0: the file as it is.
+    Front(u32),
+    /// At the one that ends with this frame, whatever was copied into the file since. 0: before the first one.
+    At(u32),
+}
+
+impl Commit {
+    /// Up to which frame of the log the database is read. None: up to the last commit.
+    pub fn last(self) -> Option<u32>
+        ensures { result ≡ last_of self }
+    {
+        match self {
+            Commit::Last => None,
+            Commit::Front(frame) | Commit::At(frame) => Some(frame),
+        }
+    }
+}
+
+impl Options {
+    /// At which commit the database is read: the one that is asked for, otherwise the front by the index, otherwise the
+    /// last one.
+    pub fn commit(&self) -> Commit
+        ensures { result ≡ commit_named self.now }
+    {
+        match (self.at, self.front) {
+            (Some(frame), _) => Commit::At(frame),
+            (None, Some(front)) => Commit::Front(front),
+            (None, None) => Commit::Last,
+        }
+    }
 }
 
 /// What a line asks for.

@@ -367,6 +367,7 @@ fn besides(options: &[&str]) -> Option<Options>
         verbose,
         super_journal,
         at,
+        front: None,
         style,
         large,
         pointer_maps,

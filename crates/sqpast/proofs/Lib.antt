@@ -1,1 +1,1 @@
-pub mod past
+pub mod known

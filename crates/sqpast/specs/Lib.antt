@@ -1,2 +1,4 @@
 pub mod Past
+pub mod Files
+pub mod Commits
 pub mod internal

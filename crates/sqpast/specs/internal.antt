@@ -1,1 +1,4 @@
 pub mod Chains
+pub mod Opening
+pub mod Before
+pub mod Commits

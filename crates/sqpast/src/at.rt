@@ -1,29 +1,35 @@
 //! The view of a file at a commit of its log, if it is known which database was there.
-ghost use Rattle.std.specs.Prelude.{◌≡◌, ◌≤◌, ℕ, List, length, IfOk, IfErr, MatchResult};
+ghost use Rattle.std.specs.Prelude.{◌≡◌, ◌≤◌, ◌==◌, cond, min, ℕ, List, length, IfOk, IfErr, IsOk, MatchResult};
 ghost use Rattle.sqwal.specs.Frames.{IsFront};
 ghost use Rattle.sqwal.specs.Header.{named_size};
 ghost use Rattle.sqwal.specs.Took.{TookWithin};
+ghost use Rattle.sqjournal.specs.Journal.{IsHot};
 ghost use Rattle.history.specs.Past.{used, valid_count};
 ghost use Rattle.sqval.specs.Bytes.{word};
+ghost use Rattle.sqview.specs.Laid.{part_or_zeros};
 ghost use Rattle.sqview.specs.LogView.{pages_of};
 ghost use Rattle.sqview.specs.Logs.{IsRead};
 ghost use Rattle.sqview.specs.Shapes.{shape_of};
 ghost use Rattle.sqval.specs.Database.{page};
-ghost use Rattle.sqpast.specs.Past.{PastAnswer, IsTable, IsSource};
+ghost use Rattle.sqpast.specs.Past.{IsTable, IsSource};
+ghost use Rattle.sqpast.specs.Files.{PastAnswerWithin, IsPastRead};
 
 use crate::chains::link_all;
 use crate::gone::until;
 use crate::past_error::PastError;
 use byteorder::{BigEndian, ByteOrder};
 use history::Table;
-use sqpage::PageSource;
+use sqpage::{PageSource, SourceError};
 use sqval::Limits;
 use sqview::{FileBytes, View, ViewError};
 use sqwal::Scan;
 use std::alloc::Global;
 
 /// The most pages of a file that are judged.
-const MOST: u64 = 1 << 40;
+pub(super) const MOST: u64 = 1 << 40;
+
+/// The smallest page size.
+const LEAST: u64 = 512;
 
 /// Which pages of a file are gone at which commits of its log, of which this is the scan. Each page of the file that a
 /// frame names is read once, with those frames; so are those after the smallest commit, back to the first that is
@@ -69,7 +75,7 @@ fn word_at(first: &[u8], at: usize) -> u32
 }
 
 /// The count of pages in a database's first page, if it was written with the last change; otherwise 0.
-fn header_count(first: &[u8]) -> u32
+pub(super) fn header_count(first: &[u8]) -> u32
     requires { 100 ≤ length first.now }
     ensures { result ≡ valid_count first.now }
 {
@@ -81,13 +87,33 @@ fn header_count(first: &[u8]) -> u32
     word_at(first, 28)
 }
 
+/// The header's count of the database whose first page begins there; 0 if it isn't valid.
+pub(super) fn count_at<F: FileBytes>(file: &mut F, at: u64) -> Result<u32, SourceError>
+    ensures read { F.reads_right file.old
+        → IfOk result (λ count. count ≡ valid_count (part_or_zeros 100 at (F.bytes file.old))) }
+    ensures never_fails { F.gives_bytes file.old → IsOk result }
+    ensures still_right { F.reads_right file.old → F.reads_right file.new }
+    ensures still_gives { F.gives_bytes file.old → F.gives_bytes file.new }
+    ensures same_bytes { F.bytes file.new ≡ F.bytes file.old }
+{
+    let mut head = [0u8; 100];
+    file.read_at(at, &mut head)?;
+    Ok(header_count(&head))
+}
+
 /// How many pages count at a commit of so many: the header's count if it is valid and no larger (fileformat2, 1.3.7;
 /// the limit own).
 pub fn used_count(most: u32, first: &[u8]) -> u32
     requires { 100 ≤ length first.now }
     ensures { result ≡ used most first.now }
 {
-    let count = header_count(first);
+    used_of(most, header_count(first))
+}
+
+/// The same by the header's count, 0 if that isn't valid.
+pub(super) fn used_of(most: u32, count: u32) -> u32
+    ensures { result ≡ cond (count == 0) most (min count most) }
+{
     if count == 0 {
         return most;
     }
@@ -116,10 +142,12 @@ fn used_pages<F: FileBytes>(alloc: Global, view: &mut View<F>) -> Result<u32, Vi
     Ok(used_count(most, page))
 }
 
-/// The view of a file with a log, of which this is the scan, at a commit frame: at the log's front what both show, and
-/// before it the database that was there, with the pages that its header counts. Refused by CommitOverwritten if a
-/// later checkpoint may have changed that one; otherwise as `View::of_scan_within`, and by Unread.
-pub fn view_at<F: FileBytes + Drop>(
+/// The view of a file with its log, of which this is the scan, at a commit frame: at the log's front what both show,
+/// and before it the database that was there, with the pages that its header counts. Each page of the file that a frame
+/// names is read once more, as `read_table` says. Refused by NoSuchCommit if the frame ends no commit, also if it is 0;
+/// by TooLarge; and by CommitOverwritten if a later checkpoint may have changed that database. NoMemory may stand in
+/// place of any answer, and Unread if a file can't be read.
+pub fn past_of_scan<F: FileBytes + Drop>(
     alloc: Global,
     limits: Limits,
     db: F,
@@ -127,12 +155,13 @@ pub fn view_at<F: FileBytes + Drop>(
     scan: &Scan,
     frame: u32,
 ) -> Result<View<F>, PastError>
-    ensures answer { F.reads_right db → F.reads_right log → TookWithin limits.frames (F.bytes log) scan.now → 1 ≤ frame
-        → (front : ℕ) → IsFront (named_size (F.bytes log)) (F.bytes log) front
-        → PastAnswer limits F.bytes front frame (F.bytes db) (F.bytes log) result }
-    ensures still_right { F.reads_right db → F.reads_right log
+    ensures right { F.reads_right db × F.reads_right log → IsPastRead result
+        → TookWithin limits.frames (F.bytes log) scan.now → 1 ≤ frame → (journal : List ℕ) → ¬ IsHot journal
+        → PastAnswerWithin limits F.bytes frame (F.bytes db) (F.bytes log) journal result }
+    ensures read { F.gives_bytes db × F.gives_bytes log → IsPastRead result }
+    ensures still_right { F.reads_right db × F.reads_right log
         → IfOk result (λ view. F.reads_right view.db × F.reads_right view.log) }
-    ensures still_gives { F.gives_bytes db → F.gives_bytes log
+    ensures still_gives { F.gives_bytes db × F.gives_bytes log
         → IfOk result (λ view. F.gives_bytes view.db × F.gives_bytes view.log) }
     ensures reads { IfOk result (λ view. (F.bytes view.db ≡ F.bytes db) × (F.bytes view.log ≡ F.bytes log)) }
 {
@@ -142,6 +171,9 @@ pub fn view_at<F: FileBytes + Drop>(
     let Some(commit) = scan.entry(frame as usize) else {
         return Err(PastError::Refused(ViewError::NoSuchCommit));
     };
+    if u64::from(commit.size) > limits.bytes() / LEAST {
+        return Err(PastError::Refused(ViewError::TooLarge));
+    }
     let mut db = db;
     let mut log = log;
     let table = read_table(alloc, &mut db, &mut log, scan, commit.size as usize)?;

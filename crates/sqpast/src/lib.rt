@@ -2,10 +2,16 @@
 #![tactic(auto)]
 
 mod at;
+mod before;
 mod chains;
+mod commits;
+mod files;
 mod gone;
 mod likeness;
 mod past_error;
 
-pub use at::{read_table, used_count, view_at};
+pub use at::{past_of_scan, read_table, used_count};
+pub use before::past_before;
+pub use commits::{first_known, known_commits};
+pub use files::{past, past_front_is_shown, past_within};
 pub use past_error::PastError;

@@ -69,7 +69,7 @@ fn is_part<F: FileBytes>(file: &mut F, at: u64, bytes: &[u8]) -> Result<bool, So
 }
 
 /// Where the page of a frame begins in the log.
-fn place(frame: u32, page_size: PageSize) -> u64
+pub fn place(frame: u32, page_size: PageSize) -> u64
     requires { 1 ≤ frame }
     ensures place { result ≡ frame_at page_size frame + 24 }
     ensures low { result + page_size < 2 ^ 60 }

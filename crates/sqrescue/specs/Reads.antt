@@ -1,5 +1,6 @@
 -- What a reading of a database file comes to (own).
 use Rattle.std.specs.Prelude.{◌≡◌, ◌⊎◌, ℕ, Bool, true, false, ◌||◌, List, Option, Result, IsErrAnd}
+use Rattle.cli_words.specs.Commits.{commit_named}
 use Rattle.cli_words.specs.declared.requests.Options.{Options}
 use Rattle.cli_words.specs.declared.requests.Part.TheVariants as parts
 use Rattle.cli_files.specs.declared.opened_file.OpenedFile.{OpenedFile}
@@ -16,6 +17,8 @@ use Rattle.cli_job.specs.Sources.{IsAloneOf, IsSourceOf, IsUnsourced}
 use Rattle.cli_job.specs.declared.answers.Answer.{Answer}
 use Rattle.cli_job.specs.declared.commands.Command.{Command}
 use Rattle.cli_job.specs.declared.commands.Command.TheVariants.{Check, Pages, Show, Rows, Places, Deleted}
+use Rattle.cli_job.specs.declared.sources.Extent.{Extent}
+use Rattle.cli_job.specs.declared.sources.Extent.TheVariants.{One, Several, Log}
 use Rattle.sqrescue.specs.declared.readings.Look.{Look}
 use Rattle.sqrescue.specs.declared.readings.Look.TheVariants as looks
 use Rattle.sqrescue.specs.declared.readings.Reading.{Reading}
@@ -26,7 +29,7 @@ use Rattle.cli_job.specs.declared.sources.Watch.TheVariants.{Undated}
 
 -- what is asked of files; a deep check judges pointer maps, too
 abbrev pub asked_named : Options → (deep : Bool) → Asked
-asked_named options deep = record { limits = limits_named options.large; at = options.at; maps = record { pointer_maps = options.pointer_maps || deep } }
+asked_named options deep = record { limits = limits_named options.large; at = commit_named options; maps = record { pointer_maps = options.pointer_maps || deep } }
 
 -- the command that looks for this
 abbrev pub command_of : Look → Options → Command
@@ -46,11 +49,13 @@ ReadsTo bytes gives (readings.Report to changes) source answer = ReportsTo bytes
 ReadsTo bytes gives (readings.Diff difference) source answer = DiffsTo bytes gives source difference answer
 ReadsTo bytes gives (readings.Salvage to places) source answer = SalvagesTo bytes gives source places answer
 
--- all of a log is read
-abbrev pub is_of_log : Reading → Bool
-is_of_log (readings.Look (looks.Part (parts.Log all))) = true
-is_of_log (readings.Look (looks.Part parts.Commits)) = true
-is_of_log _ = false
+-- All of a log is read where that is shown, and earlier commits than the last one for changes.
+abbrev pub extent_of : Reading → Extent
+extent_of (readings.Look (looks.Part (parts.Log all))) = Log
+extent_of (readings.Look (looks.Part parts.Commits)) = Log
+extent_of (readings.Diff difference) = Several
+extent_of (readings.Report to true) = Several
+extent_of _ = One
 
 -- the files are read; where locks keep the database file as it is, and its journal was changed, it alone
 abbrev pub IsReadOf : (source read : Source) → Type 0
@@ -59,5 +64,5 @@ IsReadOf source read = (read ≡ source) ⊎ ((source.watch ≡ Undated) × IsAl
 -- What a reading comes to.
 abbrev pub IsRead : {F : Type 0} → (bytes : OpenedFile F → List ℕ) → (gives : OpenedFile F → Type 0) → Read → Result Answer ShowError → Type 0
 IsRead bytes gives asked answer =
-    ((source read : Source) × IsSourceOf asked.file asked.options (is_of_log asked.reading) source × IsReadOf source read × ReadsTo bytes gives asked.reading read answer)
+    ((source read : Source) × IsSourceOf asked.file asked.options (extent_of asked.reading) source × IsReadOf source read × ReadsTo bytes gives asked.reading read answer)
     ⊎ IsErrAnd answer (λ error. IfRefused (IsUnsourced asked.options.at) error)

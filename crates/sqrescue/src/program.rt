@@ -231,7 +231,7 @@ where
 {
     let reading = asked.reading;
     let of = (asked.file, asked.options);
-    match source_of(rt, of, reading.is_of_log(), locks, notes) {
+    match source_of(rt, of, reading.extent(), locks, notes) {
         Ok(source) => {
             let answer = read_from(rt, reading, &source, out, notes);
             match source.watch {

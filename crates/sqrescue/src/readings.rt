@@ -1,10 +1,10 @@
 //! What is done with a database file that is only read.
 ghost use Rattle.std.specs.Prelude.{◌≡◌};
-ghost use Rattle.sqrescue.specs.Reads.{asked_named, command_of, is_of_log};
+ghost use Rattle.sqrescue.specs.Reads.{asked_named, command_of, extent_of};
 ghost use Rattle.sqrescue.specs.Runs.{read_named, task_of};
 
 use cli_dump::Wanted;
-use cli_job::Command;
+use cli_job::{Command, Extent};
 use cli_report::Difference;
 use cli_show::{Asked, limits_of};
 use cli_words::{Cells, Options, Part, Request};
@@ -59,7 +59,7 @@ fn asked_for(options: Options, deep: bool) -> Asked
 {
     Asked {
         limits: limits_of(options),
-        at: options.at,
+        at: options.commit(),
         maps: Maps {
             pointer_maps: options.pointer_maps | deep,
         },
@@ -86,19 +86,17 @@ impl<'a> Look<'a> {
 }
 
 impl<'a> Reading<'a> {
-    /// Whether all of a log is shown.
-    pub(crate) fn is_of_log(self) -> bool
-        ensures { result ≡ is_of_log self.entry }
+    /// How much of the database's history is read.
+    pub(crate) fn extent(self) -> Extent
+        ensures { result ≡ extent_of self.entry }
     {
         match self {
-            Reading::Look(Look::Part(part)) => matches!(part, Part::Log { .. } | Part::Commits),
-            Reading::Look(
-                Look::Damage(_) | Look::Rows(_) | Look::Places(_) | Look::Deleted { .. },
-            ) => false,
-            Reading::Diff(_)
+            Reading::Look(Look::Part(Part::Log { .. } | Part::Commits)) => Extent::Log,
+            Reading::Diff(_) | Reading::Report { changes: true, .. } => Extent::Several,
+            Reading::Look(_)
             | Reading::Copy(_)
             | Reading::Report { .. }
-            | Reading::Salvage { .. } => { false }
+            | Reading::Salvage { .. } => Extent::One,
         }
     }
 

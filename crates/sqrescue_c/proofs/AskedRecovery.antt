@@ -1,5 +1,5 @@
 -- What a recovery refuses of files.
-use Rattle.std.proofs.Common.{◌≡◌, ◌⊎◌, inl, inr, ⊎_elim, ℕ, ◌-◌, ◌<◌, ◌≤◌, List, [], length, take, drop, refl, sym, ◌∙◌, ap, subst, arith, length-drop}
+use Rattle.std.proofs.Common.{◌≡◌, ◌≢◌, ◌⊎◌, inl, inr, ⊎_elim, ℕ, ◌-◌, ◌<◌, ◌≤◌, List, [], length, take, drop, refl, sym, ◌∙◌, ap, subst, arith, length-drop}
 use Rattle.std.proofs.lemmas.List.{length-take-le, take-append-drop}
 use Rattle.std.specs.Prelude.{Result, Ok, Err, IfErr, OnOk}
 use Rattle.sqwal.specs.Header.{named_size, IsHeader, IsHeaderOf, HeaderRefused, HeaderAnswer}
@@ -17,7 +17,9 @@ use Rattle.sqview.proofs.file.FileHeads.{page_is_part, head_is}
 use Rattle.sqview.specs.Logs.{CountsAnswer}
 use Rattle.sqview.specs.declared.view_error.ViewError.{ViewError}
 use Rattle.sqview.specs.declared.view_error.ViewError.TheVariants as viewed
-use Rattle.sqrescue_c.specs.Statuses.{view_status}
+use Rattle.sqpast.specs.declared.past_error.PastError.{PastError}
+use Rattle.sqpast.specs.declared.past_error.PastError.TheVariants.{Refused, CommitOverwritten}
+use Rattle.sqrescue_c.specs.Statuses.{view_status, past_status}
 use Rattle.sqrescue_c.specs.Views.{IsRefused, IsRefusedAt}
 use Rattle.sqrescue_c.specs.Recoveries.{EndsWithMagic, HasFront, NamesOtherSize, RefusesAsRecovery, RefusesAsRecoveryAt}
 use Rattle.sqrescue_c.specs.internal.Recoveries.{memory_of, version_of, IsAskedOfLog, IsAsked, IsAskedAt}
@@ -33,6 +35,13 @@ pass = Ok tt
 
 abbrev pub fail : Status → Answer
 fail s = Err s
+
+-- the number of an answer that says nothing of what a recovery refuses so
+pub record IsOther (n : ℕ) : Type 0 where
+  pub version : n ≢ 14
+  pub super_journal : n ≢ 15
+  pub sizes : n ≢ 16
+  pub greatest : (n ≤ 16) ⊎ (n ≡ 30)
 
 -- what the first 32 bytes say, the log says
 pub header_of_taken : (w : List ℕ) (r : Result WalHeader WalFormatError) → 32 ≤ length w → HeaderAnswer (take 32 w) r → HeaderAnswer w r
@@ -198,13 +207,13 @@ module _ (db wal journal : List ℕ) where
 
   -- the same at a commit frame
   module _ (m : ℕ) where
-    pub passed_at : (n : ℕ) → n < 14 → IsAskedAt m db wal journal pass → RefusesAsRecoveryAt m db wal journal n
-    passed_at n low q = record {
-      version = (λ e. absurd (omega (arith, e)), λ v. absurd ((q v.0).0 v.1));
-      no_super_journal = λ e. omega (arith, e);
-      sizes = λ e. absurd (omega (arith, e));
+    pub passed_at : (n : ℕ) → IsOther n → IsAskedAt m db wal journal pass → RefusesAsRecoveryAt m db wal journal n
+    passed_at n other q = record {
+      version = (λ e. absurd (other.version e), λ v. absurd ((q v.0).0 v.1));
+      no_super_journal = other.super_journal;
+      sizes = λ e. absurd (other.sizes e);
       other_sizes = λ some h. absurd ((q some).1 h);
-      greatest = omega arith;
+      greatest = other.greatest;
     }
 
     pub refused_as_at : (s : Status) → IsAskedAt m db wal journal (fail s) → RefusesAsRecoveryAt m db wal journal (number_of s)
@@ -213,28 +222,29 @@ module _ (db wal journal : List ℕ) where
       no_super_journal = λ e. omega (arith, e);
       sizes = λ e. absurd (omega (arith, e));
       other_sizes = λ _ h. absurd (version_of_front wal h.has q.1.refused);
-      greatest = omega arith;
+      greatest = inl (omega arith);
     }
     refused_as_at statuses.PageSizesDiffer q = record {
       version = (λ e. absurd (omega (arith, e)), λ v. absurd (version_of_front wal q.1.has v.1.refused));
       no_super_journal = λ e. omega (arith, e);
       sizes = λ _. q;
       other_sizes = λ _ _. inl refl;
-      greatest = omega arith;
+      greatest = inl (omega arith);
     }
     refused_as_at statuses.NoMemory q = record {
       version = (λ e. absurd (omega (arith, e)), λ v. absurd (q v.1));
       no_super_journal = λ e. omega (arith, e);
       sizes = λ e. absurd (omega (arith, e));
       other_sizes = λ _ _. inr refl;
-      greatest = omega arith;
+      greatest = inl (omega arith);
     }
     refused_as_at _ q = absurd q
 
-    pub refused_low_at : (s : Status) → IsAskedAt m db wal journal (fail s) → number_of s < 14 → IsRefusedAt m db wal journal (number_of s)
-    refused_low_at statuses.LogVersion q low = absurd (omega (arith, low))
-    refused_low_at statuses.PageSizesDiffer q low = absurd (omega (arith, low))
-    refused_low_at statuses.NoMemory q low = record { error = viewed.NoMemory; numbered = refl; refused = tt }
+    pub refused_low_at : (s : Status) → IsAskedAt m db wal journal (fail s) → (number_of s < 14) ⊎ (number_of s ≡ 30)
+        → IsRefusedAt m db wal journal (number_of s)
+    refused_low_at statuses.NoMemory q low = record { error = Refused viewed.NoMemory; numbered = refl; refused = tt }
+    refused_low_at statuses.LogVersion q low = absurd (⊎_elim (λ (n : 14 < 14). omega (arith, n)) (λ (n : 14 ≡ 30). omega (arith, n)) low)
+    refused_low_at statuses.PageSizesDiffer q low = absurd (⊎_elim (λ (n : 16 < 14). omega (arith, n)) (λ (n : 16 ≡ 30). omega (arith, n)) low)
     refused_low_at _ q low = absurd q
 
 pub low_view : (e : ViewError) → view_status e < 14
@@ -244,3 +254,20 @@ low_view (viewed.Header fault) = omega arith
 low_view viewed.Unread = omega arith
 low_view viewed.NoMemory = omega arith
 low_view viewed.NoSuchCommit = omega arith
+
+pub other_low : (n : ℕ) → n < 14 → IsOther n
+other_low n low = record {
+  version = λ e. omega (arith, e, low);
+  super_journal = λ e. omega (arith, e, low);
+  sizes = λ e. omega (arith, e, low);
+  greatest = inl (omega (arith, low));
+}
+
+pub other_past : (e : PastError) → IsOther (past_status e)
+other_past (Refused e) = other_low (view_status e) (low_view e)
+other_past CommitOverwritten = record {
+  version = λ e. omega (arith, e);
+  super_journal = λ e. omega (arith, e);
+  sizes = λ e. omega (arith, e);
+  greatest = inr refl;
+}

@@ -1,5 +1,5 @@
 -- What a deep check finds, as a caller has it.
-use Rattle.std.proofs.Common.{◌≡◌, ℕ, Bool, true, List, refl, inl, inr}
+use Rattle.std.proofs.Common.{ℕ, true, List, refl, inl, inr, arith}
 use Rattle.std.specs.Prelude.{Result, Ok, Err, IfOk, IfErr}
 use Rattle.std.proofs.lemmas.Bool.{true≢false}
 use Rattle.sqval.specs.Database.{Database}
@@ -10,9 +10,11 @@ use Rattle.sqview.specs.declared.view_error.ViewError.{ViewError}
 use Rattle.sqview.specs.declared.view_error.ViewError.TheVariants.{TwoLogs, TooLarge, Header, Unread, NoMemory, NoSuchCommit}
 use Rattle.sqdeepjudge.specs.Verdicts.{FindsDeep, deep_without}
 use Rattle.sqdeepjudge.specs.declared.verdict.DeepVerdict.{DeepVerdict}
-use Rattle.sqrescue_c.specs.Asked.{is_at, ShowsAsked, AskedRefused}
+use Rattle.sqpast.specs.declared.past_error.PastError.TheVariants.{Refused}
+use Rattle.sqrescue_c.specs.Statuses.{judge_status}
+use Rattle.sqrescue_c.specs.Asked.{ShowsAsked, AskedRefused}
 use Rattle.sqrescue_c.specs.Deeps.{IsAskedDeep, AreDeepUnjudged}
-use Rattle.sqrescue_c.proofs.ReportedFindings.{neither}
+use Rattle.sqrescue_c.proofs.ReportedFindings.{view_refused}
 
 -- what is found of the database that is asked for
 module _ (flags m : ℕ) (db wal journal : List ℕ) where
@@ -21,16 +23,18 @@ module _ (flags m : ℕ) (db wal journal : List ℕ) where
     asked (Ok verdict) finds = inl (size, d, shown, finds)
     asked (Err e) finds = tt
 
-    pub unjudged : (r : Result DeepVerdict JudgeError) → IfErr r (IsUnjudgedWith true d) → IfErr r (AreDeepUnjudged flags m db wal journal)
+    pub unjudged : (r : Result DeepVerdict JudgeError) → IfErr r (IsUnjudgedWith true d)
+        → IfErr r (λ e. AreDeepUnjudged flags m db wal journal (judge_status e))
     unjudged (Ok verdict) refused = tt
+    unjudged (Err refusals.NoMemory) refused =
+        view_refused flags m db wal journal NoMemory (λ n. omega (arith, n)) (record { at = λ _. tt; shown = λ _. tt })
+    unjudged (Err refusals.AutoVacuum) refused = absurd (true≢false refused.0)
     unjudged (Err refusals.TwoLogs) refused = absurd refused
     unjudged (Err refusals.TooLarge) refused = absurd refused
     unjudged (Err refusals.NoSuchCommit) refused = absurd refused
-    unjudged (Err refusals.NoMemory) refused = tt
-    unjudged (Err refusals.AutoVacuum) refused = absurd (true≢false refused.0)
     unjudged (Err refusals.Unread) refused = absurd refused
 
-  pub without : (e : ViewError) → AskedRefused flags m db wal journal e → IfOk (deep_without e) (IsAskedDeep flags m db wal journal)
+  pub without : (e : ViewError) → AskedRefused flags m db wal journal (Refused e) → IfOk (deep_without e) (IsAskedDeep flags m db wal journal)
   without (Header fault) refused = inr (fault, refl, refused)
   without TwoLogs refused = tt
   without TooLarge refused = tt
@@ -38,10 +42,11 @@ module _ (flags m : ℕ) (db wal journal : List ℕ) where
   without Unread refused = tt
   without NoMemory refused = tt
 
-  pub unjudged_without : (e : ViewError) → AskedRefused flags m db wal journal e → IfErr (deep_without e) (AreDeepUnjudged flags m db wal journal)
+  pub unjudged_without : (e : ViewError) → AskedRefused flags m db wal journal (Refused e)
+      → IfErr (deep_without e) (λ j. AreDeepUnjudged flags m db wal journal (judge_status j))
   unjudged_without (Header fault) refused = tt
-  unjudged_without TwoLogs refused = refused
-  unjudged_without TooLarge refused = refused
-  unjudged_without NoSuchCommit refused = refused
-  unjudged_without Unread refused = absurd (neither (is_at flags) refused.at refused.shown)
-  unjudged_without NoMemory refused = tt
+  unjudged_without TwoLogs refused = view_refused flags m db wal journal TwoLogs (λ n. omega (arith, n)) refused
+  unjudged_without TooLarge refused = view_refused flags m db wal journal TooLarge (λ n. omega (arith, n)) refused
+  unjudged_without NoSuchCommit refused = view_refused flags m db wal journal NoSuchCommit (λ n. omega (arith, n)) refused
+  unjudged_without Unread refused = view_refused flags m db wal journal Unread (λ n. omega (arith, n)) refused
+  unjudged_without NoMemory refused = view_refused flags m db wal journal NoMemory (λ n. omega (arith, n)) refused

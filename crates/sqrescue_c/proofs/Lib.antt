@@ -3,6 +3,7 @@ pub mod ReportedFindings
 pub mod DeepFindings
 pub mod CopiedFrames
 pub mod CopiedCommits
+pub mod KnownCommits
 pub mod CopiedRecords
 pub mod AskedRecovery
 pub mod AskedViews

@@ -3,7 +3,7 @@ use Rattle.std.proofs.Common.{◌≡◌, ◌≢◌, ⊎_elim, ℕ, ◌*◌, ◌-
 use Rattle.std.specs.Prelude.{Result, Ok, Err, IfOk, IfErr}
 use Rattle.std.proofs.lemmas.Bool.{cases_lt}
 use Rattle.sqval.specs.Database.{page}
-use Rattle.sqview.specs.internal.At.{IsShownAt}
+use Rattle.sqval.specs.Limits.{usual}
 use Rattle.sqview.specs.Laid.{laid, part_or_zeros, place_of}
 use Rattle.sqview.specs.LogView.{ViewAnswer, ViewRefused, ReadsFrom, IsAlone}
 use Rattle.sqview.specs.internal.LogView.{IsShown}
@@ -11,6 +11,7 @@ use Rattle.sqview.specs.declared.view.View.{View}
 use Rattle.sqview.specs.declared.view_error.ViewError.{ViewError}
 use Rattle.sqview.proofs.openings.PagesOfView.{length_laid, page_own, page_logged}
 use Rattle.sqview.proofs.file.FileHeads.{page_is_part}
+use Rattle.sqpast.specs.Files.{IsPastShownWithin}
 use Rattle.sqrescue_c.specs.Views.{HasSize, IsOpened, IsCrowded, IsOpenedAt, IsCrowdedAt}
 
 module _ {F : Type 0} (bytes : F → List ℕ) (db wal journal : List ℕ) where
@@ -60,7 +61,7 @@ module _ {F : Type 0} (bytes : F → List ℕ) (db wal journal : List ℕ) where
         }
 
 -- the same at a commit frame
-module _ {F : Type 0} (bytes : F → List ℕ) (m : ℕ) (db wal journal : List ℕ) (v : View F) (is : IsShownAt bytes m db wal journal v) where
+module _ {F : Type 0} (bytes : F → List ℕ) (m : ℕ) (db wal journal : List ℕ) (v : View F) (is : IsPastShownWithin usual bytes m db wal journal v) where
   long_at : length (laid v.page_size v.count (bytes v.db) (bytes v.log) v.places.items) ≡ v.count
   long_at = length_laid v.page_size v.count (bytes v.db) (bytes v.log) v.places.items
 

@@ -2,17 +2,21 @@
 use Rattle.std.specs.Prelude.{◌≡◌, ℕ, ◌/◌, ◌%◌, ◌<◌, Bool, true, false, cond, ◌==◌, List}
 use Rattle.sqval.specs.Database.{Database}
 use Rattle.sqval.specs.Limits.{Bounds, usual, greatest}
-use Rattle.sqview.specs.At.{ViewsAt, AtRefusedWithin}
 use Rattle.sqview.specs.LogView.{Views, ViewRefusedWithin}
-use Rattle.sqview.specs.declared.view_error.ViewError.{ViewError}
+use Rattle.sqpast.specs.Files.{PastViews, PastRefusedWithin}
+use Rattle.sqpast.specs.declared.past_error.PastError.{PastError}
+use Rattle.sqpast.specs.declared.past_error.PastError.TheVariants.{Refused, CommitOverwritten}
 
 -- whether a flag, a power of two, is set
 abbrev pub is_set : (flags flag : ℕ) → Bool
 is_set flags flag = (flags / flag) % 2 == 1
 
 -- at a commit, 4; the greatest limits, 8; with pointer maps, 16
+abbrev pub at_commit : ℕ
+at_commit = 4
+
 abbrev pub is_at : ℕ → Bool
-is_at flags = is_set flags 4
+is_at flags = is_set flags at_commit
 
 abbrev pub limits_of : ℕ → Bounds
 limits_of flags = cond (is_set flags 8) greatest usual
@@ -25,12 +29,17 @@ pub record AreAskedFlags (flags : ℕ) : Type 0 where
   pub low : flags < 32
   pub no_others : flags % 4 ≡ 0
 
--- the database that the files show, or at commit frame m, where that is asked for
+-- the database that the files show, or the one at commit frame m, or at 0, if that is asked for
 pub record ShowsAsked (flags m size : ℕ) (db wal journal : List ℕ) (d : Database) : Type 0 where
-  pub at : is_at flags ≡ true → ViewsAt m size db wal journal d
+  pub at : is_at flags ≡ true → PastViews m size db wal journal d
   pub shown : is_at flags ≡ false → Views size db wal journal d
 
+-- what refuses the database that the files show; no commit is asked for
+abbrev pub ShownRefused : (limits : Bounds) (db wal journal : List ℕ) → PastError → Type 0
+ShownRefused limits db wal journal (Refused e) = ViewRefusedWithin limits db wal journal e
+ShownRefused limits db wal journal CommitOverwritten = ⊥
+
 -- why it isn't shown
-pub record AskedRefused (flags m : ℕ) (db wal journal : List ℕ) (error : ViewError) : Type 0 where
-  pub at : is_at flags ≡ true → AtRefusedWithin (limits_of flags) m db wal journal error
-  pub shown : is_at flags ≡ false → ViewRefusedWithin (limits_of flags) db wal journal error
+pub record AskedRefused (flags m : ℕ) (db wal journal : List ℕ) (error : PastError) : Type 0 where
+  pub at : is_at flags ≡ true → PastRefusedWithin (limits_of flags) m db wal journal error
+  pub shown : is_at flags ≡ false → ShownRefused (limits_of flags) db wal journal error

@@ -1,16 +1,17 @@
 -- What the check of files answers.
-use Rattle.std.specs.Prelude.{◌≡◌, ◌⊎◌, ℕ, List}
+use Rattle.std.specs.Prelude.{◌≡◌, ◌≢◌, ◌⊎◌, ℕ, List}
 use Rattle.sqpage.specs.Faults.{number_of}
 use Rattle.sqpage.specs.declared.fault.Fault.{Fault}
 use Rattle.sqval.specs.Database.{Database}
 use Rattle.sqview.specs.Verdicts.{FindsWith, IsUnjudgedWith}
 use Rattle.sqview.specs.declared.judge_error.JudgeError.{JudgeError}
-use Rattle.sqview.specs.declared.judge_error.JudgeError.TheVariants as refusals
 use Rattle.sqview.specs.declared.verdict.Verdict.{Verdict}
 use Rattle.sqview.specs.declared.verdict.Verdict.TheVariants.{Clean, Damaged}
-use Rattle.sqview.specs.declared.view_error.ViewError.TheVariants.{TwoLogs, TooLarge, Header, NoSuchCommit}
+use Rattle.sqview.specs.declared.view_error.ViewError.TheVariants.{Header}
+use Rattle.sqpast.specs.declared.past_error.PastError.{PastError}
+use Rattle.sqpast.specs.declared.past_error.PastError.TheVariants.{Refused}
 use Rattle.sqrescue_c.specs.Asked.{maps_of, ShowsAsked, AskedRefused}
-use Rattle.sqrescue_c.specs.Statuses.{judge_status}
+use Rattle.sqrescue_c.specs.Statuses.{judge_status, past_status}
 use Rattle.sqrescue_c.specs.declared.check.CheckReport.{CheckReport}
 
 -- the verdict that the database is well formed, with these counts
@@ -42,12 +43,14 @@ pub record SaysUnjudged (AreUnjudged : JudgeError → Type 0) (number : ℕ) : T
 abbrev pub IsAskedVerdict : (flags m : ℕ) (db wal journal : List ℕ) → Verdict → Type 0
 IsAskedVerdict flags m db wal journal verdict =
     ((size : ℕ) × (d : Database) × ShowsAsked flags m size db wal journal d × FindsWith (maps_of flags) d size verdict)
-    ⊎ ((fault : Fault) × (verdict ≡ Damaged (record { page = 1; fault = fault })) × AskedRefused flags m db wal journal (Header fault))
+    ⊎ ((fault : Fault) × (verdict ≡ Damaged (record { page = 1; fault = fault })) × AskedRefused flags m db wal journal (Refused (Header fault)))
 
--- Why it isn't judged: what refuses its view, pointer maps that aren't asked for, or no memory.
-abbrev pub AreAskedUnjudged : (flags m : ℕ) (db wal journal : List ℕ) → JudgeError → Type 0
-AreAskedUnjudged flags m db wal journal refusals.TwoLogs = AskedRefused flags m db wal journal TwoLogs
-AreAskedUnjudged flags m db wal journal refusals.TooLarge = AskedRefused flags m db wal journal TooLarge
-AreAskedUnjudged flags m db wal journal refusals.NoSuchCommit = AskedRefused flags m db wal journal NoSuchCommit
-AreAskedUnjudged flags m db wal journal refusals.NoMemory = Unit {0}
-AreAskedUnjudged flags m db wal journal refusal = (size : ℕ) × (d : Database) × ShowsAsked flags m size db wal journal d × IsUnjudgedWith (maps_of flags) d refusal
+-- Why there is no verdict, by its number: what refuses the view, and isn't the file's header.
+abbrev pub IsViewRefused : (flags m : ℕ) (db wal journal : List ℕ) → (number : ℕ) → Type 0
+IsViewRefused flags m db wal journal number = (e : PastError) × (number ≡ past_status e) × (number ≢ 5) × AskedRefused flags m db wal journal e
+
+-- That, or pointer maps that aren't asked for, or no memory.
+abbrev pub AreAskedUnjudged : (flags m : ℕ) (db wal journal : List ℕ) → (number : ℕ) → Type 0
+AreAskedUnjudged flags m db wal journal number =
+    IsViewRefused flags m db wal journal number
+    ⊎ ((size : ℕ) × (d : Database) × ShowsAsked flags m size db wal journal d × (e : JudgeError) × (number ≡ judge_status e) × IsUnjudgedWith (maps_of flags) d e)

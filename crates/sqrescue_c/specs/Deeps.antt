@@ -1,16 +1,14 @@
 -- What a deep check of files answers.
-use Rattle.std.specs.Prelude.{◌≡◌, ◌⊎◌, ◌<◌, ℕ, Bool, true, false, cond, List, ◌++◌, length, get_or, Option, Some, None}
+use Rattle.std.specs.Prelude.{◌≡◌, ◌⊎◌, ◌<◌, ℕ, true, cond, List, ◌++◌, length, get_or, Option, Some, None}
 use Rattle.sqpage.specs.Faults.{number_of}
 use Rattle.sqpage.specs.declared.fault.Fault.{Fault}
 use Rattle.sqval.specs.Database.{Database}
 use Rattle.sqdeep.specs.Faults as inner
-use Rattle.sqdeep.specs.declared.fault.InnerError.{InnerError}
 use Rattle.sqschema.specs.SchemaFaults as schemas
 use Rattle.sqindex.specs.IndexFaults as indexes
 use Rattle.sqindex.specs.RowFaults as tables
-use Rattle.sqview.specs.declared.judge_error.JudgeError.{JudgeError}
-use Rattle.sqview.specs.declared.judge_error.JudgeError.TheVariants as refusals
-use Rattle.sqview.specs.declared.view_error.ViewError.TheVariants.{TwoLogs, TooLarge, Header, NoSuchCommit}
+use Rattle.sqview.specs.declared.view_error.ViewError.TheVariants.{Header}
+use Rattle.sqpast.specs.declared.past_error.PastError.TheVariants.{Refused}
 use Rattle.sqdeepjudge.specs.Verdicts.{FindsDeep, is_damaged}
 use Rattle.sqdeepjudge.specs.declared.verdict.Damage.TheVariants.{Check, Inner, Schema, Content, Row}
 use Rattle.sqdeepjudge.specs.declared.verdict.DeepVerdict.{DeepVerdict}
@@ -18,6 +16,7 @@ use Rattle.sqdeepjudge.specs.declared.verdict.Unjudged.{Unjudged}
 use Rattle.sqdeepjudge.specs.declared.verdict.DeepVerdict.TheVariants.{Clean, Sound, Damaged}
 use Rattle.sqcheck.specs.declared.report.Report.{Report}
 use Rattle.sqrescue_c.specs.Asked.{ShowsAsked, AskedRefused}
+use Rattle.sqrescue_c.specs.Checks.{IsViewRefused}
 use Rattle.sqrescue_c.specs.declared.deep.DeepReport.{DeepReport}
 
 -- a fault, and which of page, 1, cell, 2, and row of the schema, 4, it names
@@ -84,7 +83,7 @@ AreRowsToldOf _ rows = Unit {0}
 abbrev pub IsAskedDeep : (flags m : ℕ) (db wal journal : List ℕ) → DeepVerdict → Type 0
 IsAskedDeep flags m db wal journal verdict =
     ((size : ℕ) × (d : Database) × ShowsAsked flags m size db wal journal d × FindsDeep true d size verdict)
-    ⊎ ((fault : Fault) × (verdict ≡ Damaged (Check (record { page = 1; fault = fault }))) × AskedRefused flags m db wal journal (Header fault))
+    ⊎ ((fault : Fault) × (verdict ≡ Damaged (Check (record { page = 1; fault = fault }))) × AskedRefused flags m db wal journal (Refused (Header fault)))
 
 -- That is told: 0 of a sound database, 1 of a damaged one.
 abbrev pub IsDeepAnswer : (flags m : ℕ) (db wal journal : List ℕ) (status : ℕ) → DeepReport → (rows : List ℕ) → Type 0
@@ -92,10 +91,6 @@ IsDeepAnswer flags m db wal journal status out rows =
     (verdict : DeepVerdict) × IsAskedDeep flags m db wal journal verdict × (status ≡ cond (is_damaged verdict) 1 0)
     × (out ≡ deep_report verdict) × AreRowsToldOf verdict rows
 
--- Why it isn't judged: what refuses its view, or no memory.
-abbrev pub AreDeepUnjudged : (flags m : ℕ) (db wal journal : List ℕ) → JudgeError → Type 0
-AreDeepUnjudged flags m db wal journal refusals.TwoLogs = AskedRefused flags m db wal journal TwoLogs
-AreDeepUnjudged flags m db wal journal refusals.TooLarge = AskedRefused flags m db wal journal TooLarge
-AreDeepUnjudged flags m db wal journal refusals.NoSuchCommit = AskedRefused flags m db wal journal NoSuchCommit
-AreDeepUnjudged flags m db wal journal refusals.NoMemory = Unit {0}
-AreDeepUnjudged flags m db wal journal refusal = ⊥
+-- Why it isn't judged, by its number: what refuses its view, no memory too.
+abbrev pub AreDeepUnjudged : (flags m : ℕ) (db wal journal : List ℕ) → (number : ℕ) → Type 0
+AreDeepUnjudged flags m db wal journal number = IsViewRefused flags m db wal journal number

@@ -38,4 +38,5 @@ status_name n =
     (if n == 27 then codes "already there" else
     (if n == 28 then codes "disk full" else
     (if n == 29 then codes "shared process" else
-    codes "?"))))))))))))))))))))))))))))))
+    (if n == 30 then codes "commit overwritten" else
+    codes "?")))))))))))))))))))))))))))))))

@@ -54,10 +54,11 @@ pub record RefusesAsRecovery (db wal journal : List ℕ) (number : ℕ) : Type 0
   pub other_sizes : HaveOtherSizes db wal journal → (number ≡ 16) ⊎ (number ≡ 6)
   pub greatest : number ≤ 16
 
--- the same of a call at a commit frame, where a recovery up to there refuses the files; at 0 none is
+-- the same of a call at a commit frame, where a recovery up to there refuses the files; at 0 none is. An overwritten commit
+-- is 30.
 pub record RefusesAsRecoveryAt (m : ℕ) (db wal journal : List ℕ) (number : ℕ) : Type 0 where
   pub version : (number ≡ 14) ↔ ((1 ≤ m) × IsOfOtherVersion wal journal)
   pub no_super_journal : number ≢ 15
   pub sizes : number ≡ 16 → (1 ≤ m) × HaveOtherSizes db wal journal
   pub other_sizes : 1 ≤ m → HaveOtherSizes db wal journal → (number ≡ 16) ⊎ (number ≡ 6)
-  pub greatest : number ≤ 16
+  pub greatest : (number ≤ 16) ⊎ (number ≡ 30)

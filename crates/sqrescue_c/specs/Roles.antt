@@ -13,9 +13,9 @@ use Rattle.sqcheck.specs.declared.report.Report.{Report}
 use Rattle.sqcheck.specs.declared.role.Role.{Role}
 use Rattle.sqcheck.specs.declared.role.Role.TheVariants.{Btree, Overflow, FreeTrunk, FreeLeaf, LockByte, PointerMap, Unused}
 use Rattle.sqcheck.specs.declared.survey.Survey.{Survey}
-use Rattle.sqview.specs.declared.view_error.ViewError.{ViewError}
+use Rattle.sqpast.specs.declared.past_error.PastError.{PastError}
 use Rattle.sqrescue_c.specs.Asked.{maps_of, ShowsAsked, AskedRefused}
-use Rattle.sqrescue_c.specs.Statuses.{view_status}
+use Rattle.sqrescue_c.specs.Statuses.{past_status}
 use Rattle.sqrescue_c.specs.declared.roles.PageRole.{PageRole}
 use Rattle.sqrescue_c.specs.declared.roles.SurveyReport.{SurveyReport}
 
@@ -76,5 +76,5 @@ IsUnsurveyedBy maps d size number =
 -- that, or what refuses its view
 abbrev pub AreRolesRefused : (flags m : ℕ) (db wal journal : List ℕ) (number : ℕ) → Type 0
 AreRolesRefused flags m db wal journal number =
-    ((e : ViewError) × (number ≡ view_status e) × AskedRefused flags m db wal journal e)
+    ((e : PastError) × (number ≡ past_status e) × AskedRefused flags m db wal journal e)
     ⊎ ((size : ℕ) × (d : Database) × ShowsAsked flags m size db wal journal d × IsUnsurveyedBy (maps_of flags) d size number)

@@ -12,6 +12,8 @@ use Rattle.sqview.specs.declared.judge_error.JudgeError.{JudgeError}
 use Rattle.sqview.specs.declared.judge_error.JudgeError.TheVariants as judged
 use Rattle.sqview.specs.declared.view_error.ViewError.{ViewError}
 use Rattle.sqview.specs.declared.view_error.ViewError.TheVariants as viewed
+use Rattle.sqpast.specs.declared.past_error.PastError.{PastError}
+use Rattle.sqpast.specs.declared.past_error.PastError.TheVariants.{Refused, CommitOverwritten}
 
 -- what refuses a view; bytes in memory are never unread
 abbrev pub view_status : ViewError → ℕ
@@ -21,6 +23,11 @@ view_status (viewed.Header fault) = 5
 view_status viewed.Unread = 6
 view_status viewed.NoMemory = 6
 view_status viewed.NoSuchCommit = 10
+
+-- what refuses a view at a commit
+abbrev pub past_status : PastError → ℕ
+past_status (Refused e) = view_status e
+past_status CommitOverwritten = 30
 
 -- what refuses a check
 abbrev pub judge_status : JudgeError → ℕ

@@ -5,12 +5,13 @@ ghost use Rattle.sqrescue_c.specs.Asked.{is_set, is_at, limits_of, maps_of, AreA
 
 use crate::view::Files;
 use sqcheck::Options;
+use sqpast::{PastError, past_within};
 use sqval::Limits;
-use sqview::{View, ViewError};
+use sqview::View;
 use std::alloc::Global;
 
-/// The database at a commit frame, and not at the front.
-const AT: u32 = 4;
+/// The database at a commit frame, or at 0, and not at the front.
+pub(crate) const AT: u32 = 4;
 
 /// The greatest limits, and not the usual ones.
 const LARGE: u32 = 8;
@@ -65,15 +66,15 @@ pub(crate) fn view_asked<'a>(
     files: &Files<'a>,
     flags: u32,
     frame: u32,
-) -> Result<View<&'a [u8]>, ViewError>
+) -> Result<View<&'a [u8]>, PastError>
     ensures shown { IfOk result (λ view. ShowsAsked flags frame view.page_size
         files.now.db.now files.now.wal.now files.now.journal.now (pages_of (λ file. file.now) view)) }
     ensures refused { IfErr result (AskedRefused flags frame files.now.db.now files.now.wal.now files.now.journal.now) }
 {
     let limits = limits_of(flags);
     if is_set(flags, AT) {
-        View::at_within(alloc, limits, files.db, files.wal, files.journal, frame)
+        past_within(alloc, limits, files.db, files.wal, files.journal, frame)
     } else {
-        View::new_within(alloc, limits, files.db, files.wal, files.journal)
+        Ok(View::new_within(alloc, limits, files.db, files.wal, files.journal)?)
     }
 }

@@ -1,16 +1,18 @@
 //! Whether the database that files show is well formed.
-ghost use Rattle.std.specs.Prelude.{◌≡◌, ◌↔◌, ◌<◌, ◌≤◌, IfOk, IfErr};
+ghost use Rattle.std.specs.Prelude.{◌≡◌, ◌≢◌, ◌↔◌, ◌<◌, ◌≤◌, IfOk, IfErr};
 ghost use Rattle.sqpage.specs.Faults.{number_of};
-ghost use Rattle.sqview.specs.Verdicts.{IsVerdict, IsVerdictAt, AreUnjudged, AreUnjudgedAt};
-ghost use Rattle.sqrescue_c.specs.Asked.{AreAskedFlags};
+ghost use Rattle.sqview.specs.Verdicts.{IsVerdict, AreUnjudged};
+ghost use Rattle.sqrescue_c.specs.Asked.{at_commit, AreAskedFlags};
 ghost use Rattle.sqrescue_c.specs.Checks.{SaysClean, SaysDamaged, SaysUnjudged, IsAskedVerdict, AreAskedUnjudged};
+ghost use Rattle.sqrescue_c.specs.internal.Statuses.{number_of as status_number};
 
-use crate::asked::{UNKNOWN_OPTIONS, are_known, options_of, view_asked};
-use crate::status::{Status, judge_number};
+use crate::asked::{AT, UNKNOWN_OPTIONS, are_known, options_of, view_asked};
+use crate::status::{Status, judge_number, with_status};
 use crate::view::Files;
 use sqcheck::Report;
 use sqpage::CheckError;
-use sqview::{JudgeError, Verdict, judge, judge_at, judge_view_with, without_view};
+use sqpast::PastError;
+use sqview::{Verdict, judge, judge_view_with, without_view};
 use std::alloc::Global;
 
 /// What a check finds: the counts of a well-formed database, with fault and page 0; or the fault's number and its
@@ -92,25 +94,38 @@ pub extern "C" fn sqr_check(alloc: Global, files: &Files<'_>, report: &mut Check
     }
 }
 
-/// The same of the database of files with their write-ahead log up to a commit frame; at frame 0 of the file without
-/// its log. Answers Done, Damaged, or TwoLogs, TooLarge, NoSuchCommit or AutoVacuum, or NoMemory in place of any, and
-/// then leaves the report as it is (fileformat2, 1 to 4).
-#[unsafe(no_mangle)]
-pub extern "C" fn sqr_check_at(
+/// What a check finds of the database that is asked for.
+fn judge_asked(alloc: Global, files: &Files<'_>, flags: u32, frame: u32) -> Result<Verdict, Status>
+    ensures found { IfOk result
+        (IsAskedVerdict flags frame files.now.db.now files.now.wal.now files.now.journal.now) }
+    ensures refused { IfErr result (λ status. AreAskedUnjudged flags frame
+        files.now.db.now files.now.wal.now files.now.journal.now (status_number status)) }
+{
+    match view_asked(alloc, files, flags, frame) {
+        Ok(mut view) => with_status(judge_view_with(alloc, &mut view, options_of(flags))),
+        Err(PastError::Refused(error)) => with_status(without_view(error)),
+        Err(PastError::CommitOverwritten) => Err(Status::CommitOverwritten),
+    }
+}
+
+/// Writes it to a report, and answers its status.
+fn report_asked(
     alloc: Global,
     files: &Files<'_>,
+    flags: u32,
     frame: u32,
     report: &mut CheckReport,
 ) -> u32
-    ensures clean { result ≡ 0
-        → SaysClean (IsVerdictAt frame files.now.db.now files.now.wal.now files.now.journal.now) report.new }
-    ensures damaged { result ≡ 1
-        → SaysDamaged (IsVerdictAt frame files.now.db.now files.now.wal.now files.now.journal.now) report.new }
-    ensures unjudged { 2 ≤ result
-        → SaysUnjudged (AreUnjudgedAt frame files.now.db.now files.now.wal.now files.now.journal.now) result }
+    ensures clean { result ≡ 0 → SaysClean
+        (IsAskedVerdict flags frame files.now.db.now files.now.wal.now files.now.journal.now) report.new }
+    ensures damaged { result ≡ 1 → SaysDamaged
+        (IsAskedVerdict flags frame files.now.db.now files.now.wal.now files.now.journal.now) report.new }
+    ensures unjudged { 2 ≤ result → AreAskedUnjudged flags frame
+        files.now.db.now files.now.wal.now files.now.journal.now result }
+    ensures known { result ≢ 24 }
     ensures kept { 2 ≤ result → report.new ≡ report.old }
 {
-    match judge_at(alloc, files.db, files.wal, files.journal, frame) {
+    match judge_asked(alloc, files, flags, frame) {
         Ok(Verdict::Clean(found)) => {
             *report = clean(found);
             Status::Done.number()
@@ -119,26 +134,29 @@ pub extern "C" fn sqr_check_at(
             *report = damaged(error);
             Status::Damaged.number()
         }
-        Err(error) => judge_number(error),
+        Err(status) => status.number(),
     }
 }
 
-/// What a check finds of the database that is asked for.
-fn judge_asked(
+/// The same of the database that files had at a commit frame of their write-ahead log, or at frame 0 before the first
+/// commit, as `sqr_open_at` opens it. Answers Done, Damaged, or TwoLogs, TooLarge, NoSuchCommit, CommitOverwritten or
+/// AutoVacuum, or NoMemory in place of any, and then leaves the report as it is (fileformat2, 1 to 4).
+#[unsafe(no_mangle)]
+pub extern "C" fn sqr_check_at(
     alloc: Global,
     files: &Files<'_>,
-    flags: u32,
     frame: u32,
-) -> Result<Verdict, JudgeError>
-    ensures found { IfOk result
-        (IsAskedVerdict flags frame files.now.db.now files.now.wal.now files.now.journal.now) }
-    ensures refused { IfErr result
-        (AreAskedUnjudged flags frame files.now.db.now files.now.wal.now files.now.journal.now) }
+    report: &mut CheckReport,
+) -> u32
+    ensures clean { result ≡ 0 → SaysClean
+        (IsAskedVerdict at_commit frame files.now.db.now files.now.wal.now files.now.journal.now) report.new }
+    ensures damaged { result ≡ 1 → SaysDamaged
+        (IsAskedVerdict at_commit frame files.now.db.now files.now.wal.now files.now.journal.now) report.new }
+    ensures unjudged { 2 ≤ result → AreAskedUnjudged at_commit frame
+        files.now.db.now files.now.wal.now files.now.journal.now result }
+    ensures kept { 2 ≤ result → report.new ≡ report.old }
 {
-    match view_asked(alloc, files, flags, frame) {
-        Ok(mut view) => judge_view_with(alloc, &mut view, options_of(flags)),
-        Err(error) => without_view(error),
-    }
+    report_asked(alloc, files, AT, frame, report)
 }
 
 /// The same of the database that flags ask for: 4, at a commit frame; 8, within the greatest limits; 16, with its
@@ -156,23 +174,13 @@ pub extern "C" fn sqr_check_with(
         (IsAskedVerdict flags frame files.now.db.now files.now.wal.now files.now.journal.now) report.new }
     ensures damaged { result ≡ 1 → SaysDamaged
         (IsAskedVerdict flags frame files.now.db.now files.now.wal.now files.now.journal.now) report.new }
-    ensures unjudged { 2 ≤ result → result < 24 → SaysUnjudged
-        (AreAskedUnjudged flags frame files.now.db.now files.now.wal.now files.now.journal.now) result }
-    ensures known { (result < 24) ↔ AreAskedFlags flags }
+    ensures unjudged { 2 ≤ result → result ≢ 24 → AreAskedUnjudged flags frame
+        files.now.db.now files.now.wal.now files.now.journal.now result }
+    ensures known { (result ≢ 24) ↔ AreAskedFlags flags }
     ensures kept { 2 ≤ result → report.new ≡ report.old }
 {
     if !are_known(flags) {
         return UNKNOWN_OPTIONS;
     }
-    match judge_asked(alloc, files, flags, frame) {
-        Ok(Verdict::Clean(found)) => {
-            *report = clean(found);
-            Status::Done.number()
-        }
-        Ok(Verdict::Damaged(error)) => {
-            *report = damaged(error);
-            Status::Damaged.number()
-        }
-        Err(error) => judge_number(error),
-    }
+    report_asked(alloc, files, flags, frame, report)
 }

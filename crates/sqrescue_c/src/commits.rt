@@ -1,14 +1,16 @@
 //! The commits of a write-ahead log.
-ghost use Rattle.std.specs.Prelude.{◌≡◌, ◌≢◌, ◌⊎◌, ◌<◌, ◌≤◌, ℕ, List, length, get_or};
+ghost use Rattle.std.specs.Prelude.{◌≡◌, ◌≢◌, ◌⊎◌, ◌<◌, ◌≤◌, ◌-◌, ℕ, List, length, get_or, cond, false};
 ghost use Rattle.sqwal.specs.Commits.{AreCommits};
 ghost use Rattle.sqwal.specs.Frames.{size_of, IsValidFrame};
 ghost use Rattle.sqwal.specs.Header.{named_size};
 ghost use Rattle.sqwal.specs.Took.{Took};
-ghost use Rattle.sqrescue_c.specs.Commits.{HasCommits, BeginsWithCommits, AreCommitsOf, IsCommitOf};
+ghost use Rattle.sqrescue_c.specs.Commits.{HasCommits, BeginsWithCommits, AreCommitsOf, IsCommitOf, BeginsWithKnown};
 ghost use Rattle.sqrescue_c.specs.Logs.{WalRefused};
 
-use crate::status::{Status, wal_number};
+use crate::status::{Status, view_number, wal_number};
+use crate::view::Files;
 use crate::wal::{MOST_FRAMES, scan_of};
+use sqpast::known_commits;
 use sqwal::Scan;
 use std::alloc::Global;
 
@@ -85,5 +87,65 @@ pub extern "C" fn sqr_wal_commits(
         return Status::NoRoom.number();
     }
     copy_commits(&scan, &ends, commits);
+    Status::Done.number()
+}
+
+/// Whether the database is known at a commit, by the list of all frames: 1 or 0.
+fn known_at(by_frame: &[bool], frame: u32) -> u8
+    requires { 1 ≤ frame }
+    ensures { result ≡ cond (get_or by_frame.now (frame - 1) false) 1 0 }
+{
+    let is_known = by_frame.get(frame as usize - 1).copied().unwrap_or(false);
+    if is_known { 1 } else { 0 }
+}
+
+/// Writes whether the database is known at each of these commits, by the list of all frames, to the front of an array.
+fn copy_known(by_frame: &[bool], ends: &[u32], known: &mut [u8])
+    requires room { length ends.now ≤ length known.old }
+    requires from_one { (i : ℕ) → i < length ends.now → 1 ≤ get_or ends.now i 0 }
+    ensures { (i : ℕ) → i < length ends.now
+        → get_or known.new i 0 ≡ cond (get_or by_frame.now (get_or ends.now i 0 - 1) false) 1 0 }
+{
+    for i in 0..ends.len() {
+        known[i] = known_at(by_frame, ends[i]);
+    }
+}
+
+/// For each commit of the write-ahead log of files, the first one first, 1 if the database is known there, as
+/// `sqr_open_at` shows it, and 0 if a later checkpoint may have changed it; and how many commits there are. The journal
+/// isn't looked at. Answers as `sqr_wal_commits`.
+#[unsafe(no_mangle)]
+pub extern "C" fn sqr_known_commits(
+    alloc: Global,
+    files: &Files<'_>,
+    known: &mut [u8],
+    count: &mut u32,
+) -> u32
+    ensures counted { (result ≡ 0) ⊎ (result ≡ 9) → HasCommits files.now.wal.now count.new }
+    ensures known { result ≡ 0 → BeginsWithKnown files.now.db.now files.now.wal.now count.new known.new }
+    ensures crowded { result ≡ 9 → length known.old < count.new }
+    ensures refused { result ≢ 0 → result ≢ 9 → WalRefused files.now.wal.now result }
+    ensures known_kept { result ≢ 0 → known.new ≡ known.old }
+    ensures count_kept { result ≢ 0 → result ≢ 9 → count.new ≡ count.old }
+{
+    let scan = match scan_of(alloc, files.wal) {
+        Ok(scan) => scan,
+        Err(error) => return wal_number(error),
+    };
+    let ends = match scan.commits(alloc) {
+        Ok(ends) => ends,
+        Err(error) => return wal_number(error),
+    };
+    if ends.len() > known.len() {
+        *count = ends.len().min(MOST_FRAMES) as u32;
+        return Status::NoRoom.number();
+    }
+    let (mut db, mut wal) = (files.db, files.wal);
+    let by_frame = match known_commits(alloc, &mut db, &mut wal, &scan) {
+        Ok(by_frame) => by_frame,
+        Err(error) => return view_number(error),
+    };
+    *count = ends.len().min(MOST_FRAMES) as u32;
+    copy_known(&by_frame, &ends, known);
     Status::Done.number()
 }

@@ -1,19 +1,19 @@
 //! Whether the database that files show is sound inside, too.
-ghost use Rattle.std.specs.Prelude.{◌≡◌, ◌↔◌, ◌<◌, ◌≤◌, ℕ, length, get_or, IfOk, IfErr};
+ghost use Rattle.std.specs.Prelude.{◌≡◌, ◌≢◌, ◌↔◌, ◌<◌, ◌≤◌, ℕ, length, get_or, IfOk, IfErr};
 ghost use Rattle.sqdeep.specs.Faults.{number_of as inner_number};
 ghost use Rattle.sqdeepjudge.specs.Verdicts.{is_damaged};
 ghost use Rattle.sqrescue_c.specs.Asked.{AreAskedFlags};
-ghost use Rattle.sqrescue_c.specs.Checks.{SaysUnjudged};
 ghost use Rattle.sqrescue_c.specs.Deeps.{AreDeepUnjudged, AreRowsToldOf, IsAskedDeep, IsDeepAnswer};
 ghost use Rattle.sqrescue_c.specs.Deeps.{counts_of, deep_report, fault_at, inner_at, rows_of};
+ghost use Rattle.sqrescue_c.specs.internal.Statuses.{number_of};
 
 use crate::asked::{UNKNOWN_OPTIONS, are_known, view_asked};
-use crate::status::{Status, judge_number};
+use crate::status::{Status, with_status};
 use crate::view::Files;
 use sqcheck::{Options, Report};
 use sqdeep::InnerError;
 use sqdeepjudge::{Damage, DeepVerdict, Unjudged, deep_without, judge_deep};
-use sqview::JudgeError;
+use sqpast::PastError;
 use std::alloc::Global;
 
 /// A fault names a page.
@@ -197,25 +197,26 @@ fn judge_deep_asked(
     files: &Files<'_>,
     flags: u32,
     frame: u32,
-) -> Result<DeepVerdict, JudgeError>
+) -> Result<DeepVerdict, Status>
     ensures found { IfOk result
         (IsAskedDeep flags frame files.now.db.now files.now.wal.now files.now.journal.now) }
-    ensures refused { IfErr result
-        (AreDeepUnjudged flags frame files.now.db.now files.now.wal.now files.now.journal.now) }
+    ensures refused { IfErr result (λ status. AreDeepUnjudged flags frame
+        files.now.db.now files.now.wal.now files.now.journal.now (number_of status)) }
 {
     let maps = Options { pointer_maps: true };
     match view_asked(alloc, files, flags, frame) {
-        Ok(mut view) => judge_deep(alloc, &mut view, maps),
-        Err(error) => deep_without(error),
+        Ok(mut view) => with_status(judge_deep(alloc, &mut view, maps)),
+        Err(PastError::Refused(error)) => with_status(deep_without(error)),
+        Err(PastError::CommitOverwritten) => Err(Status::CommitOverwritten),
     }
 }
 
 /// Whether the database that flags ask for, as for `sqr_check_with`, is well formed, and its records, its schema, its
 /// indexes and its tables are sound, with its pointer maps, where it has some. Answers Done with its counts, and the
 /// rows of the schema, from 0, of the indexes and then of the tables that aren't judged at the front of an array, as
-/// many as there is room for; or Damaged with a fault that stands; otherwise TwoLogs, TooLarge or NoSuchCommit, in this
-/// order, or NoMemory in place of any, or 24 where a flag is another one, and then leaves the report as it is
-/// (fileformat2, 1 to 4).
+/// many as there is room for; or Damaged with a fault that stands; otherwise TwoLogs, TooLarge, NoSuchCommit or
+/// CommitOverwritten, in this order, or NoMemory in place of any, or 24 where a flag is another one, and then leaves
+/// the report as it is (fileformat2, 1 to 4).
 #[unsafe(no_mangle)]
 pub extern "C" fn sqr_check_deep(
     alloc: Global,
@@ -227,9 +228,9 @@ pub extern "C" fn sqr_check_deep(
 ) -> u32
     ensures found { result ≤ 1 → IsDeepAnswer flags frame files.now.db.now files.now.wal.now files.now.journal.now
         result report.new rows.new }
-    ensures unjudged { 2 ≤ result → result < 24 → SaysUnjudged
-        (AreDeepUnjudged flags frame files.now.db.now files.now.wal.now files.now.journal.now) result }
-    ensures known { (result < 24) ↔ AreAskedFlags flags }
+    ensures unjudged { 2 ≤ result → result ≢ 24 → AreDeepUnjudged flags frame
+        files.now.db.now files.now.wal.now files.now.journal.now result }
+    ensures known { (result ≢ 24) ↔ AreAskedFlags flags }
     ensures kept { 2 ≤ result → report.new ≡ report.old }
     ensures rows_kept { 2 ≤ result → rows.new ≡ rows.old }
 {
@@ -246,6 +247,6 @@ pub extern "C" fn sqr_check_deep(
                 Status::Done.number()
             }
         }
-        Err(error) => judge_number(error),
+        Err(status) => status.number(),
     }
 }

@@ -60,6 +60,7 @@ fn name_of_status(status: u32) -> &'static str
         27 => "already there",
         28 => "disk full",
         29 => "shared process",
+        30 => "commit overwritten",
         _ => "?",
     }
 }

@@ -8,7 +8,7 @@ ghost use Rattle.sqrescue_c.specs.Roles.{AreRolesAsked, HasAskedPages, AreRolesR
 ghost use Rattle.sqrescue_c.specs.internal.Statuses.{number_of};
 
 use crate::asked::{UNKNOWN_OPTIONS, are_known, options_of, view_asked};
-use crate::status::{Status, view_number};
+use crate::status::{Status, past_status};
 use crate::view::Files;
 use sqcheck::{Options, Report, Role, Survey};
 use sqpage::{CheckError, Fault, Kind, PageSource};
@@ -131,8 +131,9 @@ fn answer_of(answer: &Result<Report, CheckError>, pages: u32) -> (SurveyReport, 
 /// What each page is used for of the database that flags ask for, as for `sqr_check_with`: the roles of all pages, page
 /// 1 first, at the front of an array, and the fault that a check finds. Answers Done, or Damaged where there is one;
 /// NoRoom where there are more pages than the array has places, and then says how many, with no fault, and leaves the
-/// array as it is; otherwise TwoLogs, TooLarge, NoSuchCommit, NotADatabase or AutoVacuum, or NoMemory in place of any,
-/// or 24 where a flag isn't known, and then leaves both as they are (fileformat2, 1.4 to 1.8).
+/// array as it is; otherwise TwoLogs, TooLarge, NoSuchCommit, CommitOverwritten, NotADatabase or AutoVacuum, or
+/// NoMemory in place of any, or 24 where a flag isn't known, and then leaves both as they are (fileformat2, 1.4 to
+/// 1.8).
 #[unsafe(no_mangle)]
 pub extern "C" fn sqr_page_roles(
     alloc: Global,
@@ -146,9 +147,9 @@ pub extern "C" fn sqr_page_roles(
         files.now.db.now files.now.wal.now files.now.journal.now result out.new roles.new }
     ensures crowded { result ≡ 9 → (length roles.old < out.new.pages)
         × HasAskedPages flags frame files.now.db.now files.now.wal.now files.now.journal.now out.new.pages }
-    ensures refused { 2 ≤ result → result ≢ 9 → result < 24 → AreRolesRefused flags frame
+    ensures refused { 2 ≤ result → result ≢ 9 → result ≢ 24 → AreRolesRefused flags frame
         files.now.db.now files.now.wal.now files.now.journal.now result }
-    ensures known { (result < 24) ↔ AreAskedFlags flags }
+    ensures known { (result ≢ 24) ↔ AreAskedFlags flags }
     ensures roles_kept { 2 ≤ result → roles.new ≡ roles.old }
     ensures out_kept { 2 ≤ result → result ≢ 9 → out.new ≡ out.old }
 {
@@ -157,7 +158,7 @@ pub extern "C" fn sqr_page_roles(
     }
     let mut view = match view_asked(alloc, files, flags, frame) {
         Ok(view) => view,
-        Err(error) => return view_number(error),
+        Err(error) => return past_status(error).number(),
     };
     let pages = view.count();
     if pages as usize > roles.len() {

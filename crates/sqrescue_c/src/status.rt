@@ -1,9 +1,11 @@
 //! What the calls answer (own).
-ghost use Rattle.std.specs.Prelude.{◌≡◌};
-ghost use Rattle.sqrescue_c.specs.Statuses.{view_status, judge_status, wal_status, journal_status};
+ghost use Rattle.std.specs.Prelude.{◌≡◌, IfOk, IfErr};
+ghost use Rattle.sqview.specs.declared.judge_error.JudgeError.{JudgeError};
+ghost use Rattle.sqrescue_c.specs.Statuses.{past_status, view_status, judge_status, wal_status, journal_status};
 ghost use Rattle.sqrescue_c.specs.internal.Statuses.{number_of};
 
 use sqjournal::JournalError;
+use sqpast::PastError;
 use sqview::{JudgeError, ViewError};
 use sqwal::WalFormatError;
 
@@ -44,10 +46,12 @@ pub(crate) enum Status {
     SuperJournal,
     /// The log's pages are of another size than the database file's.
     PageSizesDiffer,
+    /// A later checkpoint may have changed the database at the commit.
+    CommitOverwritten,
 }
 
 impl Status {
-    /// From Done, 0, to PageSizesDiffer, 16, in the order of the enum.
+    /// From Done, 0, to PageSizesDiffer, 16, in the order of the enum; then CommitOverwritten, 30.
     pub(crate) fn number(self) -> u32
         ensures { result ≡ number_of self }
     {
@@ -69,13 +73,14 @@ impl Status {
             Status::LogVersion => 14,
             Status::SuperJournal => 15,
             Status::PageSizesDiffer => 16,
+            Status::CommitOverwritten => 30,
         }
     }
 }
 
-/// The number of a view's refusal. Bytes in memory are never unread.
-pub(crate) fn view_number(error: ViewError) -> u32
-    ensures { result ≡ view_status error }
+/// The status of a view's refusal. Bytes in memory are never unread.
+fn view_status(error: ViewError) -> Status
+    ensures { number_of result ≡ view_status error }
 {
     match error {
         ViewError::TwoLogs => Status::TwoLogs,
@@ -84,12 +89,28 @@ pub(crate) fn view_number(error: ViewError) -> u32
         ViewError::Unread | ViewError::NoMemory => Status::NoMemory,
         ViewError::NoSuchCommit => Status::NoSuchCommit,
     }
-    .number()
 }
 
-/// The number of a check's refusal. Bytes in memory are never unread.
-pub(crate) fn judge_number(error: JudgeError) -> u32
-    ensures { result ≡ judge_status error }
+/// Its number.
+pub(crate) fn view_number(error: ViewError) -> u32
+    ensures { result ≡ view_status error }
+{
+    view_status(error).number()
+}
+
+/// The status of the refusal of a view at a commit.
+pub(crate) fn past_status(error: PastError) -> Status
+    ensures { number_of result ≡ past_status error }
+{
+    match error {
+        PastError::Refused(error) => view_status(error),
+        PastError::CommitOverwritten => Status::CommitOverwritten,
+    }
+}
+
+/// The status of a check's refusal. Bytes in memory are never unread.
+fn judge_status(error: JudgeError) -> Status
+    ensures { number_of result ≡ judge_status error }
 {
     match error {
         JudgeError::TwoLogs => Status::TwoLogs,
@@ -98,7 +119,24 @@ pub(crate) fn judge_number(error: JudgeError) -> u32
         JudgeError::Unread | JudgeError::NoMemory => Status::NoMemory,
         JudgeError::NoSuchCommit => Status::NoSuchCommit,
     }
-    .number()
+}
+
+/// Its number.
+pub(crate) fn judge_number(error: JudgeError) -> u32
+    ensures { result ≡ judge_status error }
+{
+    judge_status(error).number()
+}
+
+/// A check's answer, whose refusal is a status.
+pub(crate) fn with_status<T: Drop>(found: Result<T, JudgeError>) -> Result<T, Status>
+    ensures ok { IfOk result (λ x. found ≡ Ok x) }
+    ensures err { IfErr result (λ s. (e : JudgeError) × (found ≡ Err e) × (number_of s ≡ judge_status e)) }
+{
+    match found {
+        Ok(x) => Ok(x),
+        Err(error) => Err(judge_status(error)),
+    }
 }
 
 /// The number of what refuses a write-ahead log.

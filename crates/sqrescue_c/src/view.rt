@@ -1,16 +1,17 @@
 //! The pages of the database that files show.
 ghost use Rattle.std.specs.Prelude.{◌≡◌, ◌≢◌, ◌⊎◌, ◌<◌, ◌≤◌, length, IfOk, IfErr};
-ghost use Rattle.sqview.specs.At.{AtAnswer};
 ghost use Rattle.sqval.specs.Database.{page};
 ghost use Rattle.sqview.specs.Laid.{laid, part_or_zeros, place_of};
 ghost use Rattle.sqview.specs.LogView.{ReadsFrom, ViewRefused, pages_of};
 ghost use Rattle.sqview.specs.internal.LogView.{IsShown};
+ghost use Rattle.sqpast.specs.Files.{PastAnswer};
 ghost use Rattle.sqrescue_c.specs.Recoveries.{RefusesAsRecovery, RefusesAsRecoveryAt};
 ghost use Rattle.sqrescue_c.specs.Views.{HasSize, IsOpened, IsRefused, OpenRefused, IsOpenedAt, AtRefusedBy};
 
 use crate::refusals::{ask, ask_at};
-use crate::status::{Status, view_number};
+use crate::status::{Status, past_status, view_number};
 use sqpage::PageSource;
+use sqpast::{PastError, past};
 use sqview::{FileBytes, View, ViewError};
 use std::alloc::Global;
 
@@ -146,19 +147,21 @@ pub extern "C" fn sqr_open<'a>(
     }
 }
 
-/// The view of files at a commit frame.
-fn view_at<'a>(alloc: Global, files: &Files<'a>, frame: u32) -> Result<View<&'a [u8]>, ViewError>
-    ensures answer { AtAnswer (λ file. file.now) frame files.now.db.now files.now.wal.now files.now.journal.now result }
+/// The view of files at a commit frame, or at 0.
+fn view_at<'a>(alloc: Global, files: &Files<'a>, frame: u32) -> Result<View<&'a [u8]>, PastError>
+    ensures answer { PastAnswer (λ file. file.now) frame
+        files.now.db.now files.now.wal.now files.now.journal.now result }
     ensures reads { IfOk result (λ view. (view.db.now ≡ files.now.db.now) × (view.log.now ≡ files.now.wal.now)) }
 {
-    View::at(alloc, files.db, files.wal, files.journal, frame)
+    past(alloc, files.db, files.wal, files.journal, frame)
 }
 
-/// Opens the database of files with their write-ahead log up to a commit frame; at frame 0 the file without its log,
-/// also beside a hot journal. The places are the handle's from then on: one for each page, none at frame 0. Answers
-/// Done, or TwoLogs, LogVersion, PageSizesDiffer, TooLarge, NoSuchCommit, TooLarge of that database, NotADatabase at
-/// frame 0, or NoRoom where there are fewer places, in this order, or NoMemory in place of any but LogVersion, and then
-/// leaves the handle and the places as they are (fileformat2, 4.5).
+/// Opens the database that files had at a commit frame of their write-ahead log, whatever a checkpoint copied since; at
+/// frame 0 the one before the first commit, also beside a hot journal. The places are the handle's from then on: one
+/// for each page, none at frame 0. Answers Done, or TwoLogs, LogVersion, PageSizesDiffer, TooLarge, NoSuchCommit,
+/// TooLarge of that database, CommitOverwritten if a later checkpoint may have changed it, NotADatabase at frame 0,
+/// also if the file names another page size than its log, or NoRoom where there are fewer places; or NoMemory in place
+/// of any but LogVersion; and then leaves the handle and the places as they are (fileformat2, 4.5).
 #[unsafe(no_mangle)]
 pub extern "C" fn sqr_open_at<'a>(
     alloc: Global,
@@ -169,7 +172,7 @@ pub extern "C" fn sqr_open_at<'a>(
 ) -> u32
     ensures opened { result ≡ 0 → IsOpenedAt frame files.now.db.now files.now.wal.now files.now.journal.now
         out.new.page_size out.new.pages out.new.db.now out.new.log.now out.new.places.now }
-    ensures refused { result ≢ 0 → result < 14
+    ensures refused { result ≢ 0 → (result < 14) ⊎ (result ≡ 30)
         → AtRefusedBy frame files.now.db.now files.now.wal.now files.now.journal.now (length places.old) result }
     ensures recovery { RefusesAsRecoveryAt frame
         files.now.db.now files.now.wal.now files.now.journal.now result }
@@ -181,7 +184,7 @@ pub extern "C" fn sqr_open_at<'a>(
     }
     let view = match view_at(alloc, files, frame) {
         Ok(view) => view,
-        Err(error) => return view_number(error),
+        Err(error) => return past_status(error).number(),
     };
     match hand_over(&view, places, out) {
         Ok(()) => Status::Done.number(),

@@ -3,7 +3,7 @@ use crate::deep_tests::file_with;
 use cli_facts::Refusal;
 use cli_show::Asked;
 use cli_show_deep::{judged_as, write_found};
-use cli_words::Style;
+use cli_words::{Commit, Style};
 use sqcheck::Options as Maps;
 use sqdeep::InnerFault;
 use sqdeepjudge::{Damage, DeepVerdict, judge_deep};
@@ -16,7 +16,7 @@ use std::test::Fail;
 /// What is asked: the database as its log has it.
 const ASKED: Asked = Asked {
     limits: Limits::USUAL,
-    at: None,
+    at: Commit::Last,
     maps: Maps::PLAIN,
 };
 

@@ -9,6 +9,8 @@ mod logs;
 #[cfg(test)]
 mod memory_tests;
 #[cfg(test)]
+mod past_tests;
+#[cfg(test)]
 mod sqcheck_tests;
 #[cfg(test)]
 mod sqview_tests;

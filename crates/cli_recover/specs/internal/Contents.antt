@@ -39,7 +39,7 @@ content_reads bytes reads (Pages view) = IsReadAhead bytes reads view.db × IsRe
 
 -- a log is folded in pages of this size, and beside it no journal is hot
 abbrev pub FoldsAt : Options → (db wal journal : List ℕ) → (size : ℕ) → Option Scan → Type 0
-FoldsAt options db wal journal size scan = PlansFold (limits_named options.large) options.at db wal (Ok (Fold size scan)) × ¬ IsHot journal
+FoldsAt options db wal journal size scan = PlansFold (limits_named options.large) options.front db wal (Ok (Fold size scan)) × ¬ IsHot journal
 
 -- memory was refused, or the view up to this commit frame of a log
 abbrev pub IsUnfoldedAt : Bounds → (frame : ℕ) → (db wal journal : List ℕ) → Refusal → Type 0
@@ -49,7 +49,7 @@ IsUnfoldedAt limits frame db wal journal refusal =
 -- the same up to the commit frame to which it is folded, or the scan of the log was refused
 abbrev pub IsUnfolded : Options → (size : ℕ) → (db wal journal : List ℕ) → Refusal → Type 0
 IsUnfolded options size db wal journal refusal = ScanFound (limits_named options.large) wal (Err refusal)
-    ⊎ ((frame : ℕ) × IsFoldedTo options.at size wal frame × IsUnfoldedAt (limits_named options.large) frame db wal journal refusal)
+    ⊎ ((frame : ℕ) × IsFoldedTo options.front size wal frame × IsUnfoldedAt (limits_named options.large) frame db wal journal refusal)
 
 -- memory was refused, the replay of a journal, or the view that it restores, or the view that it restores
 abbrev pub IsUnreplayed : Bounds → (db wal journal : List ℕ) → Refusal → Type 0

@@ -25,7 +25,7 @@ ScansLog limits wal (Ok (Some scan)) = TookWithin limits.frames wal scan
 ScansLog limits wal (Ok None) = ¬ IsHeader (named_size wal) wal
 ScansLog limits wal (Err refusal) = ScanFound limits wal (Err refusal)
 
--- the scan of a log where this commit is asked for, if one is
+-- the scan of a log whose index names this front, if one does
 abbrev pub ScansTo : Bounds → (at : Option ℕ) → (wal : List ℕ) → Result (Option Scan) Refusal → Type 0
 ScansTo limits at wal (Ok None) = at ≡ None
 ScansTo limits at wal (Ok (Some scan)) = TookWithin limits.frames wal scan × IsSomeAnd at (λ frame. IsCommitOf wal frame)

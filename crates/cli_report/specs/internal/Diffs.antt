@@ -1,4 +1,4 @@
--- Files that are opened at a commit, and what is printed of what changed between two (own).
+-- Files that are opened, and what is printed of what changed between two (own).
 use Rattle.std.specs.Prelude.{◌≡◌, ◌⊎◌, ℕ, List, Result, IsErrAnd}
 use Rattle.cli_facts.specs.declared.outcome.Refusal.{Refusal}
 use Rattle.sqview.specs.declared.read_ahead.ReadAhead.{ReadAhead}
@@ -18,4 +18,4 @@ AreNew files = (files.db.held ≡ 0) × (files.wal.held ≡ 0) × (files.journal
 
 -- What changed between both commits is shown of files that were opened at each, or this is why it isn't.
 abbrev pub Compares : {F : Type 0} → (bytes : OpenedFile F → List ℕ) → (gives : OpenedFile F → Type 0) → Source → Difference → Result Printed Refusal → Type 0
-Compares bytes gives source difference found = ComparesOpened bytes gives source difference found ⊎ IsErrAnd found (IsUndiffed bytes gives source difference)
+Compares bytes gives source difference found = ComparesOpened bytes gives source difference found ⊎ IsErrAnd found (IsUndiffed bytes gives source)

@@ -9,7 +9,7 @@ use Rattle.cli_report.specs.declared.pages.Template.{Template}
 
 -- The page was appended of a file of this name and what is shown of it, whose log is one of any bytes in which it counts.
 abbrev pub AppendsPage : {F : Type 0} → Template → (file : List ℕ) → Shown F → (before after : Option (List ℕ)) → Type 0
-AppendsPage template file shown before after = (limits : Bounds) (at : Option ℕ) (wal journal : List ℕ) → IsLogIn limits at wal journal shown.facts.log
+AppendsPage template file shown before after = (limits : Bounds) (front : Option ℕ) (wal journal : List ℕ) → IsLogIn limits front wal journal shown.facts.log
     → (text : List ℕ) × IsPage template limits.frames wal journal file shown text × Appends before after text
 
 -- Behind what a file had it has that page now, all of which was durable before the file got its name.

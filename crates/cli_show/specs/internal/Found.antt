@@ -4,9 +4,10 @@ use Rattle.sqval.specs.Database.{Database}
 use Rattle.sqpage.specs.Freelist.{IsPage}
 use Rattle.sqview.specs.Laid.{laid}
 use Rattle.sqview.specs.Shapes.{Shape, shape_of}
-use Rattle.sqview.specs.declared.view_error.ViewError.{ViewError}
+use Rattle.sqpast.specs.declared.past_error.PastError.{PastError}
+use Rattle.sqpast.specs.declared.past_error.PastError.TheVariants.{Refused}
 use Rattle.sqview.specs.declared.view_error.ViewError.TheVariants as views
-use Rattle.cli_facts.specs.Refusals.{refusal_of}
+use Rattle.cli_facts.specs.Refusals.{refusal_of_past}
 use Rattle.cli_facts.specs.declared.outcome.Refusal.{Refusal}
 use Rattle.cli_facts.specs.declared.outcome.Refusal.TheVariants.{NoSuchPage}
 use Rattle.cli_show.specs.Pages.{IsSurveyed, IsOrdered, IsUnsurveyed}
@@ -15,9 +16,9 @@ use Rattle.cli_show.specs.declared.surveys.Found.{Found}
 use Rattle.cli_show.specs.declared.surveys.Found.TheVariants.{Pages, Nothing}
 
 -- what is found where there is no view
-abbrev pub found_without : {F : Type 0} → ViewError → Result (Found F) Refusal
-found_without (views.Header fault) = Ok (Nothing (record { page = 1; fault = fault }))
-found_without error = Err (refusal_of error)
+abbrev pub found_without : {F : Type 0} → PastError → Result (Found F) Refusal
+found_without (Refused (views.Header fault)) = Ok (Nothing (record { page = 1; fault = fault }))
+found_without error = Err (refusal_of_past error)
 
 -- the pages of what a view shows
 abbrev pub pages_in : Shape → Database

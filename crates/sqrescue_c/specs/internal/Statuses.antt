@@ -21,3 +21,4 @@ number_of statuses.Sum = 13
 number_of statuses.LogVersion = 14
 number_of statuses.SuperJournal = 15
 number_of statuses.PageSizesDiffer = 16
+number_of statuses.CommitOverwritten = 30

@@ -1,10 +1,14 @@
 use Rattle.std.proofs.Common.{OnOk, Result, Ok, Err, inl, inr, subst}
-use Rattle.std.specs.Prelude.{IfErr, MatchResult, Some}
+use Rattle.std.specs.Prelude.{IfErr, MatchResult}
 use Rattle.sqval.specs.Limits.{Bounds}
 use Rattle.sqview.specs.LogView.{pages_of}
-use Rattle.cli_show.specs.Views.{AskedRefused}
+use Rattle.cli_words.specs.Commits.{commit_of}
+use Rattle.cli_words.specs.declared.requests.Commit.{Commit}
+use Rattle.cli_words.specs.declared.requests.Commit.TheVariants.{At}
+use Rattle.cli_show.specs.Fronts.{IsAskedFront}
+use Rattle.cli_show.specs.Limits.{limits_named}
+use Rattle.cli_show.specs.Views.{AskedRefused, IsAskedView}
 use Rattle.cli_show.proofs.AskedFronts.{front_asked, shows_asked}
-use Rattle.cli_show.proofs.ShownFiles.{refused_asked}
 use Rattle.cli_show_diff.specs.Changes.{AreChangesPrinted, AreChangesStopped, texts_of}
 use Rattle.cli_dump.specs.Changes.{change_form_named}
 use Rattle.cli_dump.proofs.changes.show_named.Goals as goal
@@ -17,8 +21,10 @@ pub returns-in-Ok-view_of-clause-front : goal.returns-in-Ok-view_of-clause-front
 returns-in-Ok-view_of-clause-front g c = λ given too.
     let bytes = g.F.FileBytes.bytes in
     let to = c.args.to in
-    front_asked c.limits_of-limits.result bytes (bytes to.db) (bytes to.wal) (bytes to.journal) c.in-Ok-view_of.new c.args.of.0.to c.of_view-front.result
-    (c.in-Ok-view_of.ensures.answer too) c.of_view-front.ensures
+    let front = c.of_view-front.result in
+    subst (λ (at : Commit). IsAskedFront at (bytes to.wal) (bytes to.journal) front) c.to_commit-at.ensures
+    (front_asked c.limits_of-limits.result bytes (bytes to.db) (bytes to.wal) (bytes to.journal) c.in-Ok-view_of.new c.to_commit-at.result front
+    (c.in-Ok-view_of.ensures.answer too) c.of_view-front.ensures)
 
 pub returns-in-Ok-view_of-clause-shown : goal.returns-in-Ok-view_of-clause-shown
 returns-in-Ok-view_of-clause-shown g c = λ given too named.
@@ -36,7 +42,9 @@ returns-in-Ok-view_of-clause-shown g c = λ given too named.
     let form = change_form_named compared.form in
     let names = texts_of c.args.of.1.now in
     let gives = c.in-Ok.ensures.still_gives given in
-    let gives_too = c.in-Ok-view_of.ensures.still_gives too in (
+    let gives_too = c.in-Ok-view_of.ensures.still_gives too in
+    let up_to = commit_of compared.to c.args.options.front in
+    let answer = subst (λ (at : Commit). IsAskedView limits bytes at (bytes to.db) (bytes to.wal) (bytes to.journal) w) c.to_commit-at.ensures (c.in-Ok-view_of.ensures.answer too) in (
       names,
       named,
       (
@@ -44,8 +52,8 @@ returns-in-Ok-view_of-clause-shown g c = λ given too named.
         w.page_size,
         d,
         e,
-        shows_asked limits bytes (bytes from.db) (bytes from.wal) (bytes from.journal) v (Some compared.from) (c.in-Ok.ensures.answer given),
-        shows_asked limits bytes (bytes to.db) (bytes to.wal) (bytes to.journal) w compared.to (c.in-Ok-view_of.ensures.answer too),
+        shows_asked limits bytes (bytes from.db) (bytes from.wal) (bytes from.journal) v (At compared.from) (c.in-Ok.ensures.answer given),
+        shows_asked limits bytes (bytes to.db) (bytes to.wal) (bytes to.journal) w up_to answer,
         both c.print_between-ended.result (AreChangesPrinted d e names form before after) (λ stop. AreChangesStopped d e names form stop before after)
             (c.print_between-ended.ensures.ok gives gives_too) (c.print_between-ended.ensures.err gives gives_too),
       ),
@@ -57,8 +65,8 @@ returns-in-Err-clause-refused g c = λ given too.
     let db = bytes c.args.from.db in
     let wal = bytes c.args.from.wal in
     let journal = bytes c.args.from.journal in
-    let at = Some c.args.of.0.from in
-    let refused = refused_asked c.limits_of-limits.result bytes at db wal journal c.in-Err.error (c.in-Err.ensures.answer given) in
+    let at = At c.args.of.0.from in
+    let refused = c.in-Err.ensures.answer given in
     inl (c.in-Err.error, subst (λ (l : Bounds). AskedRefused l at db wal journal c.in-Err.error) c.limits_of-limits.ensures refused, c.from.ensures)
 
 pub returns-clause-refused : goal.returns-clause-refused
@@ -67,6 +75,6 @@ returns-clause-refused g c = λ given too.
     let db = bytes c.args.to.db in
     let wal = bytes c.args.to.wal in
     let journal = bytes c.args.to.journal in
-    let at = c.args.of.0.to in
-    let refused = refused_asked c.limits_of-limits.result bytes at db wal journal c.in-Err-view_of.error (c.in-Err-view_of.ensures.answer too) in
-    inr (c.in-Err-view_of.error, subst (λ (l : Bounds). AskedRefused l at db wal journal c.in-Err-view_of.error) c.limits_of-limits.ensures refused, c.from-in-Err-view_of.ensures)
+    let error = c.in-Err-view_of.error in
+    let refused = subst (λ (l : Bounds). AskedRefused l c.to_commit-at.result db wal journal error) c.limits_of-limits.ensures (c.in-Err-view_of.ensures.answer too) in
+    inr (error, subst (λ (at : Commit). AskedRefused (limits_named c.args.options.large) at db wal journal error) c.to_commit-at.ensures refused, c.from-in-Err-view_of.ensures)

@@ -8,6 +8,8 @@ use Rattle.cli_show.specs.Limits.{limits_named}
 use Rattle.cli_show.specs.Logs.{IsUnreadLog}
 use Rattle.cli_show.specs.LogsShown.{IsLogFound}
 use Rattle.cli_show.specs.declared.logs.LogFound.{LogFound}
+use Rattle.cli_words.specs.Commits.{commit_named, last_of}
+use Rattle.cli_words.specs.declared.requests.Commit.{Commit}
 use Rattle.cli_history.specs.History.{bytes_of}
 use Rattle.cli_dump.specs.History.{IsNoLog}
 use Rattle.cli_dump.specs.Kept.{IsRangeKept}
@@ -35,11 +37,13 @@ returns-in-Wal-clause-kept g c = λ given.
     let files = bytes_of g.F.FileBytes.bytes c.args.files in
     let names = texts_of c.args.names.now in
     let most = c.args.most in
-    let to = c.args.options.at in
+    let to = c.commit-to.result in
     let log = subst (λ (l : LogFound). IsLogFound c.limits_of-limits.result files.wal files.journal l) c.in-Wal.is (c.in-Ok.ensures given) in
-    left c.kept_in.result (IsRangeKept (limits_named c.args.options.large) files names most to)
-    (λ (kept : Kept). (IsNoLog files.wal files.journal ⊎ (to ≡ Some 0)) × (kept.text.items ≡ []) × (kept.ended ≡ Whole))
-    (subst (λ (l : Bounds). IfOk c.kept_in.result (IsRangeKept l files names most to)) c.limits_of-limits.ensures (c.kept_in.ensures.kept given log.1 log.0))
+    let kept = subst (λ (l : Bounds). IfOk c.kept_in.result (IsRangeKept l files names most to)) c.limits_of-limits.ensures (c.kept_in.ensures.kept given log.1 log.0) in
+    let asked = commit_named c.args.options in
+    left c.kept_in.result (IsRangeKept (limits_named c.args.options.large) files names most asked)
+    (λ (kept : Kept). (IsNoLog files.wal files.journal ⊎ (last_of asked ≡ Some 0)) × (kept.from ≡ 0) × (kept.text.items ≡ []) × (kept.ended ≡ Whole))
+    (subst (λ (at : Commit). IfOk c.kept_in.result (IsRangeKept (limits_named c.args.options.large) files names most at)) c.commit-to.ensures kept)
 
 pub returns-in-Wal-clause-refused : goal.returns-in-Wal-clause-refused
 returns-in-Wal-clause-refused g c = λ given.
@@ -50,10 +54,10 @@ pub returns-in-None-clause-kept : goal.returns-in-None-clause-kept
 returns-in-None-clause-kept g c = λ given.
     let files = bytes_of g.F.FileBytes.bytes c.args.files in
     let log = subst (λ (l : LogFound). IsLogFound c.limits_of-limits.result files.wal files.journal l) c.in-None.is (c.in-Ok.ensures given) in
-    inr (inl (inr log.1), c.none_kept-in-None.ensures.text, c.none_kept-in-None.ensures.ended)
+    inr (inl (inr log.1), c.none_kept-in-None.ensures.from, c.none_kept-in-None.ensures.text, c.none_kept-in-None.ensures.ended)
 
 pub returns-clause-kept : goal.returns-clause-kept
 returns-clause-kept g c = λ given.
     let files = bytes_of g.F.FileBytes.bytes c.args.files in
     let log = subst (λ (l : LogFound). IsLogFound c.limits_of-limits.result files.wal files.journal l) c.in-Journal.is (c.in-Ok.ensures given) in
-    inr (inl (inl log.0), c.none_kept-in-Journal.ensures.text, c.none_kept-in-Journal.ensures.ended)
+    inr (inl (inl log.0), c.none_kept-in-Journal.ensures.from, c.none_kept-in-Journal.ensures.text, c.none_kept-in-Journal.ensures.ended)

@@ -2,9 +2,12 @@ use Rattle.std.proofs.Common.{ℕ, List, Option, Result, Ok, Err, OnOk, subst}
 use Rattle.std.specs.Prelude.{IfErr}
 use Rattle.sqval.specs.Limits.{Bounds}
 use Rattle.sqview.specs.LogView.{pages_of}
-use Rattle.cli_show.specs.Views.{AskedRefused}
+use Rattle.cli_words.specs.Commits.{commit_named}
+use Rattle.cli_words.specs.declared.requests.Commit.{Commit}
+use Rattle.cli_show.specs.Fronts.{IsAskedFront}
+use Rattle.cli_show.specs.Limits.{limits_named}
+use Rattle.cli_show.specs.Views.{AskedRefused, IsAskedView}
 use Rattle.cli_show.proofs.AskedFronts.{front_asked, shows_asked}
-use Rattle.cli_show.proofs.ShownFiles.{refused_asked}
 use Rattle.cli_show_rows.specs.declared.stop.Stop.{Stop}
 use Rattle.cli_show_places.specs.Frames.{ArePlacesFramed}
 use Rattle.cli_show_places.specs.Places.{ArePlacesPrinted, name_of}
@@ -15,21 +18,29 @@ use Rattle.cli_dump.proofs.places.show_places.Goals as goal
 pub returns-in-Ok-clause-front : goal.returns-in-Ok-clause-front
 returns-in-Ok-clause-front g c = λ given.
     let bytes = g.F.FileBytes.bytes in
-    front_asked c.limits_of.result bytes (bytes c.args.files.db) (bytes c.args.files.wal) (bytes c.args.files.journal) c.in-Ok.view c.args.options.at c.of_view-front.result
-    (c.in-Ok.ensures.answer given) c.of_view-front.ensures
+    let db = bytes c.args.files.db in
+    let wal = bytes c.args.files.wal in
+    let journal = bytes c.args.files.journal in
+    let front = c.of_view-front.result in
+    subst (λ (at : Commit). IsAskedFront at wal journal front) c.commit-at.ensures
+    (front_asked c.limits_of.result bytes db wal journal c.in-Ok.view c.commit-at.result front (c.in-Ok.ensures.answer given) c.of_view-front.ensures)
 
 pub returns-in-Ok-clause-shown : goal.returns-in-Ok-clause-shown
 returns-in-Ok-clause-shown g c = λ given.
     let bytes = g.F.FileBytes.bytes in
+    let db = bytes c.args.files.db in
     let wal = bytes c.args.files.wal in
+    let journal = bytes c.args.files.journal in
     let v = c.in-Ok.view in
     let d = pages_of bytes v in
+    let at = commit_named c.args.options in
+    let answer = subst (λ (m : Commit). IsAskedView c.limits_of.result bytes m db wal journal v) c.commit-at.ensures (c.in-Ok.ensures.answer given) in
     let style = c.args.options.style in
     let before = g.W.Write.contents c.args.out.now in
     let after = g.W.Write.contents c.print_places-ended.new.out in
     let ended = c.print_places-ended.result in
     let gives = c.in-Ok.ensures.still_gives given in
-    let framed = framed_asked c.limits_of.result bytes c.args.options.at (bytes c.args.files.db) wal (bytes c.args.files.journal) v (c.in-Ok.ensures.answer given) in
+    let framed = framed_asked c.limits_of.result bytes at db wal journal v answer in
     let ok = subst (λ (table : Option (List ℕ)). OnOk ended (ArePlacesFramed wal v (λ frames. ArePlacesPrinted d frames style table before after))) c.bytes_of.ensures (c.print_places-ended.ensures.ok gives wal framed) in
     let err = subst (λ (table : Option (List ℕ)). IfErr ended (λ stop. ArePlacesFramed wal v (λ frames. ArePlacesStopped d frames style table stop before after))) c.bytes_of.ensures (c.print_places-ended.ensures.err gives wal framed) in
     let told = ended_framed wal v ended (λ frames. ArePlacesPrinted d frames style (name_of c.args.table) before after)
@@ -38,8 +49,8 @@ returns-in-Ok-clause-shown g c = λ given.
       v.front,
       d,
       told.0,
-      shows_asked c.limits_of.result bytes (bytes c.args.files.db) wal (bytes c.args.files.journal) v c.args.options.at (c.in-Ok.ensures.answer given),
-      stands_asked c.limits_of.result bytes c.args.options.at (bytes c.args.files.db) wal (bytes c.args.files.journal) v (c.in-Ok.ensures.answer given),
+      shows_asked c.limits_of.result bytes db wal journal v at answer,
+      stands_asked c.limits_of.result bytes at db wal journal v answer,
       frames_shown bytes wal v told.0 told.1,
       told.2,
     )
@@ -50,5 +61,5 @@ returns-in-Err-clause-refused g c = λ given.
     let db = bytes c.args.files.db in
     let wal = bytes c.args.files.wal in
     let journal = bytes c.args.files.journal in
-    let refused = refused_asked c.limits_of.result bytes c.args.options.at db wal journal c.in-Err.error (c.in-Err.ensures.answer given) in
-    (c.in-Err.error, subst (λ (l : Bounds). AskedRefused l c.args.options.at db wal journal c.in-Err.error) c.limits_of.ensures refused, c.from.ensures)
+    let refused = subst (λ (l : Bounds). AskedRefused l c.commit-at.result db wal journal c.in-Err.error) c.limits_of.ensures (c.in-Err.ensures.answer given) in
+    (c.in-Err.error, subst (λ (at : Commit). AskedRefused (limits_named c.args.options.large) at db wal journal c.in-Err.error) c.commit-at.ensures refused, c.from.ensures)

@@ -2,9 +2,12 @@ use Rattle.std.proofs.Common.{OnOk, Result, Ok, Err, subst}
 use Rattle.std.specs.Prelude.{IfErr, MatchResult}
 use Rattle.sqval.specs.Limits.{Bounds}
 use Rattle.sqview.specs.LogView.{pages_of}
-use Rattle.cli_show.specs.Views.{AskedRefused}
+use Rattle.cli_words.specs.Commits.{commit_named}
+use Rattle.cli_words.specs.declared.requests.Commit.{Commit}
+use Rattle.cli_show.specs.Fronts.{IsAskedFront}
+use Rattle.cli_show.specs.Limits.{limits_named}
+use Rattle.cli_show.specs.Views.{AskedRefused, IsAskedView}
 use Rattle.cli_show.proofs.AskedFronts.{front_asked, shows_asked}
-use Rattle.cli_show.proofs.ShownFiles.{refused_asked}
 use Rattle.cli_dump.specs.Rows.{ArePrinted, AreStopped, notation_named}
 use Rattle.cli_dump.proofs.rows.show_rows.Goals as goal
 
@@ -15,14 +18,22 @@ both (Err _) P R ok err = err
 pub returns-in-Ok-clause-front : goal.returns-in-Ok-clause-front
 returns-in-Ok-clause-front g c = λ given.
     let bytes = g.F.FileBytes.bytes in
-    front_asked c.limits_of.result bytes (bytes c.args.files.db) (bytes c.args.files.wal) (bytes c.args.files.journal) c.in-Ok.view c.args.options.at c.of_view-front.result
-    (c.in-Ok.ensures.answer given) c.of_view-front.ensures
+    let db = bytes c.args.files.db in
+    let wal = bytes c.args.files.wal in
+    let journal = bytes c.args.files.journal in
+    let front = c.of_view-front.result in
+    subst (λ (at : Commit). IsAskedFront at wal journal front) c.commit-at.ensures
+    (front_asked c.limits_of.result bytes db wal journal c.in-Ok.view c.commit-at.result front (c.in-Ok.ensures.answer given) c.of_view-front.ensures)
 
 pub returns-in-Ok-clause-shown : goal.returns-in-Ok-clause-shown
 returns-in-Ok-clause-shown g c = λ given.
     let bytes = g.F.FileBytes.bytes in
     let v = c.in-Ok.view in
-    let shows = shows_asked c.limits_of.result bytes (bytes c.args.files.db) (bytes c.args.files.wal) (bytes c.args.files.journal) v c.args.options.at (c.in-Ok.ensures.answer given) in
+    let db = bytes c.args.files.db in
+    let wal = bytes c.args.files.wal in
+    let journal = bytes c.args.files.journal in
+    let answer = subst (λ (at : Commit). IsAskedView c.limits_of.result bytes at db wal journal v) c.commit-at.ensures (c.in-Ok.ensures.answer given) in
+    let shows = shows_asked c.limits_of.result bytes db wal journal v (commit_named c.args.options) answer in
     let d = pages_of bytes v in
     let before = g.W.Write.contents c.args.out.now in
     let after = g.W.Write.contents c.print_wanted-ended.new.out in
@@ -41,5 +52,5 @@ returns-in-Err-clause-refused g c = λ given.
     let db = bytes c.args.files.db in
     let wal = bytes c.args.files.wal in
     let journal = bytes c.args.files.journal in
-    let refused = refused_asked c.limits_of.result bytes c.args.options.at db wal journal c.in-Err.error (c.in-Err.ensures.answer given) in
-    (c.in-Err.error, subst (λ (l : Bounds). AskedRefused l c.args.options.at db wal journal c.in-Err.error) c.limits_of.ensures refused, c.from.ensures)
+    let refused = subst (λ (l : Bounds). AskedRefused l c.commit-at.result db wal journal c.in-Err.error) c.limits_of.ensures (c.in-Err.ensures.answer given) in
+    (c.in-Err.error, subst (λ (at : Commit). AskedRefused (limits_named c.args.options.large) at db wal journal c.in-Err.error) c.commit-at.ensures refused, c.from.ensures)

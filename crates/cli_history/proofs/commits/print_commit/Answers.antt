@@ -19,8 +19,8 @@ returns-in-Ok-print_changes-clause-ok g c = λ given took cold.
       w.page_size,
       d,
       e,
-      (c.in-Ok.ensures.answer given took cold).shows,
-      (c.in-Ok-view_at.ensures.answer given took cold).shows,
+      c.in-Ok.ensures.answer given took cold,
+      c.in-Ok-view_at.ensures.answer given took cold,
       (mid, c.in-Ok-write_mark.ensures, subst (λ (form : ChangeForm). AreChangesPrinted d e names form mid new) c.form_of-form.ensures printed),
     )
 
@@ -41,7 +41,7 @@ returns-clause-err g c = λ given took cold.
       w.page_size,
       d,
       e,
-      (c.in-Ok.ensures.answer given took cold).shows,
-      (c.in-Ok-view_at.ensures.answer given took cold).shows,
+      c.in-Ok.ensures.answer given took cold,
+      c.in-Ok-view_at.ensures.answer given took cold,
       (mid, c.in-Ok-write_mark.ensures, subst (λ (form : ChangeForm). AreChangesStopped d e names form stop mid new) c.form_of-form.ensures stopped),
     )

@@ -18,7 +18,7 @@ loop-frame-preserved g c =
     record {
       last = last_more c.args.from frames at _ c.loop-frame-test.true refl;
       taken = λ given took cold.
-          commits_more files names c.args.told.now.form c.args.from frames at c.loop-frame.before _ old mid new c.loop-frame-test.true i.last refl
+          commits_more files c.args.told.now.front names c.args.told.now.form c.args.from frames at c.loop-frame.before _ old mid new c.loop-frame-test.true i.last refl
           (i.taken given took cold) (c.in-Ok.ensures.ok given took cold);
     }
 
@@ -38,5 +38,5 @@ returns-in-Err-clause-err g c = λ given took cold.
       mid,
       slice_get-get_or frames at 0 c.loop-frame-test.true,
       i.taken given took cold,
-      subst (λ (before : ℕ). IsCommitStopped c.args.told.now.limits files names c.args.told.now.form before frame c.in-Err.error mid new) i.last stopped,
+      subst (λ (before : ℕ). IsCommitStopped c.args.told.now.limits files c.args.told.now.front names c.args.told.now.form before frame c.in-Err.error mid new) i.last stopped,
     )

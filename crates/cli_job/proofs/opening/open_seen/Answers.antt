@@ -10,13 +10,13 @@ use Rattle.cli_show.specs.declared.contents.Contents.{Contents}
 use Rattle.cli_job.specs.Opened.{AreLogsOf, AreOpened}
 use Rattle.cli_job.proofs.opening.open_seen.Goals as goal
 
--- the files that were opened, of which at 0 the logs are left out
-opened_all : {F : Type 0} (paths : Paths) (said : Option SuperJournal) (at : Option ℕ) (found : Beheld) (db wal journal : OpenedFile F) (files : Contents (OpenedFile F))
+-- the files that were opened, of which at front 0 the logs are left out
+opened_all : {F : Type 0} (paths : Paths) (said : Option SuperJournal) (front : Option ℕ) (found : Beheld) (db wal journal : OpenedFile F) (files : Contents (OpenedFile F))
     → AreRegular found → IsOpenedAt db paths.db (metadata_len found.db) → IsOpenedOf wal paths.wal 1 found.wal
     → (((said ≡ Some Gone) × IsMissing journal) ⊎ IsOpenedOf journal paths.journal 28 found.journal) → files.db ≡ db
-    → (at ≡ Some 0 → IsMissing files.wal × IsMissing files.journal) → (at ≢ Some 0 → files ≡ record { db = db; wal = wal; journal = journal })
-    → AreOpened false paths said at files
-opened_all {F} paths said at found db wal journal files regular opened by_wal by_journal same alone logs = record {
+    → (front ≡ Some 0 → IsMissing files.wal × IsMissing files.journal) → (front ≢ Some 0 → files ≡ record { db = db; wal = wal; journal = journal })
+    → AreOpened false paths said front files
+opened_all {F} paths said front found db wal journal files regular opened by_wal by_journal same alone logs = record {
   found = found;
   regular = regular;
   wanted = (
@@ -28,14 +28,14 @@ opened_all {F} paths said at found db wal journal files regular opened by_wal by
 
 pub returns-clause-refused : goal.returns-clause-refused
 returns-clause-refused g c =
-    let opened : AreOpened false c.args.paths.now c.args.super_journal c.args.at c.as_asked-files.result =
-    opened_all c.args.paths.now c.args.super_journal c.args.at c.in_ok-found.field-0.found c.in-Ok.db c.in_ok-found.field-0.wal c.in_ok-found.field-0.journal
-    c.as_asked-files.result c.in_ok-found.ensures.regular c.in-Ok.ensures.opened c.in_ok-found.ensures.wal c.in_ok-found.ensures.journal
-    c.as_asked-files.ensures.db c.as_asked-files.ensures.alone c.as_asked-files.ensures.logs in
-    ⊎_elim inl (λ u. inr (c.as_asked-files.result, opened, u)) c.in-Err-tell_by_log.ensures
+    let opened : AreOpened false c.args.paths.now c.args.super_journal c.args.front c.up_to-files.result =
+    opened_all c.args.paths.now c.args.super_journal c.args.front c.in_ok-found.field-0.found c.in-Ok.db c.in_ok-found.field-0.wal c.in_ok-found.field-0.journal
+    c.up_to-files.result c.in_ok-found.ensures.regular c.in-Ok.ensures.opened c.in_ok-found.ensures.wal c.in_ok-found.ensures.journal
+    c.up_to-files.ensures.db c.up_to-files.ensures.alone c.up_to-files.ensures.logs in
+    ⊎_elim inl (λ u. inr (c.up_to-files.result, opened, u)) c.in-Err-tell_by_log.ensures
 
 pub returns-in-Ok-tell_by_log-clause-opened : goal.returns-in-Ok-tell_by_log-clause-opened
 returns-in-Ok-tell_by_log-clause-opened g c =
-    opened_all c.args.paths.now c.args.super_journal c.args.at c.in_ok-found.field-0.found c.in-Ok.db c.in_ok-found.field-0.wal c.in_ok-found.field-0.journal
-    c.as_asked-files.result c.in_ok-found.ensures.regular c.in-Ok.ensures.opened c.in_ok-found.ensures.wal c.in_ok-found.ensures.journal
-    c.as_asked-files.ensures.db c.as_asked-files.ensures.alone c.as_asked-files.ensures.logs
+    opened_all c.args.paths.now c.args.super_journal c.args.front c.in_ok-found.field-0.found c.in-Ok.db c.in_ok-found.field-0.wal c.in_ok-found.field-0.journal
+    c.up_to-files.result c.in_ok-found.ensures.regular c.in-Ok.ensures.opened c.in_ok-found.ensures.wal c.in_ok-found.ensures.journal
+    c.up_to-files.ensures.db c.up_to-files.ensures.alone c.up_to-files.ensures.logs

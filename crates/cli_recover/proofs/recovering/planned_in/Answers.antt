@@ -18,7 +18,7 @@ returns-in-Ok g c = λ given counts.
     let same = c.asked_scan-scan.ensures in
     plans_of options db (bytes files.wal) (bytes files.journal) c.args.in_use plan counts e.file e.nothing
     (λ header is at. e.journal header is at given.2) e.no_commit
-    (λ is at. subst (λ (l : List ℕ). PlansFold (limits_named options.large) options.at db l plan) same.same_bytes (e.wal is at given.0 (same.still_gives given.1)))
+    (λ is at. subst (λ (l : List ℕ). PlansFold (limits_named options.large) options.front db l plan) same.same_bytes (e.wal is at given.0 (same.still_gives given.1)))
 
 pub returns-in-Err : goal.returns-in-Err
 returns-in-Err g c = λ given counts.
@@ -31,4 +31,4 @@ returns-in-Err g c = λ given counts.
     let same = c.asked_scan-scan.ensures in
     plans_of options db (bytes files.wal) (bytes files.journal) c.args.in_use plan counts e.file e.nothing
     (λ header is at. e.journal header is at given.2) e.no_commit
-    (λ is at. subst (λ (l : List ℕ). PlansFold (limits_named options.large) options.at db l plan) same.same_bytes (e.wal is at given.0 (same.still_gives given.1)))
+    (λ is at. subst (λ (l : List ℕ). PlansFold (limits_named options.large) options.front db l plan) same.same_bytes (e.wal is at given.0 (same.still_gives given.1)))

@@ -8,11 +8,11 @@ pub returns-in-Ok : goal.returns-in-Ok
 returns-in-Ok g c =
     let bytes = opened_bytes g.R.File.SystemFile.bytes in
     let gives = GivesBytes g.R.File.SystemFile.bytes g.R.File.SystemFile.keeps_word g.R.File.SystemFile.never_fails in
-    inl (compares bytes gives c.args.job.now.source.now c.args.difference c.first.result c.last.result c.in_ok-from.from c.in-Ok.to c.show_between.result
-    c.first.ensures c.last.ensures c.in_ok-from.ensures.opened c.in_ok-from.ensures.new c.in-Ok.ensures.opened c.in-Ok.ensures.new c.show_between.ensures)
+    inl (compares bytes gives c.args.job.now.source.now c.args.difference c.in_ok-from.from c.in-Ok.to c.show_between.result
+    c.in_ok-from.ensures.opened c.in_ok-from.ensures.new c.in-Ok.ensures.opened c.in-Ok.ensures.new c.show_between.ensures)
 
 pub returns-in_err-from : goal.returns-in_err-from
 returns-in_err-from g c = inr (search rules)
 
 pub returns-in-Err : goal.returns-in-Err
-returns-in-Err g c = inr (inr (inl (rw c.last.ensures at c.in-Err.ensures.refused)))
+returns-in-Err g c = inr (inl c.in-Err.ensures.refused)

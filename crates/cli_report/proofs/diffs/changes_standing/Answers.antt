@@ -1,9 +1,7 @@
-use Rattle.std.proofs.Common.{inr, rules, subst}
+use Rattle.std.proofs.Common.{inr, rules}
 use Rattle.cli_files.specs.Files.{opened_bytes}
 use Rattle.cli_job.specs.Opened.{GivesBytes}
 use Rattle.cli_report.proofs.DiffsOfFiles.{diffs_stand}
-use Rattle.cli_report.specs.Diffs.{Diffs, up_to}
-use Rattle.cli_report.specs.declared.difference.Difference.{Difference}
 use Rattle.cli_report.proofs.diffs.changes_standing.Goals as goal
 
 pub returns : goal.returns
@@ -11,8 +9,7 @@ returns g c =
     let bytes = opened_bytes g.R.File.SystemFile.bytes in
     let gives = GivesBytes g.R.File.SystemFile.bytes g.R.File.SystemFile.keeps_word g.R.File.SystemFile.never_fails in
     let source = c.args.job.now.source.now in
-    diffs_stand bytes gives source (up_to c.args.difference source.options.at) c.changes_now-printed.result c.standing.result
-    (subst (λ (d : Difference). Diffs bytes gives source d c.changes_now-printed.result) c.up_to-meant.ensures c.changes_now-printed.ensures) c.standing.ensures
+    diffs_stand bytes gives source c.args.difference c.changes_now-printed.result c.standing.result c.changes_now-printed.ensures c.standing.ensures
 
 pub returns-in_err-before : goal.returns-in_err-before
 returns-in_err-before g c = inr (search rules)

@@ -12,4 +12,4 @@ returns-in-Ok g c =
     (g.W.Write.contents c.args.out.now) (g.W.Write.contents c.show_history.new.out) c.in-Ok.ensures.opened c.show_history.ensures.shown c.show_history.ensures.refused
 
 pub returns-in-Err : goal.returns-in-Err
-returns-in-Err g c = λ asked. inr (inr (inl c.in-Err.ensures.refused))
+returns-in-Err g c = λ asked. inr (inl c.in-Err.ensures.refused)

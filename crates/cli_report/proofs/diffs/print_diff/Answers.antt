@@ -11,4 +11,4 @@ returns-in-Err-changes_standing g c =
     (Err c.in-Err-changes_standing.refusal, c.in-Err-changes_standing.ensures, inl (rw c.told.ensures refl))
 
 pub returns-in-Err : goal.returns-in-Err
-returns-in-Err g c = (Err NoMemory, inr (inr (inr (inr (inr refl)))), inl refl)
+returns-in-Err g c = (Err NoMemory, inr (inr (inr (inr refl))), inl refl)

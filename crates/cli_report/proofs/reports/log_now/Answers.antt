@@ -21,5 +21,5 @@ returns-clause-refused g c =
     let gives = GivesBytes g.R.File.SystemFile.bytes g.R.File.SystemFile.keeps_word g.R.File.SystemFile.never_fails in
     let source = c.args.job.now.source.now in
     let logs = c.in_ok-logs in
-    log_unread (IsLogIn (limits_named source.options.large) source.options.at (bytes logs.logs.wal) (bytes logs.logs.journal)) bytes gives source logs.logs.found logs.logs.wal logs.logs.journal c.log_in.result
+    log_unread (IsLogIn (limits_named source.options.large) source.options.front (bytes logs.logs.wal) (bytes logs.logs.journal)) bytes gives source logs.logs.found logs.logs.wal logs.logs.journal c.log_in.result
     (logs.ensures.wal, logs.ensures.journal) c.log_in.ensures

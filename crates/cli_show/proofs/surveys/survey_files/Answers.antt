@@ -3,10 +3,9 @@ use Rattle.std.specs.Prelude.{Result, Ok, IfOk, IfErr}
 use Rattle.cli_facts.specs.declared.outcome.Refusal.{Refusal}
 use Rattle.cli_show.specs.Contents.{contents_of}
 use Rattle.cli_show.specs.Found.{IsFoundOf, IsUnfound}
-use Rattle.cli_show.specs.Views.{AskedAnswer, AskedRefused}
+use Rattle.cli_show.specs.Views.{IsAskedView, AskedRefused}
 use Rattle.cli_show.specs.declared.surveys.Found.{Found}
 use Rattle.cli_show.proofs.FoundFiles.{found_of_view, refused_of_view, found_of_none, refused_of_none}
-use Rattle.cli_show.proofs.ShownFiles.{refused_asked}
 use Rattle.cli_show.proofs.surveys.survey_files.Goals as goal
 
 pub returns-in-Ok-clause-found : goal.returns-in-Ok-clause-found
@@ -15,7 +14,7 @@ returns-in-Ok-clause-found g c = λ given.
     let files = contents_of bytes c.args.files in
     let same = c.records_in.ensures.same in
     let still = same.still_gives given.2 in
-    let asked = subst (λ (j : List ℕ). AskedAnswer c.args.asked.limits bytes c.args.asked.at files.db files.wal j (Ok c.in-Ok.view)) same.same_bytes (c.in-Ok.ensures.answer (given.0, given.1, still)) in
+    let asked = subst (λ (j : List ℕ). IsAskedView c.args.asked.limits bytes c.args.asked.at files.db files.wal j c.in-Ok.view) same.same_bytes (c.in-Ok.ensures.answer (given.0, given.1, still)) in
     found_of_view c.args.asked.maps.pointer_maps c.args.asked.limits bytes c.args.asked.at files c.in-Ok.view c.in_ok-records.records asked c.found_in.result (c.in_ok-records.ensures.found given.2)
     (c.found_in.ensures.found (c.in-Ok.ensures.still_gives (given.0, given.1, still)))
 
@@ -25,7 +24,7 @@ returns-in-Ok-clause-refused g c = λ given.
     let files = contents_of bytes c.args.files in
     let same = c.records_in.ensures.same in
     let still = same.still_gives given.2 in
-    let asked = subst (λ (j : List ℕ). AskedAnswer c.args.asked.limits bytes c.args.asked.at files.db files.wal j (Ok c.in-Ok.view)) same.same_bytes (c.in-Ok.ensures.answer (given.0, given.1, still)) in
+    let asked = subst (λ (j : List ℕ). IsAskedView c.args.asked.limits bytes c.args.asked.at files.db files.wal j c.in-Ok.view) same.same_bytes (c.in-Ok.ensures.answer (given.0, given.1, still)) in
     refused_of_view c.args.asked.maps.pointer_maps c.args.asked.limits bytes c.args.asked.at files c.in-Ok.view c.in_ok-records.records asked c.found_in.result
     (c.found_in.ensures.refused (c.in-Ok.ensures.still_gives (given.0, given.1, still)))
 
@@ -35,7 +34,7 @@ returns-in-Err-clause-found g c = λ given.
     let files = contents_of bytes c.args.files in
     let same = c.records_in.ensures.same in
     let still = same.still_gives given.2 in
-    let refused = refused_asked c.args.asked.limits bytes c.args.asked.at files.db files.wal (bytes c.records_in.new.journal) c.in-Err.error (c.in-Err.ensures.answer (given.0, given.1, still)) in
+    let refused = c.in-Err.ensures.answer (given.0, given.1, still) in
     let asked = subst (λ (j : List ℕ). AskedRefused c.args.asked.limits c.args.asked.at files.db files.wal j c.in-Err.error) same.same_bytes refused in
     subst (λ (r : Result (Found g.row.F.Denot) Refusal). IfOk r (IsFoundOf c.args.asked.maps.pointer_maps c.args.asked.limits bytes c.args.asked.at files)) (sym c.without_pages.ensures)
     (found_of_none c.args.asked.maps.pointer_maps c.args.asked.limits bytes c.args.asked.at files c.in-Err.error asked)
@@ -46,7 +45,7 @@ returns-in-Err-clause-refused g c = λ given.
     let files = contents_of bytes c.args.files in
     let same = c.records_in.ensures.same in
     let still = same.still_gives given.2 in
-    let refused = refused_asked c.args.asked.limits bytes c.args.asked.at files.db files.wal (bytes c.records_in.new.journal) c.in-Err.error (c.in-Err.ensures.answer (given.0, given.1, still)) in
+    let refused = c.in-Err.ensures.answer (given.0, given.1, still) in
     let asked = subst (λ (j : List ℕ). AskedRefused c.args.asked.limits c.args.asked.at files.db files.wal j c.in-Err.error) same.same_bytes refused in
     subst (λ (r : Result (Found g.row.F.Denot) Refusal). IfErr r (IsUnfound c.args.asked.maps.pointer_maps c.args.asked.limits c.args.asked.at files)) (sym c.without_pages.ensures)
     (refused_of_none c.args.asked.maps.pointer_maps c.args.asked.limits bytes c.args.asked.at files c.in-Err.error asked)

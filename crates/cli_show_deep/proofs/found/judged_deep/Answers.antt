@@ -1,7 +1,6 @@
 use Rattle.sqview.specs.LogView.{pages_of}
 use Rattle.sqdeepjudge.proofs.SchemaFindings.{both_parts}
 use Rattle.cli_show_deep.proofs.DeepFindings.{view_found, view_front, view_refused, none_found, none_front, none_refused}
-use Rattle.cli_show.proofs.ShownFiles.{refused_asked}
 use Rattle.cli_show_deep.proofs.found.judged_deep.Goals as goal
 
 pub returns-in-Ok-clause-found : goal.returns-in-Ok-clause-found
@@ -28,24 +27,3 @@ returns-in-Ok-clause-refused g c = λ gives.
     let a = c.args.asked in
     view_refused a.maps.pointer_maps a.limits bytes (bytes c.args.db) (bytes c.args.wal) (bytes c.args.journal) a.at c.in-Ok.view c.of_view-front.result c.judge_deep.result c.as_found.result
     (c.in-Ok.ensures.answer gives) c.as_found.ensures.err (c.judge_deep.ensures.refused (c.in-Ok.ensures.still_gives gives))
-
-pub returns-in-Err-clause-found : goal.returns-in-Err-clause-found
-returns-in-Err-clause-found g c = λ gives.
-    let bytes = g.F.FileBytes.bytes in
-    let a = c.args.asked in
-    let refused = refused_asked a.limits bytes a.at (bytes c.args.db) (bytes c.args.wal) (bytes c.args.journal) c.in-Err.error (c.in-Err.ensures.answer gives) in
-    none_found a.maps.pointer_maps a.limits a.at (bytes c.args.db) (bytes c.args.wal) (bytes c.args.journal) c.in-Err.error c.deep_without.result c.as_found-in-Err.result refused c.deep_without.ensures c.as_found-in-Err.ensures.ok
-
-pub returns-in-Err-clause-front : goal.returns-in-Err-clause-front
-returns-in-Err-clause-front g c = λ gives.
-    let bytes = g.F.FileBytes.bytes in
-    let a = c.args.asked in
-    let refused = refused_asked a.limits bytes a.at (bytes c.args.db) (bytes c.args.wal) (bytes c.args.journal) c.in-Err.error (c.in-Err.ensures.answer gives) in
-    none_front a.maps.pointer_maps a.limits a.at (bytes c.args.db) (bytes c.args.wal) (bytes c.args.journal) c.in-Err.error c.deep_without.result c.as_found-in-Err.result refused c.deep_without.ensures c.as_found-in-Err.ensures.ok
-
-pub returns-in-Err-clause-refused : goal.returns-in-Err-clause-refused
-returns-in-Err-clause-refused g c = λ gives.
-    let bytes = g.F.FileBytes.bytes in
-    let a = c.args.asked in
-    let refused = refused_asked a.limits bytes a.at (bytes c.args.db) (bytes c.args.wal) (bytes c.args.journal) c.in-Err.error (c.in-Err.ensures.answer gives) in
-    none_refused a.maps.pointer_maps a.limits a.at (bytes c.args.db) (bytes c.args.wal) (bytes c.args.journal) c.in-Err.error c.deep_without.result c.as_found-in-Err.result refused c.deep_without.ensures c.as_found-in-Err.ensures.err

@@ -1,5 +1,5 @@
 use Rattle.std.proofs.Common.{sym, ◌∙◌}
-use Rattle.sqpast.proofs.past.KnownViews.{count_invalid, count_valid}
+use Rattle.sqpast.proofs.known.KnownViews.{count_invalid, count_valid}
 use Rattle.sqpast.proofs.at.header_count.Goals as goal
 
 pub returns-then-changed-valid_for : goal.returns-then-changed-valid_for

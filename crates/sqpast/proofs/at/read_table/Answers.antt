@@ -6,7 +6,7 @@ use Rattle.sqwal.specs.Header.{named_size}
 use Rattle.sqwal.proofs.log.UniquenessOfView.{front_unique}
 use Rattle.history.specs.Table.{AreUntil}
 use Rattle.sqpast.specs.internal.Chains.{AreChains}
-use Rattle.sqpast.proofs.past.KnownViews.{file_count, front_is}
+use Rattle.sqpast.proofs.known.KnownViews.{file_count, front_is}
 use Rattle.sqpast.proofs.at.read_table.Goals as goal
 
 pub returns-in_default-clause-right : goal.returns-in_default-clause-right

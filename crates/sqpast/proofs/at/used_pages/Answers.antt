@@ -4,7 +4,7 @@ use Rattle.sqval.specs.Database.{page}
 use Rattle.sqval.proofs.page.FilePages.{size_some}
 use Rattle.sqview.specs.LogView.{pages_of}
 use Rattle.sqview.proofs.openings.PagesOfView.{length_laid}
-use Rattle.sqpast.proofs.past.KnownViews.{used_high}
+use Rattle.sqpast.proofs.known.KnownViews.{used_high}
 use Rattle.sqpast.proofs.at.used_pages.Goals as goal
 
 pub returns-then-most-eq0-clause-right : goal.returns-then-most-eq0-clause-right

@@ -1,6 +1,6 @@
 use Rattle.std.proofs.Common.{◌+◌, inl, inr, ℕ, sym, subst, arith}
 use Rattle.sqwal.specs.Header.{named_size}
-use Rattle.sqpast.proofs.past.FramesByPage.{IsLeastTo, least_none, least_now, least_still, least_all}
+use Rattle.sqpast.proofs.known.FramesByPage.{IsLeastTo, least_none, least_now, least_still, least_all}
 use Rattle.sqpast.proofs.chains.least_commit.Goals as goal
 use Rattle.sqpast.proofs.chains.least_commit.Goals.{then-entry-ne0+then-entry-least, else-entry-ne0, else-entry-ne0-via-then-entry-ne0+else-entry-least, else-entry-ne0-via-else-entry-ne0}
 

@@ -2,7 +2,7 @@ use Rattle.std.proofs.Common.{◌≡◌, ℕ, List}
 use Rattle.sqwal.specs.Header.{named_size}
 use Rattle.sqwal.specs.Frames.{size_of, IsValidFrame, IsCommit}
 use Rattle.sqwal.specs.Took.{TookWithin}
-use Rattle.sqpast.proofs.past.FramesByPage.{IsLeastTo}
+use Rattle.sqpast.proofs.known.FramesByPage.{IsLeastTo}
 use Rattle.sqpast.proofs.chains.least_commit.Given as goal
 
 abbrev pub invariant-loop-before : goal.invariant-loop-before

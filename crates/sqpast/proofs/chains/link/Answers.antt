@@ -1,7 +1,7 @@
 use Rattle.std.proofs.Common.{◌≡◌, ◌-◌, ◌≤◌, ℕ, length, get_or, set, sym, ◌∙◌, subst, arith}
 use Rattle.std.proofs.lemmas.Grind.{get_or_default_zero}
 use Rattle.sqpast.specs.internal.Chains.{AreChainsFrom}
-use Rattle.sqpast.proofs.past.FramesByPage.{linked, unlinked}
+use Rattle.sqpast.proofs.known.FramesByPage.{linked, unlinked}
 use Rattle.sqpast.proofs.chains.link.Goals as goal
 use Rattle.sqpast.proofs.chains.link.Goals.{else-page-gt0-via-then-page-gt0+else-page-len, else-page-gt0-via-else-page-gt0}
 

@@ -1,7 +1,7 @@
 use Rattle.std.proofs.Common.{◌≡◌, ◌<◌, ◌-◌, ℕ, true, length, get_or, refl, sym, ◌∙◌, subst, arith}
 use Rattle.std.proofs.lemmas.Grind.{get_or_default_zero}
 use Rattle.sqpast.specs.internal.Chains.{IsUntil, IsNextFrame}
-use Rattle.sqpast.proofs.past.JudgedPages.{until_gone, until_never, tail_before}
+use Rattle.sqpast.proofs.known.JudgedPages.{until_gone, until_never, tail_before}
 use Rattle.sqpast.proofs.gone.judge_page.Goals as goal
 use Rattle.sqpast.proofs.gone.judge_page.Goals.{then-is_gone, else-is_gone}
 

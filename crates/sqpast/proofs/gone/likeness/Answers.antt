@@ -1,6 +1,6 @@
 use Rattle.std.proofs.Common.{◌≡◌, ◌-◌, ◌*◌, ℕ, List, length, sym, ◌∙◌, ap, subst}
 use Rattle.sqpast.specs.internal.Chains.{NamesAny}
-use Rattle.sqpast.proofs.past.BytesInPieces.{page_read, zeros_to, zeros_from}
+use Rattle.sqpast.proofs.known.BytesInPieces.{page_read, zeros_to, zeros_from}
 use Rattle.sqpast.proofs.gone.likeness.Goals as goal
 
 pub returns-clause-read : goal.returns-clause-read

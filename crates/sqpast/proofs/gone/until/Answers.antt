@@ -7,7 +7,7 @@ use Rattle.std.proofs.lemmas.List.{length-set, get_or-set_same, get_or-set_other
 use Rattle.sqval.specs.Database.{file_pages}
 use Rattle.sqval.specs.PageSize.{IsPageSize}
 use Rattle.sqpast.specs.internal.Chains.{AreChains, IsUntil, IsTail, IsJudged}
-use Rattle.sqpast.proofs.past.JudgedPages.{past_until, tail_at_end}
+use Rattle.sqpast.proofs.known.JudgedPages.{past_until, tail_at_end}
 use Rattle.sqpast.proofs.gone.until.Goals as goal
 
 leb_is : (a b c : ℕ) → b ≡ c → IsTrue (leb a b) ↔ (a ≤ c)

@@ -1,7 +1,7 @@
 use Rattle.std.proofs.Common.{◌≡◌, ◌≤◌, ◌<◌, ◌-◌, ℕ, true, false, inl, inr, length, get_or, refl, sym, ◌∙◌, subst, arith}
 use Rattle.std.proofs.lemmas.Grind.{get_or_default_zero}
 use Rattle.sqpast.specs.internal.Chains.{IsNextFrame}
-use Rattle.sqpast.proofs.past.BytesInPieces.{tried_none, tried_over, here, tried_found, tried_more, content_by_part}
+use Rattle.sqpast.proofs.known.BytesInPieces.{tried_none, tried_over, here, tried_found, tried_more, content_by_part}
 use Rattle.sqpast.proofs.likeness.is_copied.Goals as goal
 
 pub loop-step-init : goal.loop-step-init

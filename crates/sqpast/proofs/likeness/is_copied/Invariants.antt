@@ -1,6 +1,6 @@
 use Rattle.std.proofs.Common.{◌≡◌, ℕ, length}
 use Rattle.sqpast.specs.internal.Chains.{AreChains}
-use Rattle.sqpast.proofs.past.BytesInPieces.{IsTried}
+use Rattle.sqpast.proofs.known.BytesInPieces.{IsTried}
 use Rattle.sqpast.proofs.likeness.is_copied.Given as goal
 
 abbrev pub invariant-loop-step : goal.invariant-loop-step

@@ -1,7 +1,7 @@
 use Rattle.std.proofs.Common.{◌≡◌, ◌≤◌, ◌+◌, ◌-◌, length, take, drop, refl, sym, ◌∙◌, ap, subst, true, false, ℕ, arith}
 use Rattle.std.proofs.lemmas.Grind.{common_steps}
 use Rattle.sqview.specs.Laid.{part_or_zeros}
-use Rattle.sqpast.proofs.past.BytesInPieces.{SameTo, same_none, same_all, same_more, piece_of_same}
+use Rattle.sqpast.proofs.known.BytesInPieces.{SameTo, same_none, same_all, same_more, piece_of_same}
 use Rattle.sqpast.proofs.likeness.is_part.Goals as goal
 
 pub loop-done-init : goal.loop-done-init

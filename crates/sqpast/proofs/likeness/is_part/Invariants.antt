@@ -1,5 +1,5 @@
 use Rattle.std.proofs.Common.{◌≡◌, ◌-◌, ◌≤◌, length}
-use Rattle.sqpast.proofs.past.BytesInPieces.{SameTo}
+use Rattle.sqpast.proofs.known.BytesInPieces.{SameTo}
 use Rattle.sqpast.proofs.likeness.is_part.Given as goal
 
 abbrev pub invariant-loop-done : goal.invariant-loop-done

@@ -1,7 +1,7 @@
-use Rattle.std.proofs.Common.{◌∙◌, length, inl, arith, ap}
+use Rattle.std.proofs.Common.{◌∙◌, length, inl, inr, arith, ap}
 use Rattle.sqrescue_c.specs.internal.Statuses.{number_of}
-use Rattle.sqrescue_c.specs.Statuses.{view_status}
-use Rattle.sqrescue_c.proofs.AskedRecovery.{passed_at, refused_as_at, low_view}
+use Rattle.sqrescue_c.specs.Statuses.{past_status}
+use Rattle.sqrescue_c.proofs.AskedRecovery.{passed_at, refused_as_at, refused_low_at, other_low, other_past}
 use Rattle.sqrescue_c.proofs.ReportedView.{opened_at, crowded_at}
 use Rattle.sqrescue_c.proofs.view.sqr_open_at.Goals as goal
 
@@ -29,14 +29,21 @@ returns-in-Err-clause-recovery c = let files = c.args.files.now in
 
 pub returns-in-Err-view_at-clause-recovery : goal.returns-in-Err-view_at-clause-recovery
 returns-in-Err-view_at-clause-recovery c = let files = c.args.files.now in
-    rw c.view_number.ensures (passed_at files.db.now files.wal.now files.journal.now c.args.frame (view_status c.in-Err-view_at.error) (low_view c.in-Err-view_at.error) c.in_default.ensures)
+    rw c.number-in-Err-view_at.ensures (rw c.past_status.ensures (passed_at files.db.now files.wal.now files.journal.now c.args.frame
+    (past_status c.in-Err-view_at.error) (other_past c.in-Err-view_at.error) c.in_default.ensures))
 
 pub returns-in-Ok-hand_over-clause-recovery : goal.returns-in-Ok-hand_over-clause-recovery
 returns-in-Ok-hand_over-clause-recovery c = let files = c.args.files.now in
-    passed_at files.db.now files.wal.now files.journal.now c.args.frame c.number-in-Ok-hand_over.result (omega (arith, c.number-in-Ok-hand_over.ensures)) c.in_default.ensures
+    passed_at files.db.now files.wal.now files.journal.now c.args.frame c.number-in-Ok-hand_over.result
+    (other_low c.number-in-Ok-hand_over.result (omega (arith, c.number-in-Ok-hand_over.ensures))) c.in_default.ensures
 
 pub returns-clause-recovery : goal.returns-clause-recovery
 returns-clause-recovery c = let files = c.args.files.now in
     let few = c.in-Err-hand_over.ensures.crowded in
     passed_at files.db.now files.wal.now files.journal.now c.args.frame c.number-in-Err-hand_over.result
-    (omega (arith, c.number-in-Err-hand_over.ensures ∙ ap number_of few.0)) c.in_default.ensures
+    (other_low c.number-in-Err-hand_over.result (omega (arith, c.number-in-Err-hand_over.ensures ∙ ap number_of few.0))) c.in_default.ensures
+
+pub returns-in-Err-clause-refused : goal.returns-in-Err-clause-refused
+returns-in-Err-clause-refused c = λ _ low. let files = c.args.files.now in
+    rw c.number.ensures (inr (refused_low_at files.db.now files.wal.now files.journal.now c.args.frame c.in-Err.status c.in-Err.ensures
+    (rw c.number.ensures at low)))

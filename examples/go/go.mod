@@ -1,3 +1,0 @@
-module sqrescue.example/pages
-
-go 1.19

@@ -1,0 +1,3 @@
+module sqrescue.example/sqrescue
+
+go 1.19

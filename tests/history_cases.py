@@ -1,0 +1,317 @@
+"""Parts of tests/history: checkpoints of sqlite3 that copy frames into the file, cut it and lengthen it again, and
+writers that are killed."""
+import random, re, sqlite3, subprocess
+
+from history_answers import *
+from history_logs import Several
+from lib import preloaded
+
+PARTS = []
+
+
+def part(function):
+    PARTS.append(function)
+    return function
+
+
+class Told:
+    """What databases were at commits, as sqlite3 told here."""
+
+    def __init__(self):
+        self.sums = {}
+
+    def sum(self, log, commit):
+        return self.sums.get(commit)
+
+
+class Live:
+    """A database of this process, with what sqlite3 told of it at its commits. Other programs read its files: SQLite
+    would lose its locks if this process opened and closed them."""
+
+    def __init__(self, folder, vacuum=0, page_size=1024):
+        self.path, self.told, self.reader = os.path.join(folder, "live.db"), Told(), None
+        self.db = sqlite3.connect(self.path, isolation_level=None)
+        for line in (f"PRAGMA page_size={page_size}", f"PRAGMA auto_vacuum={vacuum}", "PRAGMA journal_mode=wal",
+                     "PRAGMA synchronous=off", "PRAGMA wal_autocheckpoint=0"):
+            self.db.execute(line)
+
+    def files(self):
+        return [subprocess.check_output(["cat", self.path + end]) for end in ("", "-wal")]
+
+    def note(self):
+        self.told.sums[Past(*self.files()).front] = sum_of(self.db.serialize())
+
+    def commit(self, *lines):
+        self.db.execute("BEGIN")
+        for line in lines:
+            self.db.execute(line)
+        self.db.execute("COMMIT")
+        self.note()
+
+    def emptied(self):
+        self.db.execute("PRAGMA wal_checkpoint(TRUNCATE)").fetchall()
+        self.told.sums = {0: sum_of(self.db.serialize())}
+
+    def checkpoint(self, kind="PASSIVE"):
+        return self.db.execute(f"PRAGMA wal_checkpoint({kind})").fetchone()
+
+    def reads(self):
+        """A reader of the last commit, instead of an earlier one."""
+        self.closes()
+        self.reader = sqlite3.connect(self.path, isolation_level=None)
+        self.reader.execute("BEGIN")
+        self.reader.execute("SELECT * FROM sqlite_schema").fetchone()
+
+    def closes(self):
+        if self.reader:
+            self.reader.close()
+            self.reader = None
+
+    def ends(self):
+        self.closes()
+        self.db.close()
+
+
+def shell(path, *lines, library=None, ends=0):
+    """The sqlite3 of the command line, which may be killed before one of its writes. Its status."""
+    more = dict(LD_PRELOAD=library, ENDS=str(ends)) if library else {}
+    text = "".join(f"{line}\n" for line in lines)
+    return subprocess.run(["sqlite3", path], input=text.encode(), capture_output=True,
+                          env=dict(os.environ, **more)).returncode
+
+
+def judged(files, looks=LOOKS, pairs=4):
+    """A file and its log, by all that the program says of them."""
+    files.is_true()
+    files.judge_all(looks=looks)
+    files.front_is_shown([*looks, ("show",), ("show", "--log"), ("show", "--commits")])
+    rng = random.Random(len(files.log))
+    drawn = [(rng.choice(files.commits), rng.choice(files.commits)) for _ in range(pairs)]
+    known = [commit for commit in files.commits if files.known[commit]]
+    files.judge_differences({*drawn, (known[0], known[-1]), (known[-1], known[0])})
+    files.judge_default()
+    files.judge_history(0)
+    files.judge_history(known[0])
+    files.judge_report()
+
+
+# ---- by name
+
+
+@part
+def copied_over(folder):
+    """A passive checkpoint copies all frames; commits that don't name each page that was copied are refused."""
+    live = Live(folder, page_size=512)
+    live.db.execute("CREATE TABLE acct(id INTEGER PRIMARY KEY, who TEXT, bal INTEGER)")
+    live.db.executemany("INSERT INTO acct VALUES(?, ?, 100)", [(n, f"w{n:04}" + "." * 30) for n in range(200)])
+    live.emptied()
+    for n in range(1, 7):
+        more = {3: ["DELETE FROM acct WHERE id BETWEEN 50 AND 120"],
+                5: [f"INSERT INTO acct VALUES({1000 + k}, 'n{k:04}{'.' * 60}', 7)" for k in range(100)]}
+        live.commit(f"UPDATE acct SET bal=bal-10 WHERE id={n * 3}",
+                    f"UPDATE acct SET bal=bal+10 WHERE id={199 - n * 3}", *more.get(n, []))
+    before = Files(folder, *live.files(), live.told, "before the checkpoint")
+    holds("all are known before a checkpoint", all(before.known.values()), before.known)
+    judged(before)
+    live.checkpoint()
+    files = Files(folder, *live.files(), live.told, "copied over")
+    live.ends()
+    check("the last two alone are known", [m for m in files.commits if files.known[m]], files.commits[-2:])
+    judged(files, MORE_LOOKS)
+    refused_words(files)
+
+
+def refused_words(files):
+    """The line, the object and the status of a refusal, for each command; nothing is written."""
+    first, last = files.commits[1], files.commits[-1]
+    out = os.path.join(files.folder, "none.out")
+    words = [["check"], ["check", "--deep"], ["show"], ["show", "--pages"], ["show", "--page", "2"], ["rows"],
+             ["rows", "--places"], ["rows", "--deleted"], ["rows", "--table", "acct"], ["salvage", "--to", out],
+             ["recover", "--to", out], ["report", "--to", out]]
+    before = [content(files.path + end) for end in ("", "-wal")]
+    for line in words:
+        for at in 0, first:
+            found = run(*line, files.path, "--at", at)
+            holds(f"{line} at {at} is refused", is_refused(found), found)
+            check(f"{line} at {at}: object", run(*line, files.path, "--at", at, "--json")[:2], (3, OBJECT))
+            holds(f"{line} at {at}: nothing is made", not os.path.exists(out))
+    for line in ["--from", first], ["--to", first], ["--from", first, "--sql"], ["--from", 0, "--deleted"]:
+        found = run("diff", files.path, *line)
+        holds(f"diff {line} is refused", is_refused(found), found)
+    for line in words:
+        found = run(*line, files.path, "--at", last + 1)
+        check(f"{line}: no such commit", (found[0], found[2]), (3, b"sqrescue: no such commit\n"))
+    check("nothing is written", [content(files.path + end) for end in ("", "-wal")], before)
+
+
+def shrunk(folder, vacuum, by_itself=False, chunk=0, regrow=False):
+    """A later, smaller commit is copied and cuts the file, while a reader keeps the log from being begun anew. Then a
+    larger one may lengthen it again. Chunks: the length is no commit's size."""
+    live = Live(folder, vacuum)
+    vacuumed = ["PRAGMA incremental_vacuum"] * (vacuum == 2)
+    sizes = [f".filectrl chunk_size {chunk}"] * bool(chunk)
+    rng = random.Random(5)
+    for line in "CREATE TABLE t(a INTEGER PRIMARY KEY, b)", "CREATE TABLE n(k INTEGER PRIMARY KEY, v)":
+        live.db.execute(line)
+    live.db.execute("INSERT INTO n VALUES(1, 0)")
+    live.db.executemany("INSERT INTO t VALUES(?, ?)", [(n, rng.randbytes(400).hex()) for n in range(60)])
+    live.emptied()
+    live.commit("UPDATE t SET b=b||'!' WHERE a BETWEEN 8 AND 44", "DELETE FROM t WHERE a=45", *vacuumed)
+    live.commit("UPDATE n SET v=1")
+    if by_itself:
+        live.db.execute("PRAGMA wal_autocheckpoint=10")
+    live.commit("DELETE FROM t WHERE a BETWEEN 12 AND 43", *vacuumed)
+    if not by_itself:
+        live.reads()
+        shell(live.path, *sizes if not regrow else [], "PRAGMA wal_checkpoint(PASSIVE);")
+        if regrow:
+            live.commit(f"INSERT INTO t VALUES(1000, '{'y' * 900}')")
+            live.reads()
+            shell(live.path, *sizes, "PRAGMA wal_checkpoint(PASSIVE);")
+        live.commit("UPDATE n SET v=3")
+    found = live.files()
+    live.ends()
+    return found, live.told
+
+
+@part
+def cut_by_a_checkpoint(folder):
+    """Commits whose pages a checkpoint cut away: comparing bytes alone doesn't show it."""
+    ways = {"auto_vacuum FULL": dict(vacuum=1), "its own checkpoint": dict(vacuum=1, by_itself=True),
+            "auto_vacuum INCREMENTAL": dict(vacuum=2), "chunks": dict(vacuum=1, chunk=16384),
+            "lengthened again": dict(vacuum=1, regrow=True),
+            "lengthened again by chunks": dict(vacuum=1, regrow=True, chunk=49152)}
+    reasons = set()
+    for name, way in ways.items():
+        for end in "", "-wal", "-shm":
+            if os.path.exists(os.path.join(folder, "live.db" + end)):
+                os.remove(os.path.join(folder, "live.db" + end))
+        (file, log), told = shrunk(folder, **way)
+        files = Files(folder, file, log, told, name, ["--pointer-maps"])
+        lost = {commit: files.past.lost_page(commit) for commit in files.commits}
+        holds(f"{name}: some commit is lost", any(lost.values()), lost)
+        reasons |= {why[1] for why in lost.values() if why}
+        judged(files)
+    check("pages were copied over, and cut away", reasons, {"copied", "cut away"})
+
+
+@part
+def killed_while_it_grew(folder):
+    """A checkpoint cut the file. A later one, of a process that maps it, lengthens it first and is killed while it
+    copies: pages are zeros that weren't zeros before the first checkpoint."""
+    library = preloaded(folder, "ends")
+    live = Live(folder, vacuum=1)
+    for line in "CREATE TABLE t(a INTEGER PRIMARY KEY, b)", "CREATE TABLE n(k INTEGER PRIMARY KEY, v)":
+        live.db.execute(line)
+    live.db.execute("INSERT INTO n VALUES(1, 0)")
+    live.db.executemany("INSERT INTO t VALUES(?, ?)", [(n, f"{n:08}" * 100) for n in range(60)])
+    live.emptied()
+    live.commit("UPDATE t SET b=b||'!' WHERE a BETWEEN 8 AND 44", "DELETE FROM t WHERE a=45")
+    live.commit("UPDATE n SET v=1")
+    live.commit("DELETE FROM t WHERE a BETWEEN 12 AND 43")
+    live.reads()
+    live.checkpoint()
+    for first in 1000, 2000, 3000:
+        live.commit(f"INSERT INTO t SELECT {first}+a, b||'z' FROM t WHERE a<11")
+    live.commit("UPDATE n SET v=2")
+    file, log = live.files()
+    live.ends()
+    several, reasons, last = Several(folder), set(), None
+    for ends in range(1, 200):
+        path = os.path.join(folder, "copy.db")
+        put(path, file)
+        put(path + "-wal", log)
+        status = shell(path, "PRAGMA synchronous=off;", "PRAGMA mmap_size=100000000;",
+                       "PRAGMA wal_checkpoint(PASSIVE);", library=library, ends=ends)
+        os.path.exists(path + "-shm") and os.remove(path + "-shm")
+        if status == 0:
+            break
+        if content(path) == last:
+            continue
+        last = content(path)
+        past = several.add(f"killed before write {ends}", last, log)
+        for commit in [0, *past.commits]:
+            if past.is_known(commit):
+                check(f"before write {ends}: the definition at {commit}", sum_of(past.used(commit)),
+                      live.told.sum(log, commit))
+            else:
+                reasons.add(past.lost_page(commit)[1])
+    several.judge("--pointer-maps")
+    for path in list(several.pasts)[::9]:
+        several.made(path, next(commit for commit in several.commits(path) if several.pasts[path].is_known(commit)))
+    holds("it was killed at many places", len(several.pasts) > 20, len(several.pasts))
+    holds("pages were cut away", "cut away" in reasons, reasons)
+
+
+# ---- killed at any time
+
+
+def profiles():
+    """Each kind of checkpoint at each page size, with a reader and without one, and what else is drawn."""
+    rng = random.Random(80)
+    for page_size in 512, 1024, 2048, 4096:
+        for kind in "PASSIVE", "", "FULL", "RESTART", "TRUNCATE":
+            for reader in True, False:
+                yield dict(seed=rng.randrange(10**6), page_size=page_size, checkpoint=kind, reader=reader,
+                           auto=0 if kind else rng.choice([20, 60]), vacuum=rng.choice([0, 0, 1, 2]),
+                           mmap=rng.choice([0, 10**8]), chunk=rng.choice([0, 0, 65536, 20000]),
+                           cache=rng.choice([10, 2000]), rows=rng.choice([10, 60, 150]), often=rng.choice([0.2, 0.6]),
+                           steps=rng.choice([6, 12, 20]), ends=rng.random() < 0.6)
+
+
+def killed_files(folder, number, profile, library):
+    """The files that a writer of this profile left, in a folder of their own."""
+    place = os.path.join(folder, str(number))
+    os.mkdir(place)
+    seconds = None
+    if not profile["ends"] and number % 2:
+        profile, seconds = dict(profile, steps=10**6), random.Random(number).random() * 0.8
+    record = killed(place, profile, library, seconds)
+    file, log = copied(os.path.join(place, "w.db"))
+    maps = ["--pointer-maps"] if profile["vacuum"] else []
+    name = re.sub("[{}' ]", "", str({key: value for key, value in profile.items() if key != "steps"}))
+    return Files(place, file, log, record, name, maps)
+
+
+def thinned(files, most, rng):
+    """So many commits, the last known and the first unknown ones among them, and 0."""
+    if len(files.commits) <= max(most, 6):
+        return files.commits
+    turns = [a for a, b in zip(files.commits, files.commits[1:]) if files.known[a] != files.known[b]][:4]
+    return sorted({0, files.commits[-1], *turns, *rng.sample(files.commits, most - len(turns) - 2)})
+
+
+@part
+def killed_writers(folder):
+    """Writers that are killed at any time, under each kind of checkpoint."""
+    library, rng = preloaded(folder, "ends"), random.Random(1)
+    made = list(workers.map(lambda one: killed_files(folder, *one, library), enumerate(profiles())))
+    known, lost = 0, 0
+    for number, files in enumerate(made):
+        files.is_true()
+        files.judge_all(thinned(files, 8, rng), LOOKS if number % 3 == 0 else [])
+        files.front_is_shown(LOOKS[number % 2:][:1])
+        known += sum(files.known.values())
+        lost += len(files.commits) - sum(files.known.values())
+        if files.commits:
+            files.judge_history(next(commit for commit in files.commits if files.known[commit]))
+            files.judge_differences([(rng.choice(files.commits), rng.choice(files.commits)) for _ in range(2)])
+            files.judge_report()
+    holds("many commits are known, and many aren't", known > 50 and lost > 50, (known, lost))
+
+
+@part
+def defaults(folder):
+    """A thousand commits of logs of which sqlite3's own checkpoints, as they are by default, copied frames."""
+    library, rng = preloaded(folder, "ends"), random.Random(2)
+    runs = [dict(seed=number, page_size=4096, checkpoint="", auto=None, reader=number % 4 < 3, rows=300, ends=True,
+                 late=True, vacuum=0, steps=rng.choice([250, 300, 350])) for number in range(10)]
+    asked = found = 0
+    for files in list(workers.map(lambda one: killed_files(folder, *one, library), enumerate(runs))):
+        files.is_true()
+        some = thinned(files, min(1000 - asked, 125), rng) if asked < 990 else []
+        files.judge_all(some, [])
+        asked += len(some)
+        found += sum(files.known[commit] for commit in some)
+    holds("a thousand commits", asked >= 990, asked)
+    holds("some are known, and some aren't", 100 < found < asked, (found, asked))
