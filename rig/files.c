@@ -130,10 +130,10 @@ static void catch_up(void) { /* reads what other processes have written since */
 
 static void put(enum action action, int file, int name, int64_t answer, uint64_t place, uint64_t length,
                 const void *bytes) {
-    int kept = errno;
+    int kept = errno, is_late = has_ended && !is_at_end; /* of a process that goes on after the command */
     struct head head = { action, (uint32_t)file, (uint32_t)name, next_syscall(SYS_gettid), answer, place, length };
     struct iovec parts[2] = { { &head, sizeof head }, { (void *)bytes, bytes ? length : 0 } };
-    ssize_t all = sizeof head + (bytes ? length : 0), done = has_ended ? all : next_writev(trace, parts, 2);
+    ssize_t all = sizeof head + (bytes ? length : 0), done = is_late ? all : next_writev(trace, parts, 2);
     while (done >= 0 && done < all) {
         const char *rest = done < (ssize_t)sizeof head ? (char *)&head + done : (char *)bytes + (done - sizeof head);
         size_t count = done < (ssize_t)sizeof head ? sizeof head - done : (size_t)(all - done);
@@ -142,7 +142,7 @@ static void put(enum action action, int file, int name, int64_t answer, uint64_t
         done += more;
     }
     if (done < 0) no_trace("the trace can't be written");
-    seen += has_ended ? 0 : all;
+    seen += is_late ? 0 : all;
     learn(&head, bytes);
     errno = kept;
 }
