@@ -1,6 +1,7 @@
-"""Makes the wheel: the module, and the shared library that ./build-c left, or that of the release. It asks for nothing
-but Python, and no compiler and no network: `pip install ./python` calls it (PEP 517). The source archive has the shared
-library too, so that a wheel can be made of it on a machine without this tree."""
+"""Makes the wheel: the module, the shared library that ./build-c left or that of the release, and the extension of
+SQLite if it is beside the library or in the release. It asks for nothing but Python, and no compiler and no network:
+`pip install ./python` calls it (PEP 517). The source archive has the shared library and the extension too, so that a
+wheel can be made of it on a machine without this tree."""
 import base64
 import gzip
 import hashlib
@@ -12,6 +13,7 @@ import zipfile
 
 HERE = os.path.dirname(os.path.abspath(__file__))
 LIBRARY = "libsqrescue.so.1"
+EXTENSION = "sqrescuevfs.so"
 TAG = "py3-none-manylinux_2_34_x86_64"  # the GNU C library whose newest symbols the library asks for (PEP 600)
 
 
@@ -29,6 +31,17 @@ def _library():
         if os.path.exists(path):
             return path
     raise FileNotFoundError(f"{LIBRARY} is neither in lib/ nor in release/lib/, nor what SQRESCUE_LIBRARY names")
+
+
+def _shared():
+    """The library, and the extension of SQLite: what the package has of each by name."""
+    library = _library()
+    found = {LIBRARY: _content(library)}
+    below = (os.path.dirname(library), os.path.join(os.path.dirname(HERE), "release", "lib"))
+    path = next((it for it in (os.path.join(folder, EXTENSION) for folder in below) if os.path.exists(it)), None)
+    if path:
+        found[EXTENSION] = _content(path)
+    return found
 
 
 def _content(path):
@@ -58,7 +71,7 @@ def build_wheel(wheel_directory, config_settings=None, metadata_directory=None):
     """Writes the wheel, the same bytes each time, and gives its name."""
     head, about = _about()
     files = {f"sqrescue/{name}": _content(os.path.join(HERE, "sqrescue", name)) for name in MODULE}
-    files[f"sqrescue/{LIBRARY}"] = _content(_library())
+    files.update((f"sqrescue/{name}", content) for name, content in _shared().items())
     files.update((f"{head}.dist-info/{name}", content) for name, content in about.items())
     record = "".join(_line(*item) for item in files.items()) + f"{head}.dist-info/RECORD,,\n"
     files[f"{head}.dist-info/RECORD"] = record.encode()
@@ -66,7 +79,7 @@ def build_wheel(wheel_directory, config_settings=None, metadata_directory=None):
     with zipfile.ZipFile(os.path.join(wheel_directory, name), "w", zipfile.ZIP_DEFLATED) as wheel:
         for path, content in files.items():
             entry = zipfile.ZipInfo(path)
-            entry.external_attr = (0o100755 if path.endswith(LIBRARY) else 0o100644) << 16
+            entry.external_attr = (0o100755 if path.endswith((LIBRARY, EXTENSION)) else 0o100644) << 16
             entry.compress_type = zipfile.ZIP_DEFLATED
             wheel.writestr(entry, content)
     return name
@@ -77,7 +90,7 @@ def build_sdist(sdist_directory, config_settings=None):
     head, about = _about()
     files = {name: _content(os.path.join(HERE, name)) for name in ("pyproject.toml", "wheel_of.py")}
     files.update((f"sqrescue/{name}", _content(os.path.join(HERE, "sqrescue", name))) for name in MODULE)
-    files[f"sqrescue/{LIBRARY}"] = _content(_library())
+    files.update((f"sqrescue/{name}", content) for name, content in _shared().items())
     files["PKG-INFO"] = about["METADATA"]
     packed = io.BytesIO()
     with tarfile.open(fileobj=packed, mode="w", format=tarfile.PAX_FORMAT) as archive:

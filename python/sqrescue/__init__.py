@@ -12,6 +12,8 @@
                 before = view.at(commit.frame)  # a View of the database as it was at that commit
     recover_to("ledger.db", "copy.db")      # a new file with what a recovery would leave, beside any writer
     recover("ledger.db")                    # a recovery in its place, while nobody else has it open
+    db.load_extension(extension())          # of a connection of sqlite3, which then reads commits by SQL
+    db.execute("ATTACH ? AS old", (uri("ledger.db", at=4),))
 
 The library is the file that SQRESCUE_LIBRARY names, or the one beside this file, as a wheel has it, or that of this
 repository, or the system's. While a View of a path is open its bytes are of one moment, beside any writer, also in a
@@ -24,6 +26,7 @@ import operator
 import os
 import threading
 from collections import namedtuple
+from urllib.parse import quote
 
 __version__ = "1.0.0"
 
@@ -31,7 +34,13 @@ FAULTS = ("Magic PageSize Fraction Reserved AutoVacuum Kind CellOutside Overlap 
           "PageTwice PageOutside PageUnused KeyOrder Depth FreeCount Source NoMemory SchemaRecord PointerMap").split()
 
 Report = namedtuple("Report", "pages trees btree overflow free")
-DeepReport = namedtuple("DeepReport", "pages trees btree overflow free indexes tables asides")
+
+
+class DeepReport(namedtuple("DeepReport", "pages trees btree overflow free indexes tables asides")):
+    """What a deep check finds of a sound database. `sound`: whether all was judged."""
+    sound = False
+
+
 Frame = namedtuple("Frame", "page size")
 Wal = namedtuple("Wal", "page_size front pages stop why frames")
 Commit = namedtuple("Commit", "frame frames pages known", defaults=(None,))
@@ -172,6 +181,10 @@ class _DeepReport(ctypes.Structure):
                 + [(name, Long) for name in "cell row indexes tables asides".split()])
 
 
+class _DeepAnswer(ctypes.Structure):
+    _fields_ = [("report", _DeepReport), ("left", Long)]
+
+
 class _Survey(ctypes.Structure):
     _fields_ = [("pages", Word), ("fault", Word), ("page", Word)]
 
@@ -179,9 +192,9 @@ class _Survey(ctypes.Structure):
 FILES_ONLY, NO_LOCK, AT, LARGE, POINTER_MAPS = 1, 2, 4, 8, 16
 
 
-def _found():
-    """Where the library is."""
-    name, here = "libsqrescue.so.1", os.path.dirname(os.path.abspath(__file__))
+def _found(name="libsqrescue.so.1"):
+    """Where the library is, or another file beside it."""
+    here = os.path.dirname(os.path.abspath(__file__))
     top = os.path.dirname(os.path.dirname(here))
     for folder in (here, os.path.join(top, "lib"), os.path.join(top, "release", "lib")):
         if os.path.exists(os.path.join(folder, name)):
@@ -198,7 +211,7 @@ def _loaded():
         ("sqr_open", [pointer(_Files), pointer(Long), Size, pointer(_View)], Word),
         ("sqr_page", [pointer(_View), Word, Bytes, Size], Word),
         ("sqr_check_with", [pointer(_Files), Word, Word, pointer(_Report)], Word),
-        ("sqr_check_deep", [pointer(_Files), Word, Word, pointer(Long), Size, pointer(_DeepReport)], Word),
+        ("sqr_check_deep_all", [pointer(_Files), Word, Word, pointer(Long), Size, pointer(_DeepAnswer)], Word),
         ("sqr_fault_name", [Word], ctypes.c_char_p),
         ("sqr_page_roles", [pointer(_Files), Word, Word, pointer(_Role), Size, pointer(_Survey)], Word),
         ("sqr_open_at", [pointer(_Files), Word, pointer(Long), Size, pointer(_View)], Word),
@@ -331,18 +344,21 @@ def _checked(files, flags, frame=0):
 
 def _deeply_checked(files, flags, frame=0):
     """The DeepReport of a sound database; otherwise Damaged."""
-    found, rows = _DeepReport(), (Long * 0)()
-    status = _library.sqr_check_deep(files, flags, frame, rows, 0, found)
+    answer, rows = _DeepAnswer(), (Long * 0)()
+    found = answer.report
+    status = _library.sqr_check_deep_all(files, flags, frame, rows, 0, answer)
     if status == 0 and found.indexes + found.tables:
         rows = (Long * (found.indexes + found.tables))()
-        status = _library.sqr_check_deep(files, flags, frame, rows, len(rows), found)
+        status = _library.sqr_check_deep_all(files, flags, frame, rows, len(rows), answer)
     if status == Damaged.status:
         named = (found.page, found.cell, found.row)
         places = (number if found.places & 1 << bit else None for bit, number in enumerate(named))
         raise Damaged(_library.sqr_fault_name(found.fault).decode(), *places)
     _judge(status)
     counts = (getattr(found, name) for name in Report._fields)
-    return DeepReport(*counts, list(rows[:found.indexes]), list(rows[found.indexes:]), found.asides)
+    report = DeepReport(*counts, list(rows[:found.indexes]), list(rows[found.indexes:]), found.asides)
+    report.sound = answer.left == 0
+    return report
 
 
 def _path(path):
@@ -585,6 +601,25 @@ def recover_to(path, out, *, at=None, wait=5.0, lock=True):
     flags, found = (0 if lock else NO_LOCK) | (0 if at is None else AT), _Recovered()
     _by_path(_library.sqr_recover_to, path, out, flags, _options(wait, frame), found)
     return Recovered(RECOVERIES[found.recovery], found.page_size, found.pages)
+
+
+def extension():
+    """The path of sqrescuevfs.so, the extension of SQLite, for `load_extension` of a connection of the module sqlite3.
+    If it is neither beside this file nor in the repository, its name: the system may find it."""
+    return _found("sqrescuevfs.so")
+
+
+def uri(path, *, at=None, wait=None, copy=None, flags=()):
+    """The URI by which a connection that has loaded `extension()` opens or attaches a database, with SQLite's
+    `uri=True`. `at` is the frame that ends a commit, or 0; `wait` is in seconds, `copy` in MiB, and `flags` are words
+    (docs/GUIDE.md, 'Read evidence by SQL')."""
+    path = _path(path)
+    if path.startswith(b"/"):
+        path = b"///" + path.lstrip(b"/")
+    keys = {"at": at, "wait": None if wait is None else int(wait * 1000), "copy": copy}
+    asked = "".join(f"&{key}={operator.index(value)}" for key, value in keys.items() if value is not None)
+    words = [flags] if isinstance(flags, str) else list(flags)
+    return f"file:{quote(path)}?vfs=sqrescue{asked}" + (f"&flags={','.join(words)}" if words else "")
 
 
 def plan(database, wal=b"", journal=b"", *, wait=5.0, lock=True):

@@ -1,5 +1,5 @@
 import os
-from typing import Iterator, List, NamedTuple, Optional, Sequence, Tuple, Union
+from typing import Iterable, Iterator, List, NamedTuple, Optional, Sequence, Tuple, Union
 
 __version__: str
 FAULTS: List[str]
@@ -26,6 +26,8 @@ class DeepReport(NamedTuple):
     indexes: List[int]
     tables: List[int]
     asides: int
+    @property
+    def sound(self) -> bool: ...
 
 class Frame(NamedTuple):
     page: int
@@ -168,6 +170,15 @@ def recover(path: _Path, *, wait: float = ..., lock: bool = ...) -> Recovered: .
 def recover_to(
     path: _Path, out: _Path, *, at: Optional[int] = ..., wait: float = ..., lock: bool = ...
 ) -> Recovered: ...
+def extension() -> str: ...
+def uri(
+    path: _Path,
+    *,
+    at: Optional[int] = ...,
+    wait: Optional[float] = ...,
+    copy: Optional[int] = ...,
+    flags: Union[str, Iterable[str]] = ...,
+) -> str: ...
 def plan(
     database: Union[_Path, _Content],
     wal: _Content = ...,
