@@ -121,11 +121,11 @@ row_word Index = codes "index"
 row_word View = codes "view"
 row_word Trigger = codes "trigger"
 
--- kind, name and table are those of the row, in any case
+-- kind, name and, where it is known, table are those of the row, in any case
 unfoldable pub is_of_row : (text : List ℕ) → List Piece → Row → Head → (table : ℕ) → Bool
 is_of_row text ts row h table =
     is_same_word (row_word h.object) row.kind.now && is_same_word row.name.now (name_at text ts h.name)
-    && is_same_word row.table.now (name_at text ts table)
+    && option_map_or (λ t. is_same_word t.now (name_at text ts table)) row.table true
 
 abbrev pub runs_at_insert : Object → Bool
 runs_at_insert Table = true
@@ -245,13 +245,15 @@ pub record IsAccepted (text : List ℕ) (ps : List Piece) (end : ℕ) (row : Row
   pub is_plain_text : is_plain text ps (last_byte (statement (filter is_token ps))) ≡ plain
 
 -- How a text is printed that is read as these pieces up to `end`: as a comment, if it is refused, or if it isn't plain
--- and no other blanks were found for it; as a row, if it makes a virtual table; as it is, if it is plain; or spaced.
+-- and no other blanks were found for it; as a row, if it makes a virtual table; as it is up to where its last token
+-- ends, if it is plain; or spaced.
 abbrev pub IsPrintedOf : (text : List ℕ) (ps : List Piece) (end : ℕ) → Row → Printed → Type 0
 IsPrintedOf text ps end row (Comment why) =
     (refused text (filter is_token ps) end row ≡ Some why)
     ⊎ ((why ≡ NotSpaced) × IsAccepted text ps end row false false)
 IsPrintedOf text ps end row RowOfSchema = (plain : Bool) × IsAccepted text ps end row true plain
-IsPrintedOf text ps end row AsItIs = IsAccepted text ps end row false true
+IsPrintedOf text ps end row (AsItIs last) =
+    IsAccepted text ps end row false true × (last ≡ last_byte (statement (filter is_token ps)))
 IsPrintedOf text ps end row (Spaced v) =
     IsAccepted text ps end row false false × IsSpacing text (statement (filter is_token ps)) v.items
 

@@ -44,12 +44,12 @@ pub const UNSAFE: [&[u8]; 7] = [
     b"zipfile_cds",
 ];
 
-/// The row of a text in sqlite_schema: its type, name and tbl_name.
+/// The row of a text in sqlite_schema: its type, its name, and its tbl_name if that is known.
 #[derive(Clone, Copy)]
 pub struct Row<'a> {
     pub kind: &'a [u8],
     pub name: &'a [u8],
-    pub table: &'a [u8],
+    pub table: Option<&'a [u8]>,
 }
 
 /// Why a text isn't printed.
@@ -84,8 +84,8 @@ pub enum Why {
 /// How a text is printed.
 #[derive(Debug, Drop)]
 pub enum Printed {
-    /// Its bytes up to its last token.
-    AsItIs,
+    /// Its bytes up to the end of its last token.
+    AsItIs(usize),
     /// These bytes, which have the same tokens.
     Spaced(Vec<u8>),
     /// A row of sqlite_schema, since it makes a virtual table.
@@ -385,6 +385,16 @@ fn row_word(object: Object) -> &'static [u8]
     }
 }
 
+/// Whether this is the name of the row's table, if that is known.
+fn is_of_table(row: Row<'_>, name: &[u8]) -> bool
+    ensures { result ≡ option_map_or (λ t. is_same_word t.now name.now) row.entry.table true }
+{
+    match row.table {
+        Some(table) => is_same_word(table, name),
+        None => true,
+    }
+}
+
 #[tactic(auto, unfolding(crate::specs::Printable::is_of_row))]
 fn is_of_row(
     alloc: Global,
@@ -401,7 +411,7 @@ fn is_of_row(
     Ok(
         is_same_word(row_word(head.object), row.kind)
             && is_same_word(row.name, name.as_slice())
-            && is_same_word(row.table, belongs.as_slice()),
+            && is_of_table(row, belongs.as_slice()),
     )
 }
 

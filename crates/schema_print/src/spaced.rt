@@ -105,8 +105,9 @@ fn printed_of(
     if makes_virtual_table(text, statement) {
         return Ok(Printed::RowOfSchema);
     }
-    if is_plain(text, pieces, last_byte(statement)) {
-        return Ok(Printed::AsItIs);
+    let last = last_byte(statement);
+    if is_plain(text, pieces, last) {
+        return Ok(Printed::AsItIs(last));
     }
     match spaced(alloc, text, pieces, statement)? {
         Some(out) => Ok(Printed::Spaced(out)),

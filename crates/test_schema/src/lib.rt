@@ -5,4 +5,6 @@
 #[cfg(test)]
 mod printable_tests;
 #[cfg(test)]
+mod scripts_tests;
+#[cfg(test)]
 mod tokens_tests;

@@ -7,7 +7,7 @@ use std::test::Fail;
 /// What becomes of a text.
 #[derive(Clone, Copy, Debug, PartialEq, Eq)]
 enum Outcome {
-    AsItIs,
+    AsItIs(usize),
     Spaced,
     InRow,
     Refused(Why),
@@ -18,12 +18,12 @@ static TEXTS: [(&[u8], &[u8], Outcome); 22] = [
     (
         b"view",
         b"CREATE VIEW x AS SELECT a FROM t",
-        Outcome::AsItIs,
+        Outcome::AsItIs(32),
     ),
     (
         b"view",
         b"create view \"X\" AS SELECT 1 ;  ",
-        Outcome::AsItIs,
+        Outcome::AsItIs(27),
     ),
     (
         b"view",
@@ -38,7 +38,7 @@ static TEXTS: [(&[u8], &[u8], Outcome); 22] = [
     (
         b"view",
         b"CREATE VIEW x AS SELECT 'a\ngo\n'",
-        Outcome::AsItIs,
+        Outcome::AsItIs(31),
     ),
     (
         b"view",
@@ -103,7 +103,7 @@ static TEXTS: [(&[u8], &[u8], Outcome); 22] = [
     (
         b"table",
         b"CREATE TABLE x(a PRIMARY KEY) WITHOUT ROWID /* b",
-        Outcome::AsItIs,
+        Outcome::AsItIs(43),
     ),
     (
         b"table",
@@ -118,7 +118,7 @@ static TEXTS: [(&[u8], &[u8], Outcome); 22] = [
     (
         b"trigger",
         b"CREATE TRIGGER x AFTER DELETE ON t BEGIN SELECT CASE WHEN 1 THEN 2 END; END",
-        Outcome::AsItIs,
+        Outcome::AsItIs(75),
     ),
     (
         b"trigger",
@@ -136,10 +136,10 @@ fn outcome_of(alloc: Global, kind: &[u8], text: &[u8]) -> Result<Outcome, AllocE
     let row = Row {
         kind,
         name: b"x",
-        table,
+        table: Some(table),
     };
     Ok(match printable(alloc, text, row)? {
-        Printed::AsItIs => Outcome::AsItIs,
+        Printed::AsItIs(last) => Outcome::AsItIs(last),
         Printed::Spaced(_) => Outcome::Spaced,
         Printed::RowOfSchema => Outcome::InRow,
         Printed::Comment(why) => Outcome::Refused(why),
@@ -159,7 +159,7 @@ fn a_row_has_to_say_the_same(rt: HostRuntime) -> Result<(), Fail> {
     let row = Row {
         kind: b"index",
         name: b"x",
-        table: b"other",
+        table: Some(b"other"),
     };
     let printed = printable(rt.alloc(), b"CREATE INDEX x ON t(a)", row)?;
     assert!(rt; matches!(printed, Printed::Comment(Why::OtherInRow)));
@@ -171,7 +171,7 @@ fn a_spaced_text_has_its_bytes(rt: HostRuntime) -> Result<(), Fail> {
     let row = Row {
         kind: b"view",
         name: b"x",
-        table: b"x",
+        table: Some(b"x"),
     };
     let printed = printable(rt.alloc(), b"CREATE VIEW x AS SELECT 8\n/\n.5", row)?;
     match printed {

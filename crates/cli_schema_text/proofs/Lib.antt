@@ -1,0 +1,2 @@
+pub mod NamesMore
+pub mod Answered

@@ -1,0 +1,65 @@
+//! What a script says of what it leaves out.
+ghost use Rattle.std.specs.Prelude.{◌≡◌, OnOk};
+ghost use Rattle.std.specs.Io.KnownBytes.{Appends};
+ghost use Rattle.cli_schema_text.specs.Comments.{hex_line, left_out_text, why_text, unnamed_text, count_text};
+
+use cli_text::write_hex;
+use schema_print::Why;
+use std::io::{self, Write};
+
+/// Bytes in hex at the end of a comment.
+pub(crate) fn write_hex_line<W: Write>(out: &mut W, bytes: &[u8]) -> io::Result<()>
+    ensures { OnOk result (Appends (W.contents out.old) (W.contents out.new) (hex_line bytes.now)) }
+{
+    out.write_all(b": x'")?;
+    write_hex(out, bytes)?;
+    out.write_all(b"'\n")
+}
+
+/// A comment that says why something isn't printed, with its bytes in hex.
+pub(crate) fn write_left_out<W: Write>(out: &mut W, why: &[u8], bytes: &[u8]) -> io::Result<()>
+    ensures { OnOk result (Appends (W.contents out.old) (W.contents out.new) (left_out_text why.now bytes.now)) }
+{
+    out.write_all(b"-- not printed, ")?;
+    out.write_all(why)?;
+    write_hex_line(out, bytes)
+}
+
+/// Why a text isn't printed.
+pub(crate) fn why_words(why: Why) -> &'static [u8]
+    ensures { result.now ≡ why_text why }
+{
+    match why {
+        Why::NotWhole => b"not one whole statement",
+        Why::NotCreate => b"no CREATE statement",
+        Why::OtherInRow => b"its row says otherwise",
+        Why::NotPlain => b"TEMP, IF NOT EXISTS or a schema's name",
+        Why::ReservedName => b"a reserved name",
+        Why::SemicolonInside => b"a semicolon inside",
+        Why::NotComplete => b"no form of a CREATE statement",
+        Why::HasVariable => b"a variable",
+        Why::UnknownModule => b"a module that isn't known",
+        Why::ReturnInQuotes => b"CR in quotes",
+        Why::EndsInComment => b"it opens a comment at its end",
+        Why::EndsSafeMode => b"a function at which sqlite3 -safe ends",
+        Why::NotSpaced => b"a line that sqlite3's shell reads otherwise",
+    }
+}
+
+/// A comment of one line for what no statement can name, with the bytes of its name in hex. An error of the writer.
+pub fn write_unnamed<W: Write>(out: &mut W, name: &[u8]) -> io::Result<()>
+    ensures { OnOk result (Appends (W.contents out.old) (W.contents out.new) (unnamed_text name.now)) }
+{
+    write_left_out(out, b"NUL or CR in its name", name)
+}
+
+/// A comment of one line that counts the texts and tables that a script leaves out; nothing for none. An error of the
+/// writer.
+pub fn write_count<W: Write>(out: &mut W, count: usize) -> io::Result<()>
+    ensures { OnOk result (Appends (W.contents out.old) (W.contents out.new) (count_text count)) }
+{
+    if count == 0 {
+        return Ok(());
+    }
+    write!(out, "-- texts and tables left out: {count}\n")
+}

@@ -1,0 +1,11 @@
+//! Texts and names of a schema as a script for sqlite3's shell has them: whatever they are, no byte of them is read as
+//! another statement or command.
+#![tactic(auto)]
+
+mod comments;
+mod names;
+mod texts;
+
+pub use comments::{write_count, write_unnamed};
+pub use names::{can_be_named, column_names, write_fallback};
+pub use texts::{is_left_out, judged, write_printed, write_schema_row};
