@@ -218,15 +218,22 @@ static void print_place(const struct sqr_deep_report *report, FILE *out) {
 }
 
 static void answer_deep(const struct sqr_files *files, FILE *out) {
-    struct sqr_deep_report report = {1, 2, 3, 4, 5, 6, 7, 8, 9, 10, 11, 12, 13}, kept = report;
+    struct sqr_deep_answer answer = {{1, 2, 3, 4, 5, 6, 7, 8, 9, 10, 11, 12, 13}, UINT64_MAX};
+    const struct sqr_deep_report kept = answer.report;
     uint64_t rows[2] = {UINT64_MAX, UINT64_MAX};
-    uint32_t status = sqr_check_deep(files, 0, 0, rows, 1, &report);
+    uint32_t status = sqr_check_deep_all(files, 0, 0, rows, 1, &answer);
+    const struct sqr_deep_report report = answer.report;
+    const uint64_t left = answer.left;
+    struct sqr_deep_report again = kept;
+    check(sqr_check_deep(files, 0, 0, rows, 0, &again) == status, "both deep checks answer the same");
+    check(memcmp(&report, &again, sizeof report) == 0, "both deep checks tell the same");
     check(status != SQR_NO_MEMORY && status != SQR_AUTO_VACUUM, "a deep check without its cause");
     check(rows[1] == UINT64_MAX, "the place behind the rows stays");
     if (status == SQR_OK) {
         fprintf(out, "clean: %u pages, %u trees, %u b-tree, %u overflow, %u free; ", report.pages, report.trees,
                 report.btree, report.overflow, report.free);
-        fprintf(out, "records, schema and indexes sound\n");
+        fprintf(out, left ? "not fully judged\n" : "records, schema and indexes sound\n");
+        check(left >= report.indexes + report.tables, "what isn't judged is counted");
         check(!report.fault && !report.places && !report.page && !report.cell && !report.row, "no fault, no place");
         check((report.indexes + report.tables > 0) == (rows[0] != UINT64_MAX), "the rows of what isn't judged");
     } else if (status == SQR_DAMAGED) {
@@ -234,10 +241,11 @@ static void answer_deep(const struct sqr_files *files, FILE *out) {
         fprintf(out, ": fault %u %s\n", report.fault, sqr_fault_name(report.fault));
         check(!report.pages && !report.trees && !report.btree && !report.overflow && !report.free, "no counts");
         check(!report.indexes && !report.tables && !report.asides, "nothing is left open of a damaged database");
-        check(rows[0] == UINT64_MAX, "no rows of a damaged database");
+        check(rows[0] == UINT64_MAX && left == 0, "no rows of a damaged database");
     } else {
         fprintf(out, "sqrescue: %s\n", sqr_status_name(status));
         check(memcmp(&report, &kept, sizeof report) == 0, "a deep check that is refused leaves the report");
+        check(left == UINT64_MAX, "a deep check that is refused leaves the number");
     }
 }
 

@@ -1,2 +1,3 @@
 mod DeepFindings
 mod NumberFacts
+mod ThingsJoined

@@ -14,11 +14,14 @@ use Rattle.cli_words.specs.declared.requests.Style.{Style}
 use Rattle.cli_words.specs.declared.requests.Style.TheVariants.{Lines, Json}
 use Rattle.cli_text.specs.Facts.{number_text, object_text, word_text}
 use Rattle.cli_text.specs.Verdicts.{fault_text, report_text}
+use Rattle.sqschema.specs.declared.check.Schema.{Schema as OwnSchema}
+use Rattle.sqdeepjudge.specs.declared.not_judged.NotJudged.{NotJudged}
 use Rattle.sqdeepjudge.specs.declared.verdict.Damage.TheVariants.{Check, Inner, Schema, Content, Row}
 use Rattle.sqdeepjudge.specs.declared.verdict.DeepVerdict.{DeepVerdict}
 use Rattle.sqdeepjudge.specs.declared.verdict.DeepVerdict.TheVariants.{Clean, Sound, Damaged}
+use Rattle.cli_show_deep.specs.Parts.{part_line, part_object}
 
--- a database that is sound inside, and its schema and indexes, too: its pages by their use
+-- a database of which all is judged, and sound: its pages by their use
 abbrev pub sound_text : Style → Report → List ℕ
 sound_text Lines r =
     codes "clean: " ++ (decimal r.pages ++ (codes " pages, " ++ (decimal r.trees ++ (codes " trees, "
@@ -33,6 +36,12 @@ sound_text Json r = object_text Json (
     ∷ number_text Json (codes "b-tree") r.btree
     ∷ number_text Json (codes "overflow") r.overflow
     ∷ number_text Json (codes "free") r.free ∷ [])
+
+-- a sound database, of which this isn't judged
+abbrev pub whole_or_part : Style → Report → OwnSchema → List NotJudged → List ℕ
+whole_or_part style r schema [] = sound_text style r
+whole_or_part Lines r schema (it ∷ all) = part_line r schema (it ∷ all)
+whole_or_part Json r schema (it ∷ all) = part_object r schema (it ∷ all)
 
 -- what stands behind the page of a fault: the cell, where it is one of a cell
 abbrev pub cell_text : Option ℕ → List ℕ
@@ -83,7 +92,7 @@ table_row_text style e = place_text style e.row e.error.page e.error.cell (rows.
 -- what a check finds, or a deep one
 abbrev pub found_text : Style → DeepVerdict → List ℕ
 found_text style (Clean report) = report_text style report
-found_text style (Sound report schema unjudged) = sound_text style report
+found_text style (Sound report schema unjudged) = whole_or_part style report schema unjudged.all.items
 found_text style (Damaged (Check e)) = fault_text style e
 found_text style (Damaged (Inner e)) = inner_text style e
 found_text style (Damaged (Schema e)) = schema_text style e

@@ -4,6 +4,7 @@
 
 mod found;
 mod lines;
+mod parts;
 
 pub use found::{DeepFinding, judged_as};
 pub use lines::write_found;

@@ -2,18 +2,19 @@
 ghost use Rattle.std.specs.Prelude.{OnOk};
 ghost use Rattle.std.specs.Io.KnownBytes.{Appends};
 ghost use Rattle.cli_show_deep.specs.Lines.{content_text, found_text, inner_text, schema_text, sound_text};
-ghost use Rattle.cli_show_deep.specs.Lines.{place_text, table_row_text};
+ghost use Rattle.cli_show_deep.specs.Lines.{place_text, table_row_text, whole_or_part};
 
+use crate::parts::{write_part_line, write_part_object};
 use cli_text::{Fact, number, write_facts, write_fault, write_report};
 use cli_words::Style;
 use sqcheck::Report;
 use sqcontents::{ContentError, TableRowError};
 use sqdeep::InnerError;
-use sqdeepjudge::{Damage, DeepVerdict};
-use sqschema::ObjectError;
+use sqdeepjudge::{Damage, DeepVerdict, NotJudged};
+use sqschema::{ObjectError, Schema};
 use std::io::{self, Write};
 
-/// A database that is sound inside, and its schema and indexes, too.
+/// A database of which all is judged, and sound.
 fn write_sound<W: Write>(out: &mut W, style: Style, report: &Report) -> io::Result<()>
     ensures { OnOk result (Appends (W.contents out.old) (W.contents out.new) (sound_text style report.now)) }
 {
@@ -44,6 +45,26 @@ fn write_sound<W: Write>(out: &mut W, style: Style, report: &Report) -> io::Resu
             ];
             write_facts(out, style, &facts)
         }
+    }
+}
+
+/// A sound database, of which this isn't judged.
+fn write_whole_or_part<W: Write>(
+    out: &mut W,
+    style: Style,
+    report: &Report,
+    schema: &Schema,
+    all: &[NotJudged],
+) -> io::Result<()>
+    ensures { OnOk result (Appends (W.contents out.old) (W.contents out.new) (whole_or_part style report.now
+        schema.now all.now)) }
+{
+    if all.is_empty() {
+        return write_sound(out, style, report);
+    }
+    match style {
+        Style::Lines => write_part_line(out, report, schema, all),
+        Style::Json => write_part_object(out, report, schema, all),
     }
 }
 
@@ -157,7 +178,9 @@ pub fn write_found<W: Write>(out: &mut W, style: Style, verdict: &DeepVerdict) -
 {
     match verdict {
         DeepVerdict::Clean(report) => write_report(out, style, report),
-        DeepVerdict::Sound(report, _, _) => write_sound(out, style, report),
+        DeepVerdict::Sound(report, schema, unjudged) => {
+            write_whole_or_part(out, style, report, schema, &unjudged.all)
+        }
         DeepVerdict::Damaged(Damage::Check(error)) => write_fault(out, style, error),
         DeepVerdict::Damaged(Damage::Inner(error)) => write_inner(out, style, error),
         DeepVerdict::Damaged(Damage::Schema(error)) => write_schema(out, style, error),

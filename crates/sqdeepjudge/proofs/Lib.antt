@@ -1,2 +1,3 @@
 mod RowsOfSchema
+mod ListedByRow
 pub mod SchemaFindings

@@ -14,6 +14,7 @@ use Rattle.sqschema.specs.Items.{seen}
 use Rattle.sqcontents.specs.Contents.{AreIndexesJudged, AreTablesJudged, ContentsRefused}
 use Rattle.sqcontents.specs.declared.error.ContentsError.TheVariants.{Content as OwnContent}
 use Rattle.sqcontents.specs.declared.error.ContentsError.TheVariants.{Row as OwnRow}
+use Rattle.sqdeepjudge.specs.NotJudged.{AreNotJudged}
 use Rattle.sqdeepjudge.specs.declared.verdict.Damage.TheVariants.{Check, Inner, Schema, Content, Row}
 use Rattle.sqdeepjudge.specs.declared.verdict.DeepVerdict.{DeepVerdict}
 use Rattle.sqdeepjudge.specs.declared.verdict.DeepVerdict.TheVariants as deep
@@ -52,12 +53,13 @@ FindsInside maps d size (deep.Damaged (Row e)) = WellFormedWith maps d size × I
 abbrev pub most_bytes : ℕ
 most_bytes = 2 ^ 30
 
--- Of one that is sound inside: this is its schema, which is sound, and so is each index and each table that isn't one of these; or
--- the schema isn't sound, and the fault stands at the row; or it is, and the fault stands in the index, or at a row of the table,
+-- Of one that is sound inside: this is its schema, which is sound, and so is each index and each table that isn't one of these, and
+-- it is listed what isn't judged; or the schema isn't sound, and the fault stands at the row; or it is, and the fault stands in the index, or at a row of the table,
 -- of that row.
 abbrev pub FindsSchema : Database → DeepVerdict → Type 0
 FindsSchema d (deep.Sound report schema unjudged) =
     IsSchemaOf d schema × AreIndexesJudged d (map seen schema.items.items) most_bytes unjudged.indexes.items × AreTablesJudged d (map seen schema.items.items) unjudged.tables.items
+    × AreNotJudged schema unjudged.indexes.items unjudged.tables.items unjudged.all.items
 FindsSchema d (deep.Damaged (Schema e)) = StandsInSchema d e.fault e.row × ¬ IsSoundSchema d
 FindsSchema d (deep.Damaged (Content e)) = (schema : OwnSchema) × IsSchemaOf d schema × ContentsRefused d (map seen schema.items.items) (OwnContent e)
 FindsSchema d (deep.Damaged (Row e)) = (schema : OwnSchema) × IsSchemaOf d schema × ContentsRefused d (map seen schema.items.items) (OwnRow e)

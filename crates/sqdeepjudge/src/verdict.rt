@@ -12,6 +12,7 @@ ghost use Rattle.sqdeepjudge.specs.Verdicts.{FindsInside, FindsSchema, is_damage
 ghost use Rattle.sqdeepjudge.specs.Verdicts.{aside_name, deep_without, name_at, unjudged_name, unjudged_table_name};
 ghost use Rattle.sqdeepjudge.specs.internal.Behind.{IsBehind, contents_verdict};
 
+use crate::not_judged::{NotJudged, not_judged};
 use sqcheck::{Options as Maps, Report};
 use sqcontents::{ContentError, ContentsError, TableRowError, check_contents, check_tables};
 use sqdeep::{DeepError, InnerError, check_deep};
@@ -43,6 +44,9 @@ pub struct Unjudged {
     pub indexes: Vec<usize>,
     /// Of the tables whose rows aren't.
     pub tables: Vec<usize>,
+    /// Each thing that isn't, in the order of the schema's rows: of an index and a table at most one, then its CHECKs,
+    /// and its foreign keys.
+    pub all: Vec<NotJudged>,
 }
 
 /// What a check finds, or a deep one.
@@ -170,10 +174,17 @@ fn judge_tables<F: FileBytes>(
         → IfErr result (λ e. e ≡ JudgeError.NoMemory) }
 {
     match check_tables(alloc, view, &schema.items) {
-        Ok(tables) => {
-            let unjudged = Unjudged { indexes, tables };
-            Ok(DeepVerdict::Sound(report, schema, unjudged))
-        }
+        Ok(tables) => match not_judged(alloc, &schema, &indexes, &tables) {
+            Ok(all) => {
+                let unjudged = Unjudged {
+                    indexes,
+                    tables,
+                    all,
+                };
+                Ok(DeepVerdict::Sound(report, schema, unjudged))
+            }
+            Err(_) => Err(JudgeError::NoMemory),
+        },
         Err(error) => contents_verdict(error),
     }
 }

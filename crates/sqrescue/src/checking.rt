@@ -10,13 +10,10 @@ use cli_job::Answer;
 use cli_show::ShowError;
 use cli_show_deep::write_found;
 use cli_words::Style;
-use sqdeepjudge::DeepVerdict;
+use sqdeepjudge::{DeepVerdict, Kind, NotJudged, Why};
+use sqschema::Schema;
 use std::io::Write;
 use std::str;
-
-/// What a deep check leaves open of a database that it finds sound.
-const UNJUDGED: &str =
-    "not judged: which rows a partial index has, and CHECK; PRAGMA integrity_check does";
 
 /// Prints a verdict, and says what a deep one leaves open.
 pub(crate) fn write_checked<O: Write, E: Write>(
@@ -30,11 +27,11 @@ pub(crate) fn write_checked<O: Write, E: Write>(
 {
     write_found(out, style, verdict)?;
     out.flush()?;
-    if matches!(verdict, DeepVerdict::Sound(..)) {
+    if let DeepVerdict::Sound(_, schema, unjudged) = verdict {
         tell_asides(verdict, notes);
         tell_unjudged(verdict, notes);
         tell_unjudged_tables(verdict, notes);
-        notes.say(&UNJUDGED);
+        tell_others(schema, &unjudged.all, notes);
     }
     Ok(Answer::of(verdict.is_damaged()))
 }
@@ -71,5 +68,38 @@ fn tell_unjudged_tables<E: Write>(verdict: &DeepVerdict, notes: &Notes<'_, E>) {
         };
         let name = Quoted(str::from_utf8(name).unwrap_or("?"));
         notes.say(&format_args!("not judged: NOT NULL and the types of table {name}"));
+    }
+}
+
+/// Says what else of an object isn't judged.
+fn tell_other<E: Write>(it: NotJudged, name: Quoted<'_>, notes: &Notes<'_, E>) {
+    let number = it.number;
+    match (it.kind, it.why) {
+        (Kind::Index, Why::Where) => {
+            notes.say(&format_args!("not judged: which rows index {name} has by its WHERE"));
+        }
+        (Kind::Index | Kind::Table, _) => {}
+        (Kind::Check, _) => {
+            notes.say(&format_args!("not judged: CHECK {number} of table {name}"));
+        }
+        (Kind::ForeignKey, _) => {
+            notes.say(&format_args!("not judged: foreign key {number} of table {name}"));
+        }
+        (Kind::View, _) => notes.say(&format_args!("not judged: view {name}")),
+        (Kind::Trigger, _) => notes.say(&format_args!("not judged: trigger {name}")),
+        (Kind::VirtualTable, _) => notes.say(&format_args!("not judged: virtual table {name}")),
+    }
+}
+
+/// Says of each other thing that isn't judged that it isn't.
+fn tell_others<E: Write>(schema: &Schema, all: &[NotJudged], notes: &Notes<'_, E>) {
+    for it in all {
+        if let Some(item) = schema.items.get(it.row) {
+            tell_other(
+                *it,
+                Quoted(str::from_utf8(&item.name).unwrap_or("?")),
+                notes,
+            );
+        }
     }
 }

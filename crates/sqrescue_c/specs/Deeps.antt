@@ -17,6 +17,7 @@ use Rattle.sqdeepjudge.specs.declared.verdict.DeepVerdict.TheVariants.{Clean, So
 use Rattle.sqcheck.specs.declared.report.Report.{Report}
 use Rattle.sqrescue_c.specs.Asked.{ShowsAsked, AskedRefused}
 use Rattle.sqrescue_c.specs.Checks.{IsViewRefused}
+use Rattle.sqrescue_c.specs.declared.deep.DeepAnswer.{DeepAnswer}
 use Rattle.sqrescue_c.specs.declared.deep.DeepReport.{DeepReport}
 
 -- a fault, and which of page, 1, cell, 2, and row of the schema, 4, it names
@@ -90,6 +91,17 @@ abbrev pub IsDeepAnswer : (flags m : ℕ) (db wal journal : List ℕ) (status : 
 IsDeepAnswer flags m db wal journal status out rows =
     (verdict : DeepVerdict) × IsAskedDeep flags m db wal journal verdict × (status ≡ cond (is_damaged verdict) 1 0)
     × (out ≡ deep_report verdict) × AreRowsToldOf verdict rows
+
+-- how many things of a sound database aren't judged
+abbrev pub left_of : DeepVerdict → ℕ
+left_of (Sound r schema unjudged) = length unjudged.all.items
+left_of _ = 0
+
+-- The same is told, and how many these are.
+abbrev pub IsDeepAnswerAll : (flags m : ℕ) (db wal journal : List ℕ) (status : ℕ) → DeepAnswer → (rows : List ℕ) → Type 0
+IsDeepAnswerAll flags m db wal journal status answer rows =
+    (verdict : DeepVerdict) × IsAskedDeep flags m db wal journal verdict × (status ≡ cond (is_damaged verdict) 1 0)
+    × (answer.report ≡ deep_report verdict) × AreRowsToldOf verdict rows × (answer.left ≡ left_of verdict)
 
 -- Why it isn't judged, by its number: what refuses its view, no memory too.
 abbrev pub AreDeepUnjudged : (flags m : ℕ) (db wal journal : List ℕ) → (number : ℕ) → Type 0

@@ -4,6 +4,7 @@ ghost use Rattle.sqdeep.specs.Faults.{number_of as inner_number};
 ghost use Rattle.sqdeepjudge.specs.Verdicts.{is_damaged};
 ghost use Rattle.sqrescue_c.specs.Asked.{AreAskedFlags};
 ghost use Rattle.sqrescue_c.specs.Deeps.{AreDeepUnjudged, AreRowsToldOf, IsAskedDeep, IsDeepAnswer};
+ghost use Rattle.sqrescue_c.specs.Deeps.{IsDeepAnswerAll, left_of};
 ghost use Rattle.sqrescue_c.specs.Deeps.{counts_of, deep_report, fault_at, inner_at, rows_of};
 ghost use Rattle.sqrescue_c.specs.internal.Statuses.{number_of};
 
@@ -50,6 +51,14 @@ pub struct DeepReport {
     pub tables: u64,
     /// How many tables have trees whose kind isn't judged, since their texts aren't understood.
     pub asides: u64,
+}
+
+/// What a deep check finds, and how many things of a sound database it doesn't judge.
+#[repr(C)]
+#[derive(Clone, Copy)]
+pub struct DeepAnswer {
+    pub report: DeepReport,
+    pub left: u64,
 }
 
 /// A fault, and where it is.
@@ -234,13 +243,55 @@ pub extern "C" fn sqr_check_deep(
     ensures kept { 2 ≤ result → report.new ≡ report.old }
     ensures rows_kept { 2 ≤ result → rows.new ≡ rows.old }
 {
+    let mut answer = DeepAnswer {
+        report: *report,
+        left: 0,
+    };
+    let status = sqr_check_deep_all(alloc, files, flags, frame, rows, &mut answer);
+    *report = answer.report;
+    status
+}
+
+/// How many things of a sound database a deep check doesn't judge.
+fn left_of(verdict: &DeepVerdict) -> u64
+    ensures { result ≡ left_of verdict.now }
+{
+    match verdict {
+        DeepVerdict::Sound(_, _, unjudged) => unjudged.all.len() as u64,
+        DeepVerdict::Clean(_) | DeepVerdict::Damaged(_) => 0,
+    }
+}
+
+/// The same as `sqr_check_deep`, and with Done how many things it doesn't judge, 0 only if all is judged: indexes, also
+/// partial ones, tables, CHECKs, foreign keys, views, triggers and virtual tables; with Damaged 0. Otherwise the answer
+/// and the rows stay as they are.
+#[unsafe(no_mangle)]
+pub extern "C" fn sqr_check_deep_all(
+    alloc: Global,
+    files: &Files<'_>,
+    flags: u32,
+    frame: u32,
+    rows: &mut [u64],
+    answer: &mut DeepAnswer,
+) -> u32
+    ensures found { result ≤ 1 → IsDeepAnswerAll flags frame files.now.db.now files.now.wal.now files.now.journal.now
+        result answer.new rows.new }
+    ensures unjudged { 2 ≤ result → result ≢ 24 → AreDeepUnjudged flags frame
+        files.now.db.now files.now.wal.now files.now.journal.now result }
+    ensures known { (result ≢ 24) ↔ AreAskedFlags flags }
+    ensures kept { 2 ≤ result → answer.new ≡ answer.old }
+    ensures rows_kept { 2 ≤ result → rows.new ≡ rows.old }
+{
     if !are_known(flags) {
         return UNKNOWN_OPTIONS;
     }
     match judge_deep_asked(alloc, files, flags, frame) {
         Ok(verdict) => {
             tell_rows(&verdict, rows);
-            *report = deep_report(&verdict);
+            *answer = DeepAnswer {
+                report: deep_report(&verdict),
+                left: left_of(&verdict),
+            };
             if verdict.is_damaged() {
                 Status::Damaged.number()
             } else {

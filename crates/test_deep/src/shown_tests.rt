@@ -6,7 +6,7 @@ use cli_show_deep::{judged_as, write_found};
 use cli_words::{Commit, Style};
 use sqcheck::Options as Maps;
 use sqdeep::InnerFault;
-use sqdeepjudge::{Damage, DeepVerdict, judge_deep};
+use sqdeepjudge::{Damage, DeepVerdict, Kind, judge_deep, objects_of, things_of};
 use sqschema::{ObjectError, SchemaFault};
 use sqval::Limits;
 use sqview::{JudgeError, Verdict, View};
@@ -126,6 +126,14 @@ fn a_text_that_is_not_understood(rt: HostRuntime) -> Result<(), Fail> {
         }
         Err(_) => assert!(rt; false),
     }
+    let text = b"clean: 2 pages, 2 trees, 2 b-tree, 0 overflow, 0 free; not fully judged: \
+                 0 of 0 indexes, 1 of 1 tables, 0 of 0 checks\n";
+    assert!(rt; is_line(line(alloc, Style::Lines, true, &file), text));
+    let text =
+        b"{\"check\":\"clean\",\"records\":\"sound\",\"schema\":\"sound\",\"indexes\":\"in part\",\
+                 \"pages\":2,\"trees\":2,\"b-tree\":2,\"overflow\":0,\"free\":0,\"not_judged\":[\
+                 {\"kind\":\"table\",\"name\":\"t\",\"table\":\"t\",\"why\":\"rows\"}],\"not_judged_count\":1}\n";
+    assert!(rt; is_line(line(alloc, Style::Json, true, &file), text));
     Ok(())
 }
 
@@ -137,6 +145,10 @@ fn a_view(rt: HostRuntime) -> Result<(), Fail> {
         Ok(DeepVerdict::Sound(report, schema, unjudged)) => {
             assert!(rt; schema.asides.is_empty());
             assert!(rt; unjudged.indexes.is_empty() && unjudged.tables.is_empty());
+            assert!(rt; unjudged.all.is_empty() && things_of(&unjudged.all, Kind::View) == 0);
+            assert!(rt;
+                objects_of(&schema, Kind::Table) == 1 && objects_of(&schema, Kind::Index) == 0
+            );
             let plain = DeepVerdict::of(Verdict::Clean(report));
             assert!(rt; matches!(plain, DeepVerdict::Clean(same) if same == report));
             assert!(rt; plain.aside(0).is_none());
