@@ -47,7 +47,7 @@
    - sqr_check, sqr_check_at, sqr_check_with: `clean`, the database is well formed and has these counts; `damaged`, the
      fault stands at its page; `unjudged`, each refusal stands for its reason; `known`, which flags there are; `kept`.
    - sqr_check_deep: `found`, also its records, its schema and each index but those that are named are sound, or the
-     fault stands where it says;
+     fault stands where it says; sqr_check_deep_all: the same, and how much isn't judged.
    - sqr_page_roles: `roles`, the array has the role of each page, and the fault is the one that a check finds;
      `crowded`, SQR_NO_ROOM only for want of room, which is told; `refused`, `known`, `roles_kept`, `out_kept`.
    - sqr_plan: `planned`, which recovery it is, and over which view; `refused`, `recovery`, `room`, `kept`.
@@ -380,6 +380,17 @@ struct sqr_deep_report {
    index with 64 bytes for each of its entries, at most 2^30 bytes, above which it isn't judged. */
 uint32_t sqr_check_deep(const struct sqr_files *files, uint32_t flags, uint32_t frame, uint64_t *unjudged, size_t room,
                         struct sqr_deep_report *report);
+
+struct sqr_deep_answer {
+    struct sqr_deep_report report;
+    uint64_t left;
+};
+
+/* The same, and in `left` how many things aren't judged, as the program's line counts them: indexes, also partial ones,
+   tables, CHECKs, foreign keys, views, triggers and virtual tables. With SQR_OK it is 0 only if all is judged, and
+   sound; with SQR_DAMAGED it is 0; otherwise the answer is as it was. */
+uint32_t sqr_check_deep_all(const struct sqr_files *files, uint32_t flags, uint32_t frame, uint64_t *unjudged,
+                            size_t room, struct sqr_deep_answer *answer);
 
 /* What a page is used for (fileformat2, 1.4 to 1.8). */
 enum sqr_page_kind {
