@@ -109,8 +109,12 @@ unfoldable pub may_be_rowid : (text : List ℕ) → List Piece → List Term →
 may_be_rowid text ts terms column =
     is_integer text ts column && (is_own_key text ts column || is_only_term text ts terms column)
 
--- Which column is the rowid's alias: the first INTEGER that is the PRIMARY KEY alone. A table WITHOUT ROWID has none.
-unfoldable pub rowid_of : (text : List ℕ) → List Piece → List Clause → Option ℕ
-rowid_of text ts cs =
+-- Which column is the PRIMARY KEY alone and has the type INTEGER: the first, if there is one.
+unfoldable pub integer_key : (text : List ℕ) → List Piece → List Clause → Option ℕ
+integer_key text ts cs =
     let n = position_or_len (λ c. may_be_rowid text ts (primary_terms cs) c) (columns_of cs) in
-    if is_without_rowid cs || n == length (columns_of cs) then None else Some n
+    if n == length (columns_of cs) then None else Some n
+
+-- Which column is the rowid's alias: that one. A table WITHOUT ROWID has none.
+unfoldable pub rowid_of : (text : List ℕ) → List Piece → List Clause → Option ℕ
+rowid_of text ts cs = if is_without_rowid cs then None else integer_key text ts cs

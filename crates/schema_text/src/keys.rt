@@ -6,7 +6,8 @@ ghost use Rattle.schema_tokens.specs.Keywords.{is_same_word};
 ghost use Rattle.schema_text.specs.Keys.{is_term_rule, is_descending_rule, is_key_end_rule, is_term_end_rule};
 ghost use Rattle.schema_text.specs.Keys.{is_primary_rule, is_own_rule, is_table_key_rule, own_of_term, term_of};
 ghost use Rattle.schema_text.specs.Keys.{all_terms, terms_of, keys_from, primary_terms, name_at, is_integer};
-ghost use Rattle.schema_text.specs.Keys.{is_own_key, is_only_term, may_be_rowid, rowid_of};
+ghost use Rattle.schema_text.specs.Keys.{is_own_key, is_only_term, may_be_rowid};
+ghost use Rattle.schema_text.specs.Keys.{integer_key, rowid_of};
 
 use crate::clauses::{Clause, Rule};
 use crate::columns::{Column, Wanted, columns_of, is_without_rowid, last_of, written_type};
@@ -143,7 +144,8 @@ pub fn keys_of(alloc: Global, clauses: &[Clause]) -> Result<Vec<Key>, AllocError
     Ok(keys)
 }
 
-fn primary_terms(alloc: Global, clauses: &[Clause]) -> Result<Vec<Term>, AllocError>
+/// The terms of the table's first PRIMARY KEY that isn't in a column.
+pub fn primary_terms(alloc: Global, clauses: &[Clause]) -> Result<Vec<Term>, AllocError>
     ensures { IfOk result (λ v. v.items ≡ primary_terms clauses.now) }
 {
     for (i, clause) in clauses.iter().enumerate() {
@@ -242,6 +244,26 @@ fn first_rowid(
     Ok(columns.len())
 }
 
+/// Which column is the PRIMARY KEY alone and has the type INTEGER; None if there is none.
+#[tactic(auto, unfolding(crate::specs::Keys::integer_key))]
+pub fn integer_key(
+    alloc: Global,
+    text: &[u8],
+    tokens: &[Piece],
+    clauses: &[Clause],
+) -> Result<Option<usize>, AllocError>
+    ensures { IfOk result (λ r. r ≡ integer_key text.now tokens.now clauses.now) }
+{
+    let columns = columns_of(alloc, clauses)?;
+    let terms = primary_terms(alloc, clauses)?;
+    let n = first_rowid(alloc, text, tokens, &terms, &columns)?;
+    if n == columns.len() {
+        Ok(None)
+    } else {
+        Ok(Some(n))
+    }
+}
+
 /// Which column is another name of the rowid; None if there is none.
 #[tactic(auto, unfolding(crate::specs::Keys::rowid_of))]
 pub fn rowid_of(
@@ -252,12 +274,9 @@ pub fn rowid_of(
 ) -> Result<Option<usize>, AllocError>
     ensures { IfOk result (λ r. r ≡ rowid_of text.now tokens.now clauses.now) }
 {
-    let columns = columns_of(alloc, clauses)?;
-    let terms = primary_terms(alloc, clauses)?;
-    let n = first_rowid(alloc, text, tokens, &terms, &columns)?;
-    if is_without_rowid(clauses) || n == columns.len() {
+    if is_without_rowid(clauses) {
         Ok(None)
     } else {
-        Ok(Some(n))
+        integer_key(alloc, text, tokens, clauses)
     }
 }
