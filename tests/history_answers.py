@@ -216,6 +216,20 @@ class Files:
         holds(f"{self.name}: the front", content(out) == front)
         os.remove(out)
 
+    def lists_commits(self):
+        """`show --commits` says of each commit, once and in order, whether it is known."""
+        lines, objects, last = [], [], 0
+        for number, frame in enumerate(self.past.commits, 1):
+            size, known = self.past.frames[frame - 1][1], self.known[frame]
+            lines.append(f"commit {number} frame {frame} pages {frame - last} size {size} known {'yes' if known else 'no'}")
+            objects.append(dict(commit=number, frame=frame, pages=frame - last, size=size, known=known))
+            last = frame
+        status, out, err = run("show", self.path, "--commits")
+        check(f"{self.name}: commits", (status, out.decode().splitlines()[:-1]), (0, lines))
+        status, out, err = run("show", self.path, "--commits", "--json")
+        check(f"{self.name}: commits as objects", (status, [json.loads(line) for line in out.splitlines()[:-1]]),
+              (0, objects))
+
     # ---- both sides of a difference
 
     def differs(self, old, new):

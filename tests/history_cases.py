@@ -85,6 +85,7 @@ def judged(files, looks=LOOKS, pairs=4):
     files.is_true()
     files.judge_all(looks=looks)
     files.front_is_shown([*looks, ("show",), ("show", "--log"), ("show", "--commits")])
+    files.lists_commits()
     rng = random.Random(len(files.log))
     drawn = [(rng.choice(files.commits), rng.choice(files.commits)) for _ in range(pairs)]
     known = [commit for commit in files.commits if files.known[commit]]

@@ -1,3 +1,4 @@
 mod CommitsKept
+mod KeptBegun
 pub mod PlacesShown
 pub mod DeletedShown

@@ -2,12 +2,14 @@
 use Rattle.std.specs.Prelude.{◌≡◌, ◌⊎◌, ℕ, ◌+◌, ◌<◌, ◌≤◌, List, [], ◌∷◌, ◌++◌, length, take, slice_get, Option, Some}
 use Rattle.sqval.specs.Limits.{Bounds}
 use Rattle.sqwal.specs.Header.{named_size}
+use Rattle.sqpast.specs.declared.past_error.PastError.{PastError}
 use Rattle.cli_history.specs.declared.commits.CommitForm.{CommitForm}
 use Rattle.cli_history.specs.declared.commits.CommitForm.TheVariants.{Json}
 use Rattle.cli_history.specs.declared.error.HistoryError.{HistoryError}
+use Rattle.cli_history.specs.declared.error.HistoryError.TheVariants.{View}
 use Rattle.cli_history.specs.declared.files.Files.{Files}
 use Rattle.cli_history.specs.History.{AreCommitsPrinted, AreCommitsStopped, last_of}
-use Rattle.cli_history.specs.Ranges.{AreBetween, AreOverwritten}
+use Rattle.cli_history.specs.Ranges.{AreBetween, IsFirstShown, IsNoneShown}
 use Rattle.cli_words.specs.Commits as commits
 use Rattle.cli_words.specs.declared.requests.Commit.{Commit}
 use Rattle.cli_dump.specs.History.{IsNoLog, front_named}
@@ -46,10 +48,21 @@ AreCommitsKept limits files front names form most frames kept =
     × (((i ≡ length frames) × (kept.ended ≡ Whole))
     ⊎ ((frame : ℕ) × (slice_get frames i ≡ Some frame) × IsLeftOut limits files front names form most kept.text.items (last_of kept.from (take i frames)) frame kept.ended))
 
--- Those of the commits of a log are, as JSON, up to this one, and behind one before which all databases are overwritten.
+-- the first of these commits, if there is one, is left out as there is no view of it, for this
+abbrev pub IsFirstLeftOut : (frames : List ℕ) → PastError → Ended → Type 0
+IsFirstLeftOut [] error ended = ended ≡ Whole
+IsFirstLeftOut (frame ∷ frames) error ended = ended ≡ Stopped frame (View error)
+
+-- They begin behind the first commit that is known. If that isn't found, the first one is left out, for the same reason.
+abbrev pub IsBegun : (limits : Bounds) → Files (List ℕ) → (frames : List ℕ) → Kept → Type 0
+IsBegun limits files frames kept =
+    IsFirstShown limits files kept.from
+    ⊎ ((kept.from ≡ 0) × ((error : PastError) × IsNoneShown limits files error × IsFirstLeftOut frames error kept.ended))
+
+-- Those of the commits of a log are, as JSON, behind the first one that is known and up to this one.
 abbrev pub IsRangeKept : (limits : Bounds) → Files (List ℕ) → (names : List (List ℕ)) → (most : ℕ) → (to : Commit) → Kept → Type 0
 IsRangeKept limits files names most to kept =
-    (frames : List ℕ) × AreOverwritten limits files kept.from × AreBetween (named_size files.wal) files.wal kept.from (commits.last_of to) frames
+    (frames : List ℕ) × IsBegun limits files frames kept × AreBetween (named_size files.wal) files.wal kept.from (commits.last_of to) frames
     × AreCommitsKept limits files (front_named to) names Json most frames kept
 
 -- They are; where no write-ahead log counts, or the database is asked for before its first commit, there are none.

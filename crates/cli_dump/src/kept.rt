@@ -1,5 +1,6 @@
 //! What each commit of a log changed, as a text that a page holds.
-ghost use Rattle.std.specs.Prelude.{◌≡◌, IfErr, IfOk, IsOk, Some, []};
+ghost use Rattle.std.specs.Prelude.{◌≡◌, List, ℕ, IfErr, IfOk, IsOk, Some, []};
+ghost use Rattle.sqwal.specs.Header.{named_size};
 ghost use Rattle.sqwal.specs.Took.{TookWithin};
 ghost use Rattle.sqjournal.specs.Journal.{IsHot};
 ghost use Rattle.cli_words.specs.Commits.{commit_named, last_of};
@@ -7,8 +8,8 @@ ghost use Rattle.cli_show.specs.Limits.{limits_named};
 ghost use Rattle.cli_show.specs.Logs.{IsUnreadLog};
 ghost use Rattle.cli_show_diff.specs.Changes.{texts_of};
 ghost use Rattle.cli_history.specs.History.{AreGiven, bytes_of};
-ghost use Rattle.cli_history.specs.Ranges.{AreOverwritten};
-ghost use Rattle.cli_dump.specs.Kept.{AreCommitsKept, IsCommitUntold, IsHistoryKept, IsRangeKept, IsTextOfCommit};
+ghost use Rattle.cli_history.specs.Ranges.{AreBetween};
+ghost use Rattle.cli_dump.specs.Kept.{AreCommitsKept, IsCommitUntold, IsFirstLeftOut, IsHistoryKept, IsRangeKept, IsTextOfCommit};
 
 use crate::commits::{found_of, front_of};
 use cli_facts::Refusal;
@@ -18,6 +19,7 @@ use cli_history::{
 use cli_show::{LogFound, limits_of};
 use cli_show_diff::Selected;
 use cli_words::{Commit, Options};
+use sqpast::PastError;
 use sqval::Limits;
 use sqview::FileBytes;
 use sqwal::Scan;
@@ -143,25 +145,52 @@ fn kept_of<F: FileBytes + Copy + Drop>(
     })
 }
 
-/// The commit behind which changes are told, 0 for all: the first one at which it is known which database was there. 0
-/// too if that isn't found, so that the first commit is told with what refuses it.
-fn begin_of<F: FileBytes + Copy + Drop>(
-    alloc: Global,
-    limits: Limits,
-    files: Files<F>,
-    scan: &Scan,
-) -> u32
-    ensures { AreGiven F.gives_bytes files → TookWithin limits.frames (F.bytes files.wal) scan.now
-        → ¬ IsHot (F.bytes files.journal) → AreOverwritten limits (bytes_of F.bytes files) result }
+/// What no commit changed, as the first of these isn't told for this.
+fn none_begun(alloc: Global, frames: &[u32], error: PastError) -> Kept
+    ensures from { result.from ≡ 0 }
+    ensures text { result.text.items ≡ [] }
+    ensures ended { IsFirstLeftOut frames.now error result.ended }
 {
-    match first_shown(alloc, limits, files, scan) {
-        Ok(first) => first,
-        Err(_) => 0,
+    let ended = match frames.first() {
+        Some(frame) => Ended::Stopped(*frame, HistoryError::View(error)),
+        None => Ended::Whole,
+    };
+    Kept {
+        from: 0,
+        text: Vec::new(alloc),
+        ended,
+    }
+}
+
+/// What the commits of a log changed behind this one, up to the frame `to`; up to the last one where none is named.
+fn kept_behind<F: FileBytes + Copy + Drop>(
+    alloc: Global,
+    files: Files<F>,
+    told: &Told<'_>,
+    from: u32,
+    to: Option<u32>,
+    most: usize,
+) -> Result<Kept, Refusal>
+    ensures kept { AreGiven F.gives_bytes files → TookWithin told.now.limits.frames (F.bytes files.wal)
+        told.now.scan.now → ¬ IsHot (F.bytes files.journal) → IfOk result (λ kept. (frames : List ℕ)
+        × AreBetween (named_size (F.bytes files.wal)) (F.bytes files.wal) from to frames
+        × AreCommitsKept told.now.limits (bytes_of F.bytes files) told.now.front (texts_of told.now.selected.names.now)
+        told.now.form most frames kept) }
+    ensures from { IfOk result (λ kept. kept.from ≡ from) }
+    ensures refused { IfErr result (λ refusal. refusal ≡ Refusal.NoMemory) }
+{
+    let frames = match commits_between(alloc, told.scan, from, to) {
+        Ok(frames) => frames,
+        Err(_) => return Err(Refusal::NoMemory),
+    };
+    match kept_of(alloc, files, told, from, &frames, most) {
+        Ok(kept) => Ok(kept),
+        Err(_) => Err(Refusal::NoMemory),
     }
 }
 
 /// What the commits of a log of this scan changed, up to this one, and behind the first one at which it is known which
-/// database was there.
+/// database was there. If that isn't found, the first commit isn't told, for the same reason.
 fn kept_in<F: FileBytes + Copy + Drop>(
     alloc: Global,
     files: Files<F>,
@@ -176,11 +205,6 @@ fn kept_in<F: FileBytes + Copy + Drop>(
     ensures refused { IfErr result (λ refusal. refusal ≡ Refusal.NoMemory) }
 {
     let (limits, to) = of;
-    let from = begin_of(alloc, limits, files, scan);
-    let frames = match commits_between(alloc, scan, from, to.last()) {
-        Ok(frames) => frames,
-        Err(_) => return Err(Refusal::NoMemory),
-    };
     let told = Told {
         limits,
         scan,
@@ -188,9 +212,12 @@ fn kept_in<F: FileBytes + Copy + Drop>(
         selected,
         form: CommitForm::Json,
     };
-    match kept_of(alloc, files, &told, from, &frames, most) {
-        Ok(kept) => Ok(kept),
-        Err(_) => Err(Refusal::NoMemory),
+    match first_shown(alloc, limits, files, scan) {
+        Ok(from) => kept_behind(alloc, files, &told, from, to.last(), most),
+        Err(error) => match commits_between(alloc, scan, 0, to.last()) {
+            Ok(frames) => Ok(none_begun(alloc, &frames, error)),
+            Err(_) => Err(Refusal::NoMemory),
+        },
     }
 }
 

@@ -1,6 +1,6 @@
 -- The first commit of a log at which the database is known.
 use Rattle.std.proofs.Common.{◌≡◌, ◌⊎◌, ◌<◌, ◌≤◌, ℕ, List, Bool, Result, Ok, Err, refl, sym, ap, subst, ⊎_elim, inr, arith}
-use Rattle.std.specs.Prelude.{zero, suc, MatchResult, IfOk, IfErr}
+use Rattle.std.specs.Prelude.{zero, suc, Option, None, MatchOption, IfOk, IfErr}
 use Rattle.sqval.specs.Limits.{Bounds}
 use Rattle.sqwal.specs.Frames.{IsCommit, IsFront}
 use Rattle.sqwal.specs.Header.{named_size}
@@ -8,18 +8,18 @@ use Rattle.sqwal.specs.Took.{TookWithin}
 use Rattle.sqwal.specs.declared.scan.Scan.{Scan}
 use Rattle.sqview.specs.declared.view_error.ViewError.{ViewError}
 use Rattle.sqview.specs.declared.view_error.ViewError.TheVariants.{Unread, NoMemory}
-use Rattle.sqpast.specs.Commits.{AreKnown, IsFirstKnown}
+use Rattle.sqpast.specs.Commits.{AreKnown, IsFirstKnown, NoneIsKnown}
 use Rattle.sqpast.specs.Past.{IsSource}
 use Rattle.sqpast.specs.Files.{PastRefusedWithin}
 use Rattle.sqpast.specs.declared.past_error.PastError.{PastError}
 use Rattle.sqpast.specs.declared.past_error.PastError.TheVariants.{CommitOverwritten, Refused}
 use Rattle.cli_history.specs.declared.files.Files.{Files}
-use Rattle.cli_history.specs.Ranges.{IsFirstShown}
+use Rattle.cli_history.specs.Ranges.{IsFirstShown, IsNextKnown, IsNoneShown}
 use Rattle.cli_history.specs.internal.First.{IsKnownLater}
 
--- none is known, or memory ran out
-abbrev pub IsNone : PastError → Type 0
-IsNone e = (e ≡ CommitOverwritten) ⊎ (e ≡ Refused NoMemory)
+-- of a log that has a commit memory ran out
+abbrev pub IsForMemory : (w : List ℕ) → (scan : Scan) → PastError → Type 0
+IsForMemory w scan e = (most front : ℕ) → TookWithin most w scan → IsFront (named_size w) w front → 1 ≤ front → e ≡ Refused NoMemory
 
 module _ (limits : Bounds) (files : Files (List ℕ)) where
   -- there is no view at a commit
@@ -52,22 +52,32 @@ module _ (limits : Bounds) (files : Files (List ℕ)) where
   later_shown most scan took lost (Ok first) are = known_shown first lost (are most lost.0 took lost.1.is)
   later_shown most scan took lost (Err _) are = tt
 
-  pub later_refused : Refuses 0 CommitOverwritten → (r : Result ℕ PastError) → IfErr r IsNone → IfErr r (Refuses 0)
-  later_refused lost (Ok _) why = tt
-  later_refused lost (Err e) why = ⊎_elim (λ is. subst (Refuses 0) (sym is) lost) (λ is. subst (Refuses 0) (sym is) tt) why
+  pub later_refused : (most : ℕ) (scan : Scan) → TookWithin most files.wal scan → Refuses 0 CommitOverwritten → (r : Result ℕ PastError)
+      → IfErr r (IsForMemory files.wal scan) → IfErr r (IsNoneShown limits files)
+  later_refused most scan took lost (Ok _) why = tt
+  later_refused most scan took lost (Err e) why = (NoMemory, why most lost.0 took lost.1.is lost.1.some, tt)
 
 -- of commits that are judged
-pub known_behind : (w file : List ℕ) (scan : Scan) (known : List Bool) (r : Result ℕ PastError)
+pub known_next : (w file : List ℕ) (scan : Scan) (known : List Bool) (after : ℕ) (r : Result (Option ℕ) ViewError)
     → ((most front : ℕ) → TookWithin most w scan → IsFront (named_size w) w front → AreKnown (named_size w) w front file known)
-    → MatchResult r (IsFirstKnown known 0) IsNone
-    → IfOk r (λ first. (most front : ℕ) → TookWithin most w scan → IsFront (named_size w) w front → IsKnownLater w front file first)
-known_behind w file scan known (Ok first) are is = λ most front took at. (known, are most front took at, is)
-known_behind w file scan known (Err _) are is = tt
+    → IfOk r (λ next. MatchOption next (NoneIsKnown known after) (IsFirstKnown known after))
+    → IfOk r (λ next. (most front : ℕ) → TookWithin most w scan → IsFront (named_size w) w front → IsNextKnown w front file after next)
+known_next w file scan known after (Ok next) are is = λ most front took at. (known, are most front took at, is)
+known_next w file scan known after (Err _) are is = tt
 
-pub none_known : (r : Result ℕ PastError) (P : ℕ → Type 0) → MatchResult r P IsNone → IfErr r IsNone
-none_known (Ok _) P is = tt
-none_known (Err e) P is = is
+-- the front is known
+front_known : (w file : List ℕ) (front : ℕ) (known : List Bool) → IsFront (named_size w) w front → 1 ≤ front
+    → AreKnown (named_size w) w front file known → NoneIsKnown known 0 → ⊥
+front_known w file front known at some are none =
+    let commit = ⊎_elim (λ zero. absurd (omega (arith, zero, some))) (λ both. both.1) at.is in
+    let gone = are.no front some (omega arith) commit (none front (omega (arith, some)) (omega (arith, are.long))) in
+    omega (arith, gone.0)
+
+pub none_later : (w file : List ℕ) (scan : Scan) (error : PastError)
+    → ((most front : ℕ) → TookWithin most w scan → IsFront (named_size w) w front → IsNextKnown w front file 0 None) → IsForMemory w scan error
+none_later w file scan error are = λ most front took at some.
+    let next = are most front took at in absurd (front_known w file front next.0 at some next.1 next.2)
 
 -- files that are given are read
-pub source_none : (error : ViewError) → IsSource error → (error ≡ Unread → ⊥) → IsNone (Refused error)
-source_none error source read = ⊎_elim (λ unread. absurd (read unread)) (λ memory. inr (ap Refused memory)) source
+pub source_memory : (error : ViewError) → IsSource error → (error ≡ Unread → ⊥) → error ≡ NoMemory
+source_memory error source read = ⊎_elim (λ unread. absurd (read unread)) (λ memory. memory) source

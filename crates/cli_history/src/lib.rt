@@ -11,5 +11,5 @@ mod range;
 pub use commits::{CommitForm, Told, print_commits};
 pub use error::HistoryError;
 pub use files::Files;
-pub use first::first_shown;
+pub use first::{first_shown, next_known};
 pub use range::commits_between;

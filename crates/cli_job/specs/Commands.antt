@@ -52,7 +52,7 @@ IsPartShown parts.Header options files before after = (text : List ℕ) × IsHea
 IsPartShown (parts.Page number) options files before after = ShowsPage options number files.db files.wal files.journal
 IsPartShown (parts.Log true) options files before after = (text : List ℕ) × IsWholeLogText options files text × Appends before after text
 IsPartShown (parts.Log false) options files before after = (text : List ℕ) × IsLogText options files.wal files.journal text × Appends before after text
-IsPartShown parts.Commits options files before after = (text : List ℕ) × IsCommitsText options files.wal files.journal text × Appends before after text
+IsPartShown parts.Commits options files before after = (text : List ℕ) × IsCommitsText options files text × Appends before after text
 IsPartShown parts.Pages options files before after = before ≡ after
 
 -- why a part isn't shown

@@ -86,7 +86,6 @@ IsUnopenedFor bytes gives source refusal = IsUnopened bytes gives source.paths s
 -- a command that reads the logs alone
 abbrev pub reads_logs : Command → Bool
 reads_logs (Show (Log false)) = true
-reads_logs (Show Commits) = true
 reads_logs _ = false
 
 -- What a command finds of files of the source that were opened so, and prints meanwhile.

@@ -80,7 +80,7 @@ impl Command<'_> {
         match self {
             Command::Check { .. } | Command::Pages(_) => Wants::PAGES,
             Command::Show(part) => Wants {
-                only_logs: matches!(*part, Part::Log { all: false } | Part::Commits),
+                only_logs: matches!(*part, Part::Log { all: false }),
                 ahead: 0,
                 is_counted: false,
             },
@@ -199,7 +199,7 @@ fn shown<F: FileBytes + Drop, W: Write>(
         Part::Log { all: false } => {
             show_log(alloc, &mut files.wal, &mut files.journal, options, out)
         }
-        Part::Commits => show_commits(alloc, &mut files.wal, &mut files.journal, options, out),
+        Part::Commits => show_commits(alloc, &mut files, options, out),
         // Asked for by `Command::Pages`.
         Part::Pages => Ok(None),
     }

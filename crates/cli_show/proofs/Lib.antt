@@ -8,6 +8,7 @@ mod FoundFiles
 mod ElementsInOrder
 mod LinesOfPages
 mod WrittenLogs
+mod WrittenCommits
 mod NamesOfTrees
 mod LinesBehind
 mod LastSegments

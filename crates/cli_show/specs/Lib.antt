@@ -1,4 +1,5 @@
 pub mod Behind
+pub mod Commits
 pub mod Contents
 pub mod Errors
 pub mod Found

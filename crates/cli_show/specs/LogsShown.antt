@@ -1,5 +1,5 @@
 -- What was shown, or found, of the log that counts.
-use Rattle.std.specs.Prelude.{◌≡◌, ◌≢◌, ◌⊎◌, ℕ, ◌≤◌, List, [], ◌∷◌, length as list_length, codes}
+use Rattle.std.specs.Prelude.{◌≡◌, ◌≢◌, ◌⊎◌, ℕ, ◌≤◌, Bool, List, [], ◌∷◌, length as list_length, codes}
 use Rattle.sqval.specs.Limits.{Bounds}
 use Rattle.sqwal.specs.Commits.{AreCommits}
 use Rattle.sqwal.specs.Header.{named_size, IsHeader, HeaderRefused}
@@ -12,9 +12,11 @@ use Rattle.sqview.specs.Logs.{HasRead, AreTwoLogs}
 use Rattle.cli_words.specs.declared.requests.Options.{Options}
 use Rattle.cli_words.specs.declared.requests.Style.{Style}
 use Rattle.cli_text.specs.Facts.{number_text, object_text}
-use Rattle.cli_text.specs.Logs.{Journal, Log, ShowsJournal, ShowsLog, commits_text, journal_text, log_text}
+use Rattle.cli_text.specs.Logs.{Journal, Log, ShowsJournal, ShowsLog, journal_text, log_text}
 use Rattle.cli_text.specs.Verdicts.{none_text}
+use Rattle.cli_show.specs.Commits.{AreKnownIn, known_commits_text}
 use Rattle.cli_show.specs.Limits.{limits_named}
+use Rattle.cli_show.specs.declared.contents.Contents.{Contents}
 use Rattle.cli_show.specs.declared.logs.LogFound.{LogFound}
 use Rattle.cli_show.specs.declared.logs.LogFound.TheVariants as found
 
@@ -35,17 +37,19 @@ IsWalText options wal text =
     ((log : Log) × ShowsLog (limits_named options.large).frames wal log × (text ≡ log_text options.style log))
     ⊎ ((error : WalFormatError) × (32 ≤ list_length wal) × HeaderRefused wal error × (text ≡ refused_text options.style error))
 
--- what is printed of the commits of a write-ahead log: each of them, its front and where it stops
-abbrev pub IsTextOfCommits : Style → (most : ℕ) → (wal text : List ℕ) → Type 0
-IsTextOfCommits style most wal text = (log : Log) × (commits : List ℕ) × ShowsLog most wal log × AreCommits (named_size wal) wal commits
-    × (text ≡ commits_text style log commits)
+-- what is printed of the commits of a write-ahead log beside a file: each of them, and whether the database there is
+-- known; its front and where it stops
+abbrev pub IsTextOfCommits : Style → (most : ℕ) → (wal db text : List ℕ) → Type 0
+IsTextOfCommits style most wal db text = (log : Log) × (commits : List ℕ) × (known : List Bool) × ShowsLog most wal log
+    × AreCommits (named_size wal) wal commits × AreKnownIn wal db known × (text ≡ known_commits_text style log known commits)
 
 -- that of the log that counts, or what refuses its header; beside no log, that there are none
-abbrev pub IsCommitsText : Options → (wal journal text : List ℕ) → Type 0
-IsCommitsText options wal journal text =
-    ((¬ IsHot journal) × (wal ≢ []) × IsTextOfCommits options.style (limits_named options.large).frames wal text)
-    ⊎ (((¬ IsHot journal) × ((error : WalFormatError) × (32 ≤ list_length wal) × HeaderRefused wal error × (text ≡ refused_text options.style error)))
-    ⊎ ((wal ≡ []) × (text ≡ none_text options.style (codes "commits"))))
+abbrev pub IsCommitsText : Options → (files : Contents (List ℕ)) → (text : List ℕ) → Type 0
+IsCommitsText options files text =
+    ((¬ IsHot files.journal) × (files.wal ≢ []) × IsTextOfCommits options.style (limits_named options.large).frames files.wal files.db text)
+    ⊎ (((¬ IsHot files.journal)
+    × ((error : WalFormatError) × (32 ≤ list_length files.wal) × HeaderRefused files.wal error × (text ≡ refused_text options.style error)))
+    ⊎ ((files.wal ≡ []) × (text ≡ none_text options.style (codes "commits"))))
 
 -- of a hot journal: what the front of it shows that was read
 abbrev pub IsJournalText : Style → (journal text : List ℕ) → Type 0

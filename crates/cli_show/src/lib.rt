@@ -4,6 +4,7 @@
 
 mod behind;
 mod cells;
+mod commits;
 mod contents;
 mod error;
 mod held;
@@ -17,10 +18,11 @@ mod surveys;
 mod views;
 
 pub use cells::{read_page, show_header, show_page, usable_size};
+pub use commits::show_commits;
 pub use contents::{Contents, read_ahead};
 pub use error::ShowError;
 pub use limits::{asked_of, limits_of};
-pub use logs::{LogFound, log_of, replayed, scanned, show_commits, show_log, show_whole_log};
+pub use logs::{LogFound, log_of, replayed, scanned, show_log, show_whole_log};
 pub use names::Names;
 pub use records::Records;
 pub use report::{ReportFacts, facts_of, write_report_facts};

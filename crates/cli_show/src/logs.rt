@@ -12,8 +12,7 @@ ghost use Rattle.cli_show.specs.Fronts.{IsShownFront};
 ghost use Rattle.cli_show.specs.Limits.{limits_named};
 ghost use Rattle.cli_show.specs.Logs.{ReplayFound, ScanFound, IsUnreadLog};
 ghost use Rattle.cli_show.specs.Reports.{IsLogObject};
-ghost use Rattle.cli_show.specs.LogsShown.{IsCommitsText, IsJournalText, IsLogFound, IsLogText, IsTextOfCommits};
-ghost use Rattle.cli_show.specs.LogsShown.{IsWalText, refused_text};
+ghost use Rattle.cli_show.specs.LogsShown.{IsJournalText, IsLogFound, IsLogText, IsWalText, refused_text};
 ghost use Rattle.cli_show.specs.internal.LogsShown.{IsWalShown, IsJournalShown, IsShownLog};
 ghost use Rattle.cli_show.specs.Errors.{IfRefused};
 
@@ -23,8 +22,7 @@ use crate::error::ShowError;
 use crate::limits::limits_of;
 use cli_facts::{Front, Refusal};
 use cli_text::{
-    Fact, write_commits, write_facts, write_journal, write_journal_object, write_log, write_none,
-    write_wal_object,
+    Fact, write_facts, write_journal, write_journal_object, write_log, write_none, write_wal_object,
 };
 use cli_words::{Options, Style};
 use sqjournal::{JournalError, Replay};
@@ -89,7 +87,7 @@ pub fn scanned<F: FileBytes>(
 }
 
 /// The number of what refuses a log's header.
-fn write_refused<W: Write>(out: &mut W, style: Style, error: WalFormatError) -> io::Result<()>
+pub(crate) fn write_refused<W: Write>(out: &mut W, style: Style, error: WalFormatError) -> io::Result<()>
     ensures { OnOk result (Appends (W.contents out.old) (W.contents out.new) (refused_text style error)) }
 {
     write_facts(
@@ -217,61 +215,6 @@ pub fn show_whole_log<F: FileBytes + Drop, W: Write>(
     match show_behind(alloc, files, &shown, options.style, out) {
         Ok(()) => Ok(shown.front()),
         Err(error) => Err(error),
-    }
-}
-
-/// Prints the commits of a scan.
-fn show_commits_of<W: Write>(
-    alloc: Global,
-    scan: &Scan,
-    style: Style,
-    out: &mut W,
-) -> Result<Option<Front>, ShowError>
-    ensures front { IfOk result (λ front. (most : ℕ) (wal : List ℕ) → TookWithin most wal scan.now
-        → IsLogFront wal front) }
-    ensures refused { IfErr result (IfRefused (λ refusal. refusal ≡ NoMemory)) }
-    ensures text { (most : ℕ) (wal : List ℕ) → TookWithin most wal scan.now → OnOk result ((text : List ℕ)
-        × IsTextOfCommits style most wal text × Appends (W.contents out.old) (W.contents out.new) text) }
-{
-    let Ok(commits) = scan.commits(alloc) else {
-        return Err(ShowError::Refused(Refusal::NoMemory));
-    };
-    match write_commits(out, style, scan, &commits) {
-        Ok(()) => Ok(Front::of_scan(scan)),
-        Err(_) => Err(ShowError::Unwritten),
-    }
-}
-
-/// Prints the commits in the write-ahead log, where that counts. The front of the log, if a frame of one counts.
-/// Refused as `show_log` is.
-pub fn show_commits<F: FileBytes, W: Write>(
-    alloc: Global,
-    wal: &mut F,
-    journal: &mut F,
-    options: Options,
-    out: &mut W,
-) -> Result<Option<Front>, ShowError>
-    ensures front { F.gives_bytes wal.old → F.gives_bytes journal.old
-        → IfOk result (IsShownFront (F.bytes wal.old) (F.bytes journal.old)) }
-    ensures refused { F.gives_bytes wal.old → F.gives_bytes journal.old → IfErr result
-        (IfRefused (IsUnreadLog (limits_named options.large) (F.bytes wal.old) (F.bytes journal.old))) }
-    ensures text { F.gives_bytes wal.old → F.gives_bytes journal.old → OnOk result ((text : List ℕ)
-        × IsCommitsText options (F.bytes wal.old) (F.bytes journal.old) text
-        × Appends (W.contents out.old) (W.contents out.new) text) }
-{
-    let style = options.style;
-    match log_in_use(wal, journal).map_err(Refusal::from)? {
-        LogInUse::Wal => match scanned(alloc, limits_of(options), wal)? {
-            Ok(scan) => show_commits_of(alloc, &scan, style, out),
-            Err(error) => {
-                write_refused(out, style, error)?;
-                Ok(None)
-            }
-        },
-        LogInUse::Neither | LogInUse::Journal(_) => {
-            write_none(out, style, "commits")?;
-            Ok(None)
-        }
     }
 }
 

@@ -1,10 +1,10 @@
-use Rattle.std.proofs.Common.{ℕ, Result, sym, subst, arith}
+use Rattle.std.proofs.Common.{ℕ, Result, refl, sym, subst, arith}
 use Rattle.std.specs.Prelude.{IfErr, IfOk}
 use Rattle.sqview.specs.LogView.{pages_of}
 use Rattle.sqpast.specs.Files.{PastRefusedWithin}
 use Rattle.sqpast.specs.declared.past_error.PastError.{PastError}
 use Rattle.cli_history.specs.History.{bytes_of}
-use Rattle.cli_history.specs.Ranges.{IsFirstShown}
+use Rattle.cli_history.specs.Ranges.{IsFirstShown, IsNoneShown}
 use Rattle.cli_history.proofs.KnownFirst.{later_refused, later_shown}
 use Rattle.cli_history.proofs.first.first_shown.Goals as goal
 use Rattle.cli_history.proofs.first.first_shown.Goals.{in-Ok, in-Err-CommitOverwritten, in-Err-Refused}
@@ -39,16 +39,16 @@ returns-clause-refused g c = λ given took cold.
     let limits = c.args.limits in
     let right = g.met.F.FileBytes.right in
     elim c.match-past_before.branch [
-      | in-Ok w ↦ subst (λ (r : Result ℕ PastError). IfErr r (PastRefusedWithin limits 0 them.db them.wal them.journal)) (sym w.result-is) tt
+      | in-Ok w ↦ subst (λ (r : Result ℕ PastError). IfErr r (IsNoneShown limits them)) (sym w.result-is) tt
       | in-Err-CommitOverwritten w ↦
           let it = w.in-Err-CommitOverwritten in
           let refused = it.ensures.right (right files.db given.0, right files.wal given.1, right files.journal given.2) (it.ensures.read given) took cold in
           let lost = subst (λ (e : PastError). PastRefusedWithin limits 0 them.db them.wal them.journal e) it.field-0-is refused in
-          subst (λ (r : Result ℕ PastError). IfErr r (PastRefusedWithin limits 0 them.db them.wal them.journal)) (sym w.result-is)
-          (later_refused limits them lost w.known_later.result (w.known_later.ensures.refused given))
+          subst (λ (r : Result ℕ PastError). IfErr r (IsNoneShown limits them)) (sym w.result-is)
+          (later_refused limits them limits.frames c.args.scan.now took lost w.known_later.result (w.known_later.ensures.refused given))
       | in-Err-Refused w ↦
           let it = w.in-Err-Refused in
           let refused = it.ensures.right (right files.db given.0, right files.wal given.1, right files.journal given.2) (it.ensures.read given) took cold in
           let why = subst (λ (e : PastError). PastRefusedWithin limits 0 them.db them.wal them.journal e) it.field-0-is refused in
-          subst (λ (r : Result ℕ PastError). IfErr r (PastRefusedWithin limits 0 them.db them.wal them.journal)) (sym w.result-is) why
+          subst (λ (r : Result ℕ PastError). IfErr r (IsNoneShown limits them)) (sym w.result-is) (w.in-Err-Refused.error, refl, why)
     ]

@@ -1,0 +1,205 @@
+//! The page that a checkpoint may have changed.
+ghost use Rattle.std.specs.Prelude.{◌≡◌, ◌≢◌, ◌≤◌, ◌<◌, ◌^◌, ◌+◌, ◌↔◌, ℕ, length, IfOk, IfErr, IsOk, IsTrue, List};
+ghost use Rattle.std.specs.Prelude.{MatchOption};
+ghost use Rattle.sqwal.specs.Frames.{IsFront, IsValidFrame, content_of, frame_at, page_of};
+ghost use Rattle.sqwal.specs.Header.{named_size};
+ghost use Rattle.sqwal.specs.Took.{TookWithin};
+ghost use Rattle.sqview.specs.Laid.{part_or_zeros};
+ghost use Rattle.sqview.specs.Logs.{IsRead};
+ghost use Rattle.sqpast.specs.Past.{IsSource};
+ghost use Rattle.view_loss.specs.Losses.{IsLossAt, LossIsGone};
+ghost use Rattle.view_loss.specs.internal.Reasons.{IsChanged, IsCopyOf, IsCutBy, IsNoCopy, IsNoCut, IsReasonOf};
+
+use sqpage::SourceError;
+use sqpast::read_table;
+use sqval::PageSize;
+use sqview::{FileBytes, ViewError};
+use sqwal::Scan;
+use std::alloc::Global;
+
+/// A page of a file that may be another than it was at a commit of its log, and why.
+#[derive(Clone, Copy, Debug, PartialEq, Eq)]
+pub enum Loss {
+    /// It has the bytes of this frame, which names it.
+    Copied { page: usize, frame: u32 },
+    /// The commit that ends with this frame may have cut it away.
+    CutAway { page: usize, frame: u32 },
+}
+
+/// A page that is lost is gone at that commit. It does nothing; its contract is that law.
+pub fn loss_is_gone()
+    ensures { LossIsGone }
+{}
+
+/// Where the page of a frame begins in the log.
+fn place(frame: u32, page_size: PageSize) -> u64
+    requires { 1 ≤ frame }
+    ensures place { result ≡ frame_at page_size frame + 24 }
+    ensures low { result + page_size < 2 ^ 60 }
+{
+    32 + u64::from(frame - 1) * (24 + u64::from(page_size.get())) + 24
+}
+
+/// The page of a frame has these bytes. It goes to the buffer.
+fn is_copy<F: FileBytes>(
+    log: &mut F,
+    at: u64,
+    bytes: &[u8],
+    buffer: &mut [u8],
+) -> Result<bool, SourceError>
+    requires { length buffer.old ≡ length bytes.now }
+    ensures read { F.reads_right log.old → IfOk result
+        (λ same. IsTrue same ↔ (bytes.now ≡ part_or_zeros (length bytes.now) at (F.bytes log.old))) }
+    ensures never_fails { F.gives_bytes log.old → IsOk result }
+    ensures still_right { F.reads_right log.old → F.reads_right log.new }
+    ensures still_gives { F.gives_bytes log.old → F.gives_bytes log.new }
+    ensures kept { (F.bytes log.new ≡ F.bytes log.old) × (length buffer.new ≡ length buffer.old) }
+{
+    log.read_at(at, buffer)?;
+    Ok(*buffer == *bytes)
+}
+
+/// A frame names a page, of which the number and the bytes are given, and has these bytes. They go to the buffer.
+fn is_copied_by<F: FileBytes>(
+    log: &mut F,
+    scan: &Scan,
+    page_size: PageSize,
+    frame: u32,
+    of: (usize, &[u8]),
+    buffer: &mut [u8],
+) -> Result<bool, SourceError>
+    requires { (1 ≤ frame) × (length of.1.now ≡ page_size) × (length buffer.old ≡ page_size) }
+    ensures read { F.reads_right log.old → IfOk result (λ copied. (most : ℕ)
+        → TookWithin most (F.bytes log.old) scan.now → named_size (F.bytes log.old) ≡ page_size
+        → IsValidFrame page_size (F.bytes log.old) frame → IsTrue copied
+        ↔ ((page_of page_size (F.bytes log.old) frame ≡ of.0)
+        × (of.1.now ≡ content_of page_size (F.bytes log.old) frame))) }
+    ensures never_fails { F.gives_bytes log.old → IsOk result }
+    ensures still_right { F.reads_right log.old → F.reads_right log.new }
+    ensures still_gives { F.gives_bytes log.old → F.gives_bytes log.new }
+    ensures kept { (F.bytes log.new ≡ F.bytes log.old) × (length buffer.new ≡ length buffer.old) }
+{
+    let (page, bytes) = of;
+    let Some(entry) = scan.entry(frame as usize) else {
+        return Ok(false);
+    };
+    if entry.page as usize != page {
+        return Ok(false);
+    }
+    is_copy(log, place(frame, page_size), bytes, buffer)
+}
+
+/// The first frame that names a page, of which the number and the bytes are given, and has these bytes.
+fn copied_from<F: FileBytes>(
+    log: &mut F,
+    scan: &Scan,
+    page_size: PageSize,
+    of: (usize, &[u8]),
+    buffer: &mut [u8],
+) -> Result<Option<u32>, SourceError>
+    requires { (length of.1.now ≡ page_size) × (length buffer.old ≡ page_size) }
+    ensures read { F.reads_right log.old → IfOk result (λ found. (most front : ℕ)
+        → TookWithin most (F.bytes log.old) scan.now → named_size (F.bytes log.old) ≡ page_size
+        → IsFront page_size (F.bytes log.old) front → 1 ≤ front
+        → MatchOption found (IsNoCopy page_size (F.bytes log.old) front of.0 of.1.now)
+        (IsCopyOf page_size (F.bytes log.old) front of.0 of.1.now)) }
+    ensures never_fails { F.gives_bytes log.old → IsOk result }
+{
+    for before in 0..scan.committed().frames {
+        let frame = before + 1;
+        if is_copied_by(log, scan, page_size, frame, of, buffer)? {
+            return Ok(Some(frame));
+        }
+    }
+    Ok(None)
+}
+
+/// A frame of this size ends a commit that may have cut away a page of a file of so many pages.
+fn may_cut(size: u32, page: usize, long: u64) -> bool
+    ensures { IsTrue result ↔ ((size ≢ 0) × (size < page) × (size ≤ long)) }
+{
+    size != 0 && (size as usize) < page && u64::from(size) <= long
+}
+
+/// The first commit of fewer pages than this one, and no more than the file has.
+fn cut_by(scan: &Scan, page: usize, long: u64) -> Option<u32>
+    ensures { (most front : ℕ) (w : List ℕ) → TookWithin most w scan.now → IsFront (named_size w) w front → 1 ≤ front
+        → MatchOption result (IsNoCut (named_size w) w front page long) (IsCutBy (named_size w) w front page long) }
+{
+    for before in 0..scan.committed().frames {
+        let frame = before + 1;
+        let Some(entry) = scan.entry(frame as usize) else {
+            break;
+        };
+        if may_cut(entry.size, page, long) {
+            return Some(frame);
+        }
+    }
+    None
+}
+
+/// Why a page of a file may be another than it was, if it may.
+fn reason_of<F: FileBytes>(
+    alloc: Global,
+    db: &mut F,
+    log: &mut F,
+    scan: &Scan,
+    page: usize,
+) -> Result<Option<Loss>, ViewError>
+    requires { (1 ≤ page) × (page ≤ 2 ^ 40) }
+    ensures right { F.reads_right db.old × F.reads_right log.old → IfOk result (λ loss. (most front : ℕ)
+        → TookWithin most (F.bytes log.old) scan.now
+        → IsFront (named_size (F.bytes log.old)) (F.bytes log.old) front → 1 ≤ front
+        → IsChanged (named_size (F.bytes log.old)) (F.bytes log.old) front (F.bytes db.old) page
+        → IsReasonOf (named_size (F.bytes log.old)) (F.bytes log.old) front (F.bytes db.old) page loss) }
+    ensures refused { IfErr result IsSource }
+    ensures read { F.gives_bytes db.old × F.gives_bytes log.old → IsRead result }
+{
+    let Some(header) = scan.header() else {
+        return Ok(None);
+    };
+    let page_size = header.page_size;
+    let long = db.len().div_ceil(u64::from(page_size.get()));
+    let mut bytes = vec![in alloc; 0u8; page_size.get() as usize]?;
+    let mut other = vec![in alloc; 0u8; page_size.get() as usize]?;
+    db.read_at((page as u64 - 1) * u64::from(page_size.get()), bytes.as_mut_slice())?;
+    if page as u64 <= long {
+        let of = (page, bytes.as_slice());
+        if let Some(frame) = copied_from(log, scan, page_size, of, other.as_mut_slice())? {
+            return Ok(Some(Loss::Copied { page, frame }));
+        }
+    }
+    match cut_by(scan, page, long) {
+        Some(frame) => Ok(Some(Loss::CutAway { page, frame })),
+        None => Ok(None),
+    }
+}
+
+/// The first of the pages 1 to `pages` that is gone at the commit that this frame ends, or at 0, and why. None if they
+/// are all there. What is read is as for `read_table`, and the frames of that page. Refused by Unread and NoMemory, also
+/// if the file has more than 2^40 pages.
+pub fn first_loss<F: FileBytes>(
+    alloc: Global,
+    db: &mut F,
+    log: &mut F,
+    scan: &Scan,
+    frame: u32,
+    pages: u32,
+) -> Result<Option<Loss>, ViewError>
+    ensures right { F.reads_right db.old × F.reads_right log.old → IfOk result (λ loss. (most front : ℕ)
+        → TookWithin most (F.bytes log.old) scan.now
+        → IsFront (named_size (F.bytes log.old)) (F.bytes log.old) front → frame < front
+        → IsLossAt (named_size (F.bytes log.old)) (F.bytes log.old) front (F.bytes db.old) frame pages loss) }
+    ensures refused { IfErr result IsSource }
+    ensures read { F.gives_bytes db.old × F.gives_bytes log.old → IsRead result }
+{
+    let count = pages as usize;
+    let table = read_table(alloc, db, log, scan, count)?;
+    if count > table.len() {
+        return Err(ViewError::NoMemory);
+    }
+    match table.first_gone(frame, count) {
+        Some(page) => reason_of(alloc, db, log, scan, page),
+        None => Ok(None),
+    }
+}
