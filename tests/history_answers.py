@@ -230,6 +230,29 @@ class Files:
         check(f"{self.name}: commits as objects", (status, [json.loads(line) for line in out.splitlines()[:-1]]),
               (0, objects))
 
+    def reason(self, commit):
+        """Why a commit isn't known, and the next one that is."""
+        page, why = self.past.lost_page(commit)
+        if why == "copied":
+            frame = next(i for i, (name, _, content) in enumerate(self.past.frames, 1)
+                         if name == page and content == self.past.of_file(page))
+            text = f"page {page} of FILE has the bytes of frame {frame}"
+        elif why == "cut away":
+            frame = next(i for i, (_, end, _) in enumerate(self.past.frames, 1) if 0 < end < page and end <= self.past.long)
+            text = f"the commit at frame {frame} may have cut page {page} away"
+        else:
+            text = "FILE may have had another length"
+        later = next(later for later in self.commits if later > commit and self.known[later])
+        return (f"sqrescue: note: the database at frame {commit} isn't known: {text}; "
+                f"the first known commit behind it is at frame {later}\n")
+
+    def explains(self):
+        """With -v a refusal names the page, how it was changed, and the next commit that is known."""
+        for commit in [commit for commit in self.commits if not self.known[commit]][:3]:
+            status, out, err = run("check", self.path, "--at", commit, "-v")
+            wanted = self.reason(commit).encode()
+            holds(f"{self.name}: why not {commit}", status == 3 and wanted in err, (wanted, err))
+
     # ---- both sides of a difference
 
     def differs(self, old, new):
@@ -248,13 +271,20 @@ class Files:
                 check(f"{name}: changes", changes_of(out).get(None, []), wanted)
 
     def judge_default(self):
-        """`diff` without words: from the database before the first commit, if that is known."""
+        """`diff` without words: from the first commit that is known, and it says which if that isn't 0."""
         status, out, err = run("diff", self.path, "--json")
-        if not self.known[0]:
-            holds(f"{self.name}: diff is refused", is_refused((status, out, err)), (status, out[:300], err))
-            return
-        wanted = changes_between(self.rows_at(0), self.rows_at(self.past.front))
+        first = next(commit for commit in self.commits if self.known[commit])
+        wanted = changes_between(self.rows_at(first), self.rows_at(self.past.front))
         check(f"{self.name}: diff", (status, changes_of(out).get(None, [])), (0, wanted))
+        note = f"sqrescue: note: the changes begin at frame {first}: no database before it is known\n"
+        check(f"{self.name}: where diff begins", err.decode(), note if first else "")
+        later = [commit for commit in self.commits if commit >= first]
+        status, out, err = run("diff", self.path, "--commits", "--json")
+        if all(self.known[commit] for commit in later):
+            check(f"{self.name}: each commit", (status, changes_of(out)), (0, self.steps(later)))
+        if not self.known[0]:
+            found = run("diff", self.path, "--json", "--from", 0)
+            holds(f"{self.name}: diff from 0 is refused", is_refused(found), found)
 
     def steps(self, commits):
         """What each of these commits changed, by its frame; those that changed nothing aside."""

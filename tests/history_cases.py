@@ -86,6 +86,7 @@ def judged(files, looks=LOOKS, pairs=4):
     files.judge_all(looks=looks)
     files.front_is_shown([*looks, ("show",), ("show", "--log"), ("show", "--commits")])
     files.lists_commits()
+    files.explains()
     rng = random.Random(len(files.log))
     drawn = [(rng.choice(files.commits), rng.choice(files.commits)) for _ in range(pairs)]
     known = [commit for commit in files.commits if files.known[commit]]

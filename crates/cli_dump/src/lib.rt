@@ -1,6 +1,7 @@
 //! The rows of a database as its log has them, over the bytes of files, wherever they come from.
 #![tactic(auto)]
 
+mod begin;
 mod changes;
 mod commits;
 mod deleted;
@@ -13,6 +14,7 @@ mod places;
 mod rows;
 mod salvage;
 
+pub use begin::first_commit;
 pub use changes::show_changes;
 pub use commits::show_history;
 pub use deleted::show_deleted;

@@ -1,19 +1,20 @@
 //! What `diff` prints.
-ghost use Rattle.std.specs.Prelude.{◌≡◌, IfErr, IfOk, false, true};
+ghost use Rattle.std.specs.Prelude.{◌≡◌, ◌↔◌, IfErr, IfOk, IsTrue, false, true};
 ghost use Rattle.cli_files.specs.Files.{opened_bytes};
 ghost use Rattle.cli_job.specs.Opened.{AreOpenedFor, GivesBytes, IsUnopenedFor};
 ghost use Rattle.cli_show.specs.Contents.{AreGiven, contents_of};
-ghost use Rattle.cli_report.specs.Diffs.{Diffs, DiffsTo, ShowsBetween};
+ghost use Rattle.cli_report.specs.Diffs.{Begins, Diffs, DiffsFrom, DiffsTo, FirstOpened, IsUnbegun, NamesFrom};
+ghost use Rattle.cli_report.specs.Diffs.{ShowsBetween};
 ghost use Rattle.cli_report.specs.internal.Diffs.{AreNew, Compares, files_ahead};
 
 use crate::difference::Difference;
 use crate::rows::{KEPT, write_printed};
-use cli_dump::{Printed, show_changes, show_deleted_changes, show_history};
+use cli_dump::{Printed, first_commit, show_changes, show_deleted_changes, show_history};
 use cli_facts::{Notes, Refusal, SystemFile};
 use cli_files::{Count, OpenedFile};
 use cli_history::Files as Lent;
 use cli_job::{Answer, Job, Wants, open_all};
-use cli_show::{Contents, ShowError, read_ahead};
+use cli_show::{Contents, ShowError, limits_of, read_ahead};
 use cli_words::{Compared, Options};
 use sqview::{FileBytes, ReadAhead};
 use std::alloc::Global;
@@ -63,17 +64,103 @@ fn changes_standing<R: Files + AllocGlobal + Clock, M: Count, W: Write, E: Write
 ) -> Result<Printed, Refusal>
 where
     R::File: SystemFile,
-    ensures { Diffs (opened_bytes R.File.bytes)
+    ensures { DiffsFrom (opened_bytes R.File.bytes)
         (GivesBytes R.File.bytes R.File.keeps_word R.File.never_fails) job.entry.now.source.now
         difference.entry result }
 {
     let before = job.before(false, notes)?;
-    let printed = changes_now(job, difference, out, notes);
+    let printed = changes_from(job, difference, out, notes);
     let front = match &printed {
         Ok(printed) => printed.front,
         Err(_) => None,
     };
     job.standing(&before, (false, front), printed, notes)
+}
+
+/// What came of printing changes from the first commit that is known, if the words name none; which one it is is told.
+fn changes_from<R: Files + AllocGlobal + Clock, M: Count, W: Write, E: Write>(
+    job: &Job<'_, R, M>,
+    difference: Difference<'_>,
+    out: &mut W,
+    notes: &mut Notes<'_, E>,
+) -> Result<Printed, Refusal>
+where
+    R::File: SystemFile,
+    ensures { DiffsFrom (opened_bytes R.File.bytes)
+        (GivesBytes R.File.bytes R.File.keeps_word R.File.never_fails) job.entry.now.source.now
+        difference.entry result }
+{
+    match begun(job, difference, notes) {
+        Ok(difference) => changes_now(job, difference, out, notes),
+        Err(refusal) => Err(refusal),
+    }
+}
+
+/// What is compared of what is asked for.
+fn begun<'a, R: Files + AllocGlobal + Clock, M: Count, E: Write>(
+    job: &Job<'_, R, M>,
+    asked: Difference<'a>,
+    notes: &mut Notes<'_, E>,
+) -> Result<Difference<'a>, Refusal>
+where
+    R::File: SystemFile,
+    ensures begins { IfOk result (Begins (opened_bytes R.File.bytes)
+        (GivesBytes R.File.bytes R.File.keeps_word R.File.never_fails) job.entry.now.source.now asked.entry) }
+    ensures refused { IfErr result (IsUnbegun (opened_bytes R.File.bytes)
+        (GivesBytes R.File.bytes R.File.keeps_word R.File.never_fails) job.entry.now.source.now) }
+{
+    match asked {
+        Difference::Rows(compared) => {
+            if names_from(compared) {
+                return Ok(asked);
+            }
+            let from = first_known(job, notes)?;
+            if from > 0 {
+                notes.say(&format_args!(
+                    "the changes begin at frame {from}: no database before it is known"
+                ));
+            }
+            Ok(Difference::Rows(Compared { from, ..compared }))
+        }
+        Difference::Deleted(_) => Ok(asked),
+    }
+}
+
+/// Whether the words name a commit to begin at.
+fn names_from(compared: Compared<'_>) -> bool
+    ensures { IsTrue result ↔ NamesFrom compared.entry }
+{
+    compared
+        .tables
+        .options
+        .iter()
+        .any(|word| *word == "--from" || word.starts_with("--from="))
+}
+
+/// The first commit of the log at which it is known which database was there, of files as they are now.
+fn first_known<R: Files + AllocGlobal + Clock, M: Count, E: Write>(
+    job: &Job<'_, R, M>,
+    notes: &mut Notes<'_, E>,
+) -> Result<u32, Refusal>
+where
+    R::File: SystemFile,
+    ensures first { IfOk result (FirstOpened (opened_bytes R.File.bytes)
+        (GivesBytes R.File.bytes R.File.keeps_word R.File.never_fails) job.entry.now.source.now) }
+    ensures refused { IfErr result (IsUnbegun (opened_bytes R.File.bytes)
+        (GivesBytes R.File.bytes R.File.keeps_word R.File.never_fails) job.entry.now.source.now) }
+{
+    let (paths, options) = (&job.source.paths, job.source.options);
+    match open_all(job.rt, paths, options.super_journal, options.front, notes) {
+        Ok(files) => {
+            let lent = Lent {
+                db: &files.db,
+                wal: &files.wal,
+                journal: &files.journal,
+            };
+            first_commit(job.rt.alloc(), limits_of(options), lent)
+        }
+        Err(refusal) => Err(refusal),
+    }
 }
 
 /// The same of files that are opened for it.

@@ -105,7 +105,7 @@ pub(crate) fn next_step(
             "the database has pointer maps: give check, show --pages or report --pointer-maps",
         Refusal::NoSuchCommit => "show --commits has a line for each commit, which names its frame",
         Refusal::CommitOverwritten =>
-            "a later checkpoint may have changed that database: name a later commit that show --commits lists",
+            "show --commits says of each commit whether it is known: name one that is",
         Refusal::NoSuchPage => "show names the number of pages, in the line that begins with pages",
         Refusal::NoMemory => "the system refused memory: call this again where there is more",
     }

@@ -15,7 +15,7 @@ use cli_files::Progress;
 use cli_held::Locks;
 use cli_job::{Answer, Begun, Job, Source, Until, Watch, alone, source_of};
 use cli_recover::{recover, recover_to};
-use cli_report::{VERSION, print_diff, report_to, salvage_to};
+use cli_report::{VERSION, print_diff, report_to, salvage_to, tell_overwritten};
 use cli_show::ShowError;
 use cli_words::{Options, Request, Style};
 use std::fmt::Display;
@@ -206,13 +206,17 @@ where
         source,
         meter: &meter,
     };
-    match reading {
+    let answer = match reading {
         Reading::Look(look) => answered(&job, &look.command(source.options), out, notes),
         Reading::Diff(difference) => print_diff(&job, difference, out, notes),
         Reading::Copy(to) => recover_to(&job, to, out, notes),
         Reading::Report { to, changes } => report_to(&job, (to, changes), out, notes),
         Reading::Salvage { to, places } => salvage_to(&job, (to, places), out, notes),
+    };
+    if let Err(ShowError::Refused(Refusal::CommitOverwritten)) = answer {
+        tell_overwritten(&job, reading.commits(source.options.at), notes);
     }
+    answer
 }
 
 /// What a reading comes to under these locks. Where they keep the database file as it is, but its journal was changed,

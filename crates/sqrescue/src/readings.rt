@@ -100,6 +100,18 @@ impl<'a> Reading<'a> {
         }
     }
 
+    /// The commits that it reads, if one is asked for: that one, or both that are compared.
+    pub(crate) fn commits(self, at: Option<u32>) -> (u32, Option<u32>) {
+        match self {
+            Reading::Diff(Difference::Rows(compared)) => (compared.from, compared.to),
+            Reading::Diff(Difference::Deleted(between)) => (between.from, between.to),
+            Reading::Look(_)
+            | Reading::Copy(_)
+            | Reading::Report { .. }
+            | Reading::Salvage { .. } => (at.unwrap_or(0), None),
+        }
+    }
+
     /// The same, of this file.
     fn of(self, file: &'a str, options: Options) -> Task<'a>
         ensures { result ≡ Task.Read (read_named self.entry file.entry options) }

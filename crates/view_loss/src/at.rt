@@ -12,6 +12,7 @@ ghost use Rattle.sqpast.specs.Past.{IsSource};
 ghost use Rattle.view_loss.specs.Losses.{IsLossOf};
 
 use crate::loss::{Loss, first_loss};
+use sqpage::PageSource;
 use sqpast::used_count;
 use sqval::Limits;
 use sqview::{FileBytes, View, ViewError};

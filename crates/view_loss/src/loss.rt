@@ -8,7 +8,8 @@ ghost use Rattle.sqview.specs.Laid.{part_or_zeros};
 ghost use Rattle.sqview.specs.Logs.{IsRead};
 ghost use Rattle.sqpast.specs.Past.{IsSource};
 ghost use Rattle.view_loss.specs.Losses.{IsLossAt, LossIsGone};
-ghost use Rattle.view_loss.specs.internal.Reasons.{IsChanged, IsCopyOf, IsCutBy, IsNoCopy, IsNoCut, IsReasonOf};
+ghost use Rattle.view_loss.specs.internal.Reasons.{IsChanged, IsCopiedOf, IsCopyOf, IsCutBy, IsNoCopy, IsNoCut};
+ghost use Rattle.view_loss.specs.internal.Reasons.{IsReasonOf};
 
 use sqpage::SourceError;
 use sqpast::read_table;
@@ -72,8 +73,8 @@ fn is_copied_by<F: FileBytes>(
     ensures read { F.reads_right log.old → IfOk result (λ copied. (most : ℕ)
         → TookWithin most (F.bytes log.old) scan.now → named_size (F.bytes log.old) ≡ page_size
         → IsValidFrame page_size (F.bytes log.old) frame → IsTrue copied
-        ↔ ((page_of page_size (F.bytes log.old) frame ≡ of.0)
-        × (of.1.now ≡ content_of page_size (F.bytes log.old) frame))) }
+        ↔ ((page_of page_size (F.bytes log.old) frame ≡ of.entry.0)
+        × (of.entry.1.now ≡ content_of page_size (F.bytes log.old) frame))) }
     ensures never_fails { F.gives_bytes log.old → IsOk result }
     ensures still_right { F.reads_right log.old → F.reads_right log.new }
     ensures still_gives { F.gives_bytes log.old → F.gives_bytes log.new }
@@ -101,8 +102,8 @@ fn copied_from<F: FileBytes>(
     ensures read { F.reads_right log.old → IfOk result (λ found. (most front : ℕ)
         → TookWithin most (F.bytes log.old) scan.now → named_size (F.bytes log.old) ≡ page_size
         → IsFront page_size (F.bytes log.old) front → 1 ≤ front
-        → MatchOption found (IsNoCopy page_size (F.bytes log.old) front of.0 of.1.now)
-        (IsCopyOf page_size (F.bytes log.old) front of.0 of.1.now)) }
+        → MatchOption found (IsNoCopy page_size (F.bytes log.old) front of.entry.0 of.entry.1.now)
+        (IsCopyOf page_size (F.bytes log.old) front of.entry.0 of.entry.1.now)) }
     ensures never_fails { F.gives_bytes log.old → IsOk result }
 {
     for before in 0..scan.committed().frames {
@@ -138,7 +139,37 @@ fn cut_by(scan: &Scan, page: usize, long: u64) -> Option<u32>
     None
 }
 
-/// Why a page of a file may be another than it was, if it may.
+/// The first frame whose bytes a page of a file has, if one names it.
+fn copied_of<F: FileBytes>(
+    alloc: Global,
+    db: &mut F,
+    log: &mut F,
+    scan: &Scan,
+    page_size: PageSize,
+    page: usize,
+) -> Result<Option<u32>, ViewError>
+    requires { (1 ≤ page) × (page ≤ 2 ^ 40) }
+    ensures right { F.reads_right db.old × F.reads_right log.old → IfOk result (λ found. (most front : ℕ)
+        → TookWithin most (F.bytes log.old) scan.now → named_size (F.bytes log.old) ≡ page_size
+        → IsFront page_size (F.bytes log.old) front → 1 ≤ front
+        → IsCopiedOf page_size (F.bytes log.old) front (F.bytes db.old) page found) }
+    ensures refused { IfErr result IsSource }
+    ensures read { F.gives_bytes db.old × F.gives_bytes log.old → IsRead result }
+    ensures kept { (F.reads_right db.old → F.reads_right db.new) × (F.bytes db.new ≡ F.bytes db.old) }
+{
+    let long = db.len().div_ceil(u64::from(page_size.get()));
+    if page as u64 > long {
+        return Ok(None);
+    }
+    let mut bytes = vec![in alloc; 0u8; page_size.get() as usize]?;
+    let mut other = vec![in alloc; 0u8; page_size.get() as usize]?;
+    let content = bytes.as_mut_slice();
+    db.read_at((page as u64 - 1) * u64::from(page_size.get()), content)?;
+    let found = copied_from(log, scan, page_size, (page, content), other.as_mut_slice())?;
+    Ok(found)
+}
+
+/// Why a page of a file is another than it was: it is copied, or may have been cut away.
 fn reason_of<F: FileBytes>(
     alloc: Global,
     db: &mut F,
@@ -158,17 +189,10 @@ fn reason_of<F: FileBytes>(
     let Some(header) = scan.header() else {
         return Ok(None);
     };
-    let page_size = header.page_size;
-    let long = db.len().div_ceil(u64::from(page_size.get()));
-    let mut bytes = vec![in alloc; 0u8; page_size.get() as usize]?;
-    let mut other = vec![in alloc; 0u8; page_size.get() as usize]?;
-    db.read_at((page as u64 - 1) * u64::from(page_size.get()), bytes.as_mut_slice())?;
-    if page as u64 <= long {
-        let of = (page, bytes.as_slice());
-        if let Some(frame) = copied_from(log, scan, page_size, of, other.as_mut_slice())? {
-            return Ok(Some(Loss::Copied { page, frame }));
-        }
+    if let Some(frame) = copied_of(alloc, db, log, scan, header.page_size, page)? {
+        return Ok(Some(Loss::Copied { page, frame }));
     }
+    let long = db.len().div_ceil(u64::from(header.page_size.get()));
     match cut_by(scan, page, long) {
         Some(frame) => Ok(Some(Loss::CutAway { page, frame })),
         None => Ok(None),

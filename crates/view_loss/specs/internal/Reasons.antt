@@ -6,6 +6,7 @@ use Rattle.history.specs.Checkpoints.{IsCopied}
 use Rattle.history.specs.Known.{IsCutAway}
 use Rattle.view_loss.specs.Losses.{IsReason, lost_page}
 use Rattle.view_loss.specs.declared.loss.Loss.{Loss}
+use Rattle.view_loss.specs.declared.loss.Loss.TheVariants.{Copied}
 
 -- page p of the file is copied, or cut away
 abbrev pub IsChanged : (size : ℕ) → List ℕ → (front : ℕ) (file : List ℕ) (p : ℕ) → Type 0
@@ -38,3 +39,8 @@ IsNoCut size w frames p long = (i : ℕ) → 1 ≤ i → i ≤ frames → IsComm
 abbrev pub IsReasonOf : (size : ℕ) → List ℕ → (front : ℕ) (file : List ℕ) (p : ℕ) → Option Loss → Type 0
 IsReasonOf size w front file p None = ⊥
 IsReasonOf size w front file p (Some loss) = (lost_page loss ≡ p) × IsReason size w front file loss
+
+-- frame i has the bytes of page p of the file, and names it; or none does
+abbrev pub IsCopiedOf : (size : ℕ) → List ℕ → (front : ℕ) (file : List ℕ) (p : ℕ) → (found : Option ℕ) → Type 0
+IsCopiedOf size w front file p (Some i) = IsReason size w front file (Copied p i)
+IsCopiedOf size w front file p None = ¬ ((p ≤ file_pages size file) × IsCopied size w front file p)

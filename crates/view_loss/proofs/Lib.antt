@@ -1,0 +1,2 @@
+mod CopiedFrames
+mod Losses
