@@ -10,6 +10,7 @@
    library look FILE N    the same by a look into the places
    library open FILE N D  opens and closes FILE by its path N times, in a process of D descriptors, and prints how many
                           microseconds that took: the least, and those of the middle
+   library whole FILE N D the same of sqr_recover, which leaves nothing open
    library recover FILE   sqr_recover
    library to FILE OUT    sqr_recover_to */
 #define _DEFAULT_SOURCE
@@ -125,7 +126,15 @@ static int compare_times(const void *a, const void *b) {
     return (left > right) - (left < right);
 }
 
-static int open_and_close(const char *file, int rounds, int descriptors) {
+static int one_call(const char *file, int is_whole) {
+    struct sqr_path *path = NULL;
+    if (is_whole) return sqr_recover(file, 0, NULL, NULL) != SQR_OK;
+    const uint32_t status = sqr_open_path(file, 0, NULL, &path);
+    sqr_close_path(&path);
+    return status != SQR_OK;
+}
+
+static int time_calls(const char *file, int rounds, int descriptors, int is_whole) {
     const struct rlimit many = {(rlim_t)descriptors + 100, (rlim_t)descriptors + 100};
     struct timespec begun, over;
     double *times = calloc((size_t)rounds + 1, sizeof *times);
@@ -133,10 +142,8 @@ static int open_and_close(const char *file, int rounds, int descriptors) {
     for (int fd = 0; fd < descriptors - 1;)
         if ((fd = open("/dev/null", O_RDONLY)) < 0) return 3;
     for (int i = 0; i < rounds; i++) {
-        struct sqr_path *path = NULL;
         clock_gettime(CLOCK_MONOTONIC, &begun);
-        if (sqr_open_path(file, 0, NULL, &path)) return 3;
-        sqr_close_path(&path);
+        if (one_call(file, is_whole)) return 3;
         clock_gettime(CLOCK_MONOTONIC, &over);
         times[i] = (double)(over.tv_sec - begun.tv_sec) * 1e6 + (double)(over.tv_nsec - begun.tv_nsec) / 1e3;
     }
@@ -153,7 +160,8 @@ int main(int argc, char **argv) {
     if (!strcmp(argv[1], "to") && argc > 3) return recover(argv[2], argv[3]);
     if (argc > 3 && (!strcmp(argv[1], "path") || !strcmp(argv[1], "pread")))
         return read_by_path(argv[2], atoi(argv[3]), !strcmp(argv[1], "pread"));
-    if (argc > 4 && !strcmp(argv[1], "open")) return open_and_close(argv[2], atoi(argv[3]), atoi(argv[4]));
+    if (argc > 4 && (!strcmp(argv[1], "open") || !strcmp(argv[1], "whole")))
+        return time_calls(argv[2], atoi(argv[3]), atoi(argv[4]), !strcmp(argv[1], "whole"));
     const uint8_t *db = mapped(argv[2], "", &db_len), *wal = mapped(argv[2], "-wal", &wal_len);
     if (!strcmp(argv[1], "scan")) return scan(wal, wal_len);
     struct sqr_files files = SQR_FILES(db, db_len, wal, wal_len, NULL, 0);

@@ -11,7 +11,6 @@
 #include <string.h>
 
 #define AT_ONCE 65536 /* bytes; no page is longer */
-#define BLOCK 4096    /* as many zeros, or what is left of a piece, become a hole */
 
 struct part { /* a file that is made, by the name that it has meanwhile */
     int fd;
@@ -21,7 +20,7 @@ struct part { /* a file that is made, by the name that it has meanwhile */
 
 struct copied { /* what is copied: the pages of a view, or where it has none the file's bytes */
     struct sqr_call call;
-    const char *path, *to;
+    const char *path, *to, *folder; /* the folder of OUT */
     uint32_t flags, at;
     struct sqr_path from;
     uint64_t *places;
@@ -163,30 +162,13 @@ static uint32_t end(const struct part *part) {
     return status;
 }
 
-static int is_zeros(const uint8_t *bytes, size_t len) {
-    static const uint8_t zeros[BLOCK] = {0};
-    return !memcmp(bytes, zeros, len);
-}
-
-/* Writes bytes but for blocks of zeros, which become holes. */
-static uint32_t put(int fd, const uint8_t *bytes, size_t len, uint64_t at) {
-    uint32_t status = SQR_OK;
-    for (size_t from = 0, end = 0; !status && from < len; from = end) {
-        int are_zeros = is_zeros(bytes + from, len - from < BLOCK ? len - from : BLOCK);
-        while (end < len && is_zeros(bytes + end, len - end < BLOCK ? len - end : BLOCK) == are_zeros)
-            end = len - end < BLOCK ? len : end + BLOCK;
-        if (!are_zeros) status = sqr_file_write(fd, bytes + from, end - from, at + from);
-    }
-    return status;
-}
-
-/* Bytes of FILE, with zeros for those that it doesn't have. If they aren't copied yet they are read: FILE needs no
-   memory then, and an error of the disk is a status. */
+/* Bytes of FILE, with zeros for those that it doesn't have. If malloc hasn't a copy of them they are read: FILE needs
+   no memory then, and an error of the disk is a status. */
 static uint32_t take(const struct sqr_path *from, struct run *run) {
     const struct sqr_opened *db = &from->db;
     while (run->len) {
         ssize_t more = 0;
-        if (!db->is_copy) more = pread(from->held.file, run->to, run->len, (off_t)run->at);
+        if (!db->is_heap) more = pread(from->held.file, run->to, run->len, (off_t)run->at);
         else if (run->at < db->len) {
             more = (ssize_t)(db->len - run->at < run->len ? db->len - run->at : run->len);
             memcpy(run->to, db->bytes + run->at, (size_t)more);
@@ -227,18 +209,22 @@ static uint32_t put_pages(int fd, const struct copied *it, uint8_t *buffer) {
     for (uint32_t done = 0, count; !status && done < pages; done += count) {
         count = pages - done < at_once ? pages - done : (uint32_t)at_once;
         status = take_pages(it, done + 1, count, buffer);
-        if (!status) status = put(fd, buffer, count * each, (uint64_t)done * each);
+        if (!status) status = sqr_file_put(fd, buffer, count * each, (uint64_t)done * each);
     }
     return status;
 }
 
+/* FILE as it stands. Its holes aren't read, unless it was copied before: it may have other holes since then. */
 static uint32_t put_file(int fd, const struct copied *it, uint8_t *buffer) {
-    const size_t all = it->from.files.db_len;
+    const off_t all = (off_t)it->from.files.db_len;
     uint32_t status = SQR_OK;
-    for (size_t at = 0, len; !status && at < all; at += len) {
-        len = all - at < AT_ONCE ? all - at : AT_ONCE;
-        status = take(&it->from, &(struct run){at, len, buffer});
-        if (!status) status = put(fd, buffer, len, at);
+    for (struct sqr_data next = {0, 0}; !status && next.at < all;) {
+        if (it->from.db.is_heap) next.end = all;
+        else if (next.at == next.end) next = sqr_file_data(it->from.held.file, next.at, all);
+        const size_t len = next.end - next.at < AT_ONCE ? (size_t)(next.end - next.at) : AT_ONCE;
+        status = take(&it->from, &(struct run){(uint64_t)next.at, len, buffer});
+        if (!status) status = sqr_file_put(fd, buffer, len, (uint64_t)next.at);
+        next.at += (off_t)len;
     }
     return status;
 }
@@ -273,6 +259,7 @@ static uint32_t make(const struct copied *it) {
 static uint32_t look(struct copied *it) {
     const int is_past = (it->flags & SQR_AT) != 0;
     const uint32_t how = is_past ? it->flags : (it->flags & SQR_NO_LOCK) | SQR_FILES_ONLY;
+    it->from.db.folder = it->from.wal.folder = it->from.journal.folder = it->folder;
     uint32_t status = sqr_path_begin(&it->from, it->path, how, it->at);
     it->call.is_held_up = status == SQR_IN_USE;
     if (status) return status;
@@ -303,9 +290,10 @@ static void copy_once(struct sqr_task *task, struct sqr_call *call) {
 
 static uint32_t copied(struct copied *it, const char *path, const struct sqr_options *options) {
     struct sqr_asked asked = {0, 0};
-    char real[PATH_MAX];
+    char real[PATH_MAX], folder[PATH_MAX + 16];
     uint32_t status = sqr_file_asked(path, it->flags, SQR_NO_LOCK | SQR_AT, options, real, &asked);
-    it->path = real, it->at = asked.at;
+    folder_of(folder, it->to);
+    it->path = real, it->at = asked.at, it->folder = folder;
     return status ? status : sqr_call_run(copy_once, &it->call, real, NULL, asked.wait);
 }
 

@@ -147,7 +147,8 @@ uint32_t sqr_file_is_hot(int journal, uint64_t len, int *is_hot) {
 uint32_t sqr_file_bytes(int fd, size_t len, int is_copy, struct sqr_opened *out) {
     if (len == 0) return SQR_OK;
     if (len > PTRDIFF_MAX) return SQR_TOO_LARGE;
-    out->is_copy = is_copy;
+    if (is_copy && len > SQR_COPIED) return sqr_file_aside(fd, len, out);
+    out->is_copy = out->is_heap = is_copy;
     out->bytes = is_copy ? malloc(len) : mmap(NULL, len, PROT_READ, MAP_SHARED, fd, 0);
     if (!out->bytes || out->bytes == MAP_FAILED) {
         out->bytes = NULL;
@@ -158,7 +159,7 @@ uint32_t sqr_file_bytes(int fd, size_t len, int is_copy, struct sqr_opened *out)
 }
 
 void sqr_file_give_back(struct sqr_opened *it) {
-    if (it->bytes && it->is_copy) free(it->bytes);
+    if (it->bytes && it->is_heap) free(it->bytes);
     else if (it->bytes) munmap(it->bytes, it->len);
     memset(it, 0, sizeof *it);
 }

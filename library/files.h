@@ -7,10 +7,13 @@
 #include "../locks/held.h"
 #include <sys/stat.h>
 
+#define MOST_PAGES 2097152 /* of 512 bytes, in a database that isn't too large */
+
 struct sqr_opened { /* the bytes of a file; none of one that is missing or empty */
     uint8_t *bytes;
     size_t len;
-    int is_copy;
+    int is_copy, is_heap; /* the bytes are ours, since they were copied; they are malloc's */
+    const char *folder;   /* where a long copy lies if it can, before /var/tmp and /tmp; NULL for none */
 };
 
 struct sqr_path {
@@ -22,7 +25,7 @@ struct sqr_path {
     uint64_t *places;
     char *index;             /* the name of FILE-shm, if the bytes are of one moment as long as it isn't there */
     int is_locked, is_alone; /* alone: no connection was live, and WRITE is held on that account alone */
-    int copies;              /* what no lock keeps is copied, however long: a handle stays of one moment */
+    int copies;              /* FILE is copied if no lock keeps it, however long: a handle stays of one moment */
 };
 
 struct sqr_asked { /* as the crate's Asked */
@@ -63,15 +66,30 @@ uint32_t sqr_file_log(int file, const char *path, const char *end, int how, int 
 uint32_t sqr_file_is_hot(int journal, uint64_t len, int *is_hot);
 
 /* The first `len` bytes of a file, mapped or copied. */
-#define SQR_COPIED 4194304 /* bytes: a longer file is copied for a handle alone */
+#define SQR_COPIED 4194304 /* bytes: the copy of a longer file takes no memory, but a file without a name */
 uint32_t sqr_file_bytes(int fd, size_t len, int is_copy, struct sqr_opened *out);
+
+/* The next bytes of a file between two holes, or its ends, from a place on; behind the last of them none, at `len`. If
+   the file system isn't known to say rightly where holes are, these are all bytes. */
+struct sqr_data {
+    off_t at, end;
+};
+struct sqr_data sqr_file_data(int fd, off_t at, off_t len);
+
+/* Copies the first `len` bytes of a file to one without a name, and maps that. SQR_IN_USE if it has become shorter. */
+uint32_t sqr_file_aside(int fd, size_t len, struct sqr_opened *out);
+
+/* Whether a file still has the bytes of its copy, at least their length, and a name. */
+uint32_t sqr_file_has(int fd, const struct sqr_opened *copy, int *has);
+
 void sqr_file_give_back(struct sqr_opened *it);
 
 /* The milliseconds of a clock that goes on. */
 uint64_t sqr_file_now(void);
 
-/* All of these bytes at a place of a file, from 0. */
+/* All of these bytes at a place of a file, from 0; the second doesn't write blocks of zeros, which become holes. */
 uint32_t sqr_file_write(int fd, const uint8_t *bytes, size_t len, uint64_t at);
+uint32_t sqr_file_put(int fd, const uint8_t *bytes, size_t len, uint64_t at);
 
 /* What a recovery of the files comes to, with memory of malloc's for its places; and the size of their database, zeros
    where it has none. */

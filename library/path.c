@@ -53,9 +53,6 @@ static uint32_t front_of(int index, int log, size_t *len) {
     return SQR_IN_USE;
 }
 
-/* Whether a file of this length is copied if no lock keeps it as it is. */
-static int is_copied(const struct sqr_path *of, uint64_t len) { return of->copies || len <= SQR_COPIED; }
-
 static uint32_t read_wal(struct sqr_path *of, const char *path, enum how how) {
     struct stat found;
     int fd;
@@ -63,23 +60,9 @@ static uint32_t read_wal(struct sqr_path *of, const char *path, enum how how) {
     if (status) return status;
     size_t len = fd < 0 ? 0 : (size_t)found.st_size;
     if (how == FRONT) status = front_of(of->held.index, fd, &len);
-    if (!status && fd >= 0) status = sqr_file_bytes(fd, len, how == NO_INDEX && is_copied(of, len), &of->wal);
+    if (!status && fd >= 0) status = sqr_file_bytes(fd, len, how == NO_INDEX, &of->wal);
     if (fd >= 0) close(fd);
     return status;
-}
-
-/* Whether a file still has these bytes at its front. */
-static uint32_t has_still(int fd, const uint8_t *bytes, size_t len, int *has) {
-    uint8_t again[4096];
-    *has = 1;
-    for (size_t at = 0; *has && at < len;) {
-        ssize_t more = pread(fd, again, len - at < sizeof again ? len - at : sizeof again, (off_t)at);
-        if (more < 0 && errno == EINTR) continue;
-        if (more < 0) return sqr_file_status(errno);
-        *has = more > 0 && !memcmp(again, bytes + at, (size_t)more);
-        at += (size_t)more;
-    }
-    return SQR_OK;
 }
 
 /* Whether a connection is about to write (RESERVED, os.h): it has written nothing to FILE, which SHARED keeps, so its
@@ -89,19 +72,15 @@ static int is_reserved(const struct sqr_path *of) {
     return of->is_locked && !fcntl(of->held.file, F_OFD_GETLK, &at) && at.l_type != F_UNLCK;
 }
 
-/* A hot journal is copied, by a call that ends up to SQR_COPIED alone, since a connection that reads from before its
-   writer died may write and cut it. If a second reading of all of it finds other bytes it is a live writer's, as above.
-   The header alone doesn't tell: over the records of an earlier transaction (persist) half of a record may be copied
-   whose sum, which is over each 200th byte, is right all the same. Otherwise it is mapped. */
+/* A hot journal is copied, since a connection that reads from before its writer died may write and cut it. If a second
+   reading of all of it finds other bytes it is a live writer's, as above. The header alone doesn't tell: over the
+   records of an earlier transaction (persist) half of a record may be copied whose sum, which is over each 200th byte,
+   is right all the same. */
 static uint32_t read_hot(struct sqr_path *of, int fd, const struct stat *found) {
-    const int is_copy = is_copied(of, (uint64_t)found->st_size);
-    struct stat again;
     int has = 1;
-    uint32_t status = sqr_file_bytes(fd, (size_t)found->st_size, is_copy, &of->journal);
-    if (!status) status = is_copy ? has_still(fd, of->journal.bytes, of->journal.len, &has)
-                                  : sqr_file_is_hot(fd, (uint64_t)found->st_size, &has);
-    if (!status && fstat(fd, &again)) status = sqr_file_status(errno);
-    if (!status && (!has || again.st_size < found->st_size || again.st_nlink == 0)) sqr_file_give_back(&of->journal);
+    uint32_t status = sqr_file_bytes(fd, (size_t)found->st_size, 1, &of->journal);
+    if (!status) status = sqr_file_has(fd, &of->journal, &has);
+    if (!status && !has) sqr_file_give_back(&of->journal);
     return status;
 }
 
@@ -119,22 +98,36 @@ static uint32_t read_journal(struct sqr_path *of, const char *path) {
     return status;
 }
 
-/* FILE may change while SHARED alone is held if it is in WAL mode, or has such a log. It is copied then, by a call that
-   ends up to SQR_COPIED alone: a longer one is unchanged as long as there is no FILE-shm, since SHARED keeps all from
-   deleting that. */
-static uint32_t read_file(struct sqr_path *of, const char *path, enum how how) {
+/* FILE may change while SHARED alone is held if it is in WAL mode, or has such a log. A short one is copied then, and
+   one of which an earlier commit is asked for, since more than its header is read soon. A longer one is unchanged as
+   long as there is no FILE-shm, since SHARED keeps all from deleting that. */
+static uint32_t read_file(struct sqr_path *of, const char *path, enum how how, uint32_t flags) {
     struct stat found;
     uint8_t version = 0;
     int fd;
     uint32_t status = sqr_file_again(of->held.file, path, &fd, &found);
     if (status) return status;
     int may_change = how == NO_INDEX && (is_there(path, "-wal") || pread(fd, &version, 1, 19) != 1 || version == 2);
-    status = sqr_file_bytes(fd, (size_t)found.st_size, may_change && is_copied(of, (uint64_t)found.st_size), &of->db);
+    const int is_read = found.st_size <= SQR_COPIED || (flags & SQR_AT && of->wal.len);
+    status = sqr_file_bytes(fd, (size_t)found.st_size, may_change && is_read, &of->db);
     close(fd);
-    if (status || !may_change || (of->db.is_copy && (!of->wal.bytes || of->wal.is_copy))) return status;
+    if (status || !may_change || of->db.is_heap) return status;
     of->index = malloc(strlen(path) + sizeof "-shm");
     if (!of->index) return SQR_NO_MEMORY;
     sqr_file_name(of->index, path, "-shm");
+    return SQR_OK;
+}
+
+/* A handle has a copy of such a FILE, which is made once it isn't refused. */
+static uint32_t settle(struct sqr_path *of) {
+    struct sqr_opened copy = {NULL, 0, 0, 0, NULL};
+    if (!of->copies || !of->index || !of->db.len || of->db.is_copy) return SQR_OK;
+    uint32_t status = sqr_file_bytes(of->held.file, of->db.len, 1, &copy);
+    if (status) return status;
+    of->files.db = copy.bytes;
+    if (of->view.db == of->db.bytes) of->view.db = copy.bytes;
+    sqr_file_give_back(&of->db);
+    of->db = copy;
     return SQR_OK;
 }
 
@@ -144,26 +137,9 @@ uint32_t sqr_path_kept(const struct sqr_path *of) {
     return lstat(of->index, &found) && errno == ENOENT ? SQR_OK : SQR_IN_USE;
 }
 
-/* The pages of the database at a commit, or 0 where there is no such commit. */
-static uint32_t pages_at(const struct sqr_files *files, uint32_t frame, uint32_t *pages) {
-    uint32_t count = 0;
-    struct sqr_commit none = {0, 0, 0}, *commits;
-    *pages = 0;
-    uint32_t status = sqr_wal_commits(files->wal, files->wal_len, &none, 0, &count);
-    if (status != SQR_NO_ROOM) return status == SQR_NO_MEMORY ? status : SQR_OK;
-    commits = calloc(count, sizeof *commits);
-    if (!commits) return SQR_NO_MEMORY;
-    status = sqr_wal_commits(files->wal, files->wal_len, commits, count, &count);
-    for (uint32_t i = 0; !status && i < count; i++)
-        if (commits[i].frame == frame) *pages = commits[i].pages;
-    free(commits);
-    return status;
-}
-
 static uint32_t open_view(struct sqr_path *of, uint32_t flags, uint32_t at) {
-    uint32_t page_size = 0, pages = 0, status;
-    if (flags & SQR_AT) status = pages_at(&of->files, at, &pages);
-    else status = sqr_size(&of->files, &page_size, &pages);
+    uint32_t page_size = 0, pages = MOST_PAGES, status = SQR_OK;
+    if (!(flags & SQR_AT)) status = sqr_size(&of->files, &page_size, &pages);
     if (status) return status;
     of->places = calloc((size_t)pages + 1, sizeof *of->places);
     if (!of->places) return SQR_NO_MEMORY;
@@ -195,16 +171,17 @@ uint32_t sqr_path_begin(struct sqr_path *of, const char *path, uint32_t flags, u
     if (of->is_locked) status = how_held(&of->held, &how);
     if (!status) status = read_wal(of, path, how);
     if (!status) status = read_journal(of, path);
-    if (!status) status = read_file(of, path, how);
+    if (!status) status = read_file(of, path, how, flags);
     if (!status && how == NO_INDEX && is_there(path, "-shm")) status = SQR_IN_USE;
     if (status) return status;
     of->files = (struct sqr_files)SQR_FILES(of->db.bytes, of->db.len, of->wal.bytes, of->wal.len, of->journal.bytes,
                                             of->journal.len);
     of->is_alone = how == SCANNED_ALONE;
-    if (flags & SQR_FILES_ONLY) return SQR_OK;
-    status = open_view(of, flags, at);
+    if (!(flags & SQR_FILES_ONLY)) status = open_view(of, flags, at);
+    if (!status) status = settle(of);
     if (sqr_path_kept(of)) return SQR_IN_USE;
-    if (!status) sqr_path_let_write(of, &of->view);
+    if (of->copies) free(of->index), of->index = NULL;
+    if (!status && !(flags & SQR_FILES_ONLY)) sqr_path_let_write(of, &of->view);
     return status;
 }
 

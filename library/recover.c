@@ -8,8 +8,7 @@
 #include <limits.h>
 #include <stdlib.h>
 
-#define AT_ONCE 65536      /* bytes; no page is longer */
-#define MOST_PAGES 2097152 /* of 512 bytes, in a database that isn't too large */
+#define AT_ONCE 65536 /* bytes; no page is longer */
 
 enum { WAL, JOURNAL };
 
@@ -65,13 +64,15 @@ uint32_t sqr_file_plan(const struct sqr_files *files, uint64_t **places, struct 
     return SQR_OK;
 }
 
-/* Reads the first `len` bytes of a file, so that an error of the disk is a status, and then maps them. */
+/* Reads the first `read` bytes of a file but its holes, so that an error of the disk is a status, and then maps it. */
 static uint32_t map(int fd, size_t len, size_t read, uint8_t *buffer, struct sqr_opened *out) {
-    for (size_t at = 0; at < read;) {
-        ssize_t more = pread(fd, buffer, read - at < AT_ONCE ? read - at : AT_ONCE, (off_t)at);
+    struct sqr_data it = sqr_file_data(fd, 0, (off_t)read);
+    for (; it.at < it.end; it = it.at < it.end ? it : sqr_file_data(fd, it.at, (off_t)read)) {
+        const size_t left = (size_t)(it.end - it.at);
+        ssize_t more = pread(fd, buffer, left < AT_ONCE ? left : AT_ONCE, it.at);
         if (more < 0 && errno != EINTR) return sqr_file_status(errno);
         if (more == 0) return SQR_FILE_FAILED;
-        if (more > 0) at += (size_t)more;
+        if (more > 0) it.at += more;
     }
     return sqr_file_bytes(fd, len, 0, out);
 }

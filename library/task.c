@@ -55,13 +55,16 @@ static int close_other(int fd, const void *with) {
     return 0;
 }
 
+/* The highest number of these and of the standard streams. */
+static unsigned highest_of(const int *ends) {
+    const int high = ends[KEPT] > ends[SENT] ? ends[KEPT] : ends[SENT];
+    return high > 2 ? (unsigned)high : 2;
+}
+
 /* Closes all but the standard streams and these, in the separate table. */
 static void close_others(const int *ends) {
-    unsigned low = ends[KEPT] > 2 ? (unsigned)ends[KEPT] : 2, high = ends[SENT] > 2 ? (unsigned)ends[SENT] : 2;
-    if (low > high) {
-        unsigned other = low;
-        low = high, high = other;
-    }
+    const int other = ends[KEPT] < ends[SENT] ? ends[KEPT] : ends[SENT];
+    const unsigned high = highest_of(ends), low = other > 2 ? (unsigned)other : 2;
     if (close_range_of(high + 1, UINT_MAX, 0)) {
         if (for_each(close_other, ends) < 0)
             for (long fd = sysconf(_SC_OPEN_MAX); --fd > 2;) close_other((int)fd, ends);
@@ -82,10 +85,23 @@ static int is_apart(int witness) {
     return !fcntl(witness, F_GETLK, &lock) && lock.l_type == F_WRLCK;
 }
 
-/* Gets a separate table. The first call closes nothing, since no descriptor has this number: Docker's profile
-   refuses unshare, and allows that. */
+static int is_seen; /* close_range has given a task its own table here, so it may leave out what would be closed */
+
+/* A task that parks nothing needs no descriptor but the streams: that the witness isn't there proves it then. */
+static int goes_bare(const struct sqr_task *of) {
+    return of->ends[SENT] < 0 && !close_range_of(3, UINT_MAX, UNSHARE)
+        && syscall(SYS_fcntl, of->ends[KEPT], F_GETFD) < 0 && errno == EBADF;
+}
+
+/* Gets a separate table. The first call of a process closes nothing, since no descriptor has this number: Docker's
+   profile refuses unshare, and allows that. Later ones copy no descriptor behind the socket. */
 static int goes_apart(struct sqr_task *of) {
-    if (!close_range_of(UINT_MAX, UINT_MAX, UNSHARE) && is_apart(of->ends[KEPT])) return 1;
+    if (__atomic_load_n(&is_seen, __ATOMIC_RELAXED)) {
+        if (goes_bare(of)) return 1;
+        close_range_of(highest_of(of->ends) + 1, UINT_MAX, UNSHARE);
+    } else if (!close_range_of(UINT_MAX, UINT_MAX, UNSHARE) && is_apart(of->ends[KEPT]))
+        __atomic_store_n(&is_seen, 1, __ATOMIC_RELAXED);
+    if (is_apart(of->ends[KEPT])) return 1;
     if (!syscall(SYS_unshare, CLONE_FILES) && is_apart(of->ends[KEPT])) return 1;
     of->why = errno;
     return 0;

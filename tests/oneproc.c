@@ -1,30 +1,37 @@
 /* Calls the C library by path in a process that has locks on the files, as SQLite has them.
 
-   oneproc in BOX COMMAND..    runs a command under a filter of the system's calls: `docker` refuses unshare and
-                               clone3, as Docker's default profile does; `old` has no close_range, as Linux before 5.9;
-                               `closed` has none of them; `plain` has no filter
+   oneproc old COMMAND..       runs a command without close_range(2), as on Linux before 5.9
    oneproc keeps FILE ROOM     the process's locks outlive each call, and nothing else is left
    oneproc hostile FILE ROOM   threads that are cancelled, signals, closed streams, no descriptor left, forked children
+   oneproc odd FILE ROOM       10,000 descriptors, other users, no thread, too many descriptors in flight, a new
+                               namespace, SIGTERM, a file that is replaced or cut; what the system doesn't allow here,
+                               such as another user, isn't counted
+   oneproc two FILE ROOM A B   two versions of the library, A and B, in one process
    oneproc alone FILE ROOM     where there is no task: a process of one thread, and one that has FILE open
+   oneproc size FILE ROOM      calls by path, and prints how many KiB they took at most, but for mapped files
 
-   The last line of all but `in` is 'N passed, M failed'. */
+   The last line of all but `old` and `size` is 'N passed, M failed'. */
 #define _GNU_SOURCE
 #include "frame.h"
 
 #include <dirent.h>
+#include <dlfcn.h>
 #include <errno.h>
 #include <fcntl.h>
 #include <linux/filter.h>
 #include <linux/seccomp.h>
 #include <pthread.h>
+#include <sched.h>
 #include <signal.h>
 #include <stddef.h>
+#include <sys/fsuid.h>
 #include <sys/prctl.h>
 #include <sys/resource.h>
 #include <sys/stat.h>
 #include <sys/syscall.h>
 #include <sys/time.h>
 #include <sys/wait.h>
+#include <time.h>
 #include <unistd.h>
 
 #define LOCKED 5           /* SQLite doesn't lock this byte, and the library doesn't either */
@@ -35,26 +42,16 @@ static int children, alarms;
 
 /* ---- a filter */
 
-#define NUMBER BPF_STMT(BPF_LD | BPF_W | BPF_ABS, offsetof(struct seccomp_data, nr))
-#define ANSWER(what) BPF_STMT(BPF_RET | BPF_K, what)
-#define REFUSED(call, error) \
-    BPF_JUMP(BPF_JMP | BPF_JEQ | BPF_K, call, 0, 1), ANSWER(SECCOMP_RET_ERRNO | (error))
-#define NOTHING 0xffffff /* the number of no call */
-
-static int in_box(char **words) {
-    const int is_docker = !strcmp(words[0], "docker"), is_old = !strcmp(words[0], "old");
-    const int is_closed = !strcmp(words[0], "closed");
+static int without_close_range(char **words) {
     struct sock_filter rules[] = {
-        NUMBER,
-        REFUSED(is_docker || is_closed ? SYS_unshare : NOTHING, EPERM),
-        REFUSED(is_docker || is_closed ? SYS_clone3 : NOTHING, ENOSYS),
-        REFUSED(is_old || is_closed ? SYS_close_range : NOTHING, ENOSYS),
-        ANSWER(SECCOMP_RET_ALLOW),
+        BPF_STMT(BPF_LD | BPF_W | BPF_ABS, offsetof(struct seccomp_data, nr)),
+        BPF_JUMP(BPF_JMP | BPF_JEQ | BPF_K, SYS_close_range, 0, 1),
+        BPF_STMT(BPF_RET | BPF_K, SECCOMP_RET_ERRNO | ENOSYS),
+        BPF_STMT(BPF_RET | BPF_K, SECCOMP_RET_ALLOW),
     };
     struct sock_fprog all = {sizeof rules / sizeof *rules, rules};
-    if (strcmp(words[0], "plain")
-        && (prctl(PR_SET_NO_NEW_PRIVS, 1, 0, 0, 0) || prctl(PR_SET_SECCOMP, SECCOMP_MODE_FILTER, &all))) return 2;
-    execvp(words[1], words + 1);
+    if (prctl(PR_SET_NO_NEW_PRIVS, 1, 0, 0, 0) || prctl(PR_SET_SECCOMP, SECCOMP_MODE_FILTER, &all)) return 2;
+    execvp(words[0], words);
     return 2;
 }
 
@@ -167,7 +164,13 @@ static int keeps(const char *file) {
     each_call(file, 0);
     are_locked(file, locked);
     const int before = descriptors(), had = children;
-    for (int i = 0; i < 200; i++) opened(file, 0);
+    int late = 0;
+    for (int i = 0; i < 200; i++) {
+        struct flock whole = {.l_type = F_WRLCK, .l_whence = SEEK_SET, .l_start = SHARED, .l_len = 510};
+        opened(file, 0);
+        late += fcntl(locked[0], F_OFD_GETLK, &whole) || whole.l_type != F_UNLCK;
+    }
+    check(!late, "all locks are given back when a call ends");
     for (int i = 0; i < 20; i++) copied(file), recovered(file);
     check(descriptors() == before, "no descriptor is left");
     check(threads(own) == own, "no thread is left");
@@ -218,9 +221,14 @@ static void under_alarms(void) {
 }
 
 static int without_streams(void) { /* in a child */
+    struct sqr_path *path = NULL;
+    int is_open = 0;
     close(0), close(1), close(2);
-    if (opened(thread_file, 0) || copied(thread_file) || recovered(thread_file)) return 1;
-    return fcntl(0, F_GETFD) >= 0 || fcntl(1, F_GETFD) >= 0 || fcntl(2, F_GETFD) >= 0;
+    if (copied(thread_file) || recovered(thread_file) || sqr_open_path(thread_file, 0, NULL, &path)) return 1;
+    for (int fd = 0; fd < 3; fd++) is_open += fcntl(fd, F_GETFD) >= 0;
+    sqr_close_path(&path);
+    for (int fd = 0; fd < 3; fd++) is_open += fcntl(fd, F_GETFD) >= 0;
+    return is_open != 0;
 }
 
 static int with_descriptors(int free_ones) { /* in a child: what opening answers where so many are free */
@@ -310,6 +318,217 @@ static int hostile(const char *file) {
     return 0;
 }
 
+/* ---- odd processes; each of these parts runs in a child, and answers 0 if all is well, or SKIPPED */
+
+#define SKIPPED 98
+#define NOBODY 54321
+
+static int locked_first(const char *file) { /* a descriptor of FILE with a lock, as SQLite has */
+    struct flock own = on(LOCKED, F_WRLCK);
+    int fd = open(file, O_RDWR);
+    return fd >= 0 && !fcntl(fd, F_SETLK, &own) ? fd : -1;
+}
+
+static int is_refused(uint32_t status, uint32_t wanted, int error) { return status == wanted && errno == error; }
+
+static int are_refused(const char *file, uint32_t wanted, int error) {
+    return is_refused(opened(file, 0), wanted, error) && is_refused(copied(file), wanted, error)
+        && is_refused(recovered(file), wanted, error);
+}
+
+static int are_right(const char *file) {
+    return opened(file, 0) == SQR_OK && copied(file) == SQR_OK && recovered(file) == SQR_OK;
+}
+
+static int with_many_descriptors(int count) {
+    const struct rlimit many = {(rlim_t)count + 100, (rlim_t)count + 100};
+    if (setrlimit(RLIMIT_NOFILE, &many)) return SKIPPED;
+    if (locked_first(thread_file) < 0) return 1;
+    for (int i = 0; i < count; i++) if (dup(0) < 0) return 2;
+    const int before = descriptors();
+    for (int i = 0; i < 3; i++) if (!are_right(thread_file)) return 3;
+    return descriptors() != before ? 4 : is_kept(thread_file, LOCKED) ? 0 : 5;
+}
+
+static int as_nobody(void) { return !setgid(NOBODY) && !setuid(NOBODY); }
+
+static int without_threads(int nothing) {
+    struct rlimit usual, none;
+    (void)nothing;
+    if (!as_nobody() || getrlimit(RLIMIT_NPROC, &usual)) return SKIPPED;
+    none = (struct rlimit){0, usual.rlim_max};
+    if (setrlimit(RLIMIT_NPROC, &none)) return SKIPPED;
+    if (!are_right(thread_file)) return 1;
+    if (locked_first(thread_file) < 0 || !are_refused(thread_file, SQR_SHARED_PROCESS, EAGAIN)) return 2;
+    return !setrlimit(RLIMIT_NPROC, &usual) && is_kept(thread_file, LOCKED) ? 0 : 3;
+}
+
+/* The rights are those of the thread that calls: FILE is root's alone. */
+static int by_rights(int is_of_thread) {
+    if (getuid()) return SKIPPED;
+    if (!are_right(thread_file) || chmod(thread_file, 0600)) return 1;
+    if (is_of_thread) setfsuid(NOBODY);
+    else if (!as_nobody()) return SKIPPED;
+    if (!are_refused(thread_file, SQR_NOT_READABLE, EACCES)) return 2;
+    if (is_of_thread) setfsuid(0);
+    return is_of_thread && !are_right(thread_file) ? 3 : 0;
+}
+
+static int in_flight(int most) {
+    const struct rlimit few = {(rlim_t)most, (rlim_t)most};
+    struct sqr_path *all[200] = {NULL};
+    uint32_t status = SQR_OK;
+    int count = 0;
+    if (!as_nobody() || setrlimit(RLIMIT_NOFILE, &few)) return SKIPPED;
+    while (count < 199 && !(status = sqr_open_path(thread_file, SQR_FILES_ONLY, NULL, &all[count]))) count++;
+    if (count < most / 2 || !is_refused(status, SQR_FILE_FAILED, ETOOMANYREFS) || all[count]) return 1;
+    if (copied(thread_file)) return 2; /* it parks nothing */
+    sqr_close_path(&all[0]);
+    if (opened(thread_file, 0)) return 3;
+    while (count) sqr_close_path(&all[--count]);
+    return is_kept(thread_file, SHARED);
+}
+
+static int in_new_namespace(int nothing) {
+    (void)nothing;
+    if (locked_first(thread_file) < 0) return 1;
+    if (unshare(CLONE_NEWPID)) return SKIPPED;
+    if (!are_refused(thread_file, SQR_SHARED_PROCESS, EINVAL)) return 2; /* no thread may be made, and no process is */
+    pid_t child = fork();
+    if (!child) _exit(getpid() == 1 && are_refused(thread_file, SQR_SHARED_PROCESS, EINVAL) ? 3 : 0);
+    return ended(child);
+}
+
+/* SIGTERM ends a process at once while it waits for a lock. */
+static int while_waiting(int is_recovery) {
+    struct flock pending = {.l_type = F_WRLCK, .l_whence = SEEK_SET, .l_start = 1073741824, .l_len = 1};
+    struct timespec begun, over;
+    int file = open(thread_file, O_RDWR), status = 0;
+    if (file < 0 || fcntl(file, F_OFD_SETLK, &pending)) return 1;
+    pid_t child = fork();
+    if (!child) {
+        struct sqr_options options = SQR_OPTIONS_INIT;
+        struct sqr_path *path = NULL;
+        options.wait = 20000;
+        _exit(is_recovery ? (int)sqr_recover(thread_file, 0, &options, NULL)
+                          : (int)sqr_open_path(thread_file, 0, &options, &path));
+    }
+    usleep(100000);
+    clock_gettime(CLOCK_MONOTONIC, &begun);
+    kill(child, SIGTERM);
+    while (waitpid(child, &status, 0) < 0 && errno == EINTR) {}
+    clock_gettime(CLOCK_MONOTONIC, &over);
+    return WIFSIGNALED(status) && WTERMSIG(status) == SIGTERM && over.tv_sec - begun.tv_sec < 5 ? 0 : 2;
+}
+
+/* What is open stays as it was: FILE is replaced by another, or a database in WAL mode that nobody has open is cut. */
+static int while_open(int is_cut) {
+    char index[4200];
+    uint8_t before[65536], after[65536];
+    struct sqr_path *path = NULL;
+    snprintf(index, sizeof index, "%s-shm", thread_file);
+    if (copied(thread_file) || (is_cut && recovered(thread_file))) return 1;
+    if (is_cut && (unlink(index) || truncate(thread_file, 32 << 20))) return 2;
+    if (sqr_open_path(thread_file, SQR_FILES_ONLY, NULL, &path)) return 3;
+    const struct sqr_files *files = sqr_path_files(path);
+    const size_t len = files->db_len, last = len - 512;
+    memcpy(before, files->db, 512), memcpy(before + 512, files->db + last, 512);
+    if (is_cut ? truncate(thread_file, 0) : rename(out, thread_file)) return 4;
+    memcpy(after, files->db, 512), memcpy(after + 512, files->db + last, 512);
+    sqr_close_path(&path);
+    if (memcmp(before, after, 1024)) return 5;
+    return opened(thread_file, 0) == (is_cut ? SQR_NOT_A_DATABASE : SQR_OK) ? 0 : 6;
+}
+
+static void is_well(int (*asked)(int), int with, const char *what) {
+    const int answer = answered(asked, with);
+    if (answer == SKIPPED) return;
+    if (answer) fprintf(stderr, "%s: %d\n", what, answer);
+    check(answer == 0, what);
+}
+
+static void for_all(const char *file) { /* every user may read and write it */
+    char name[4200];
+    for (int i = 0; i < 4; i++) {
+        snprintf(name, sizeof name, "%s%s", file, ends[i]);
+        if (chmod(name, 0666) && errno != ENOENT) check(0, "the modes of FILE");
+    }
+}
+
+static int odd(const char *file) {
+    thread_file = file;
+    for_all(file);
+    is_well(with_many_descriptors, 10000, "10,000 descriptors");
+    is_well(without_threads, 0, "no thread may be made");
+    is_well(in_flight, 60, "too many descriptors in flight");
+    is_well(in_new_namespace, 0, "a new namespace of processes");
+    is_well(while_waiting, 0, "SIGTERM while a path is to be opened");
+    is_well(while_waiting, 1, "SIGTERM while one is to be recovered");
+    is_well(by_rights, 1, "a thread's rights");
+    is_well(by_rights, 0, "a process that has given up its rights");
+    for_all(file);
+    is_well(while_open, 0, "a file that is replaced");
+    is_well(while_open, 1, "a file that is cut");
+    return 0;
+}
+
+/* ---- two versions */
+
+struct version {
+    void *at;
+    uint32_t (*open)(const char *, uint32_t, const struct sqr_options *, struct sqr_path **);
+    void (*close)(struct sqr_path **);
+};
+
+static struct version loaded(const char *name) {
+    struct version it = {dlopen(name, RTLD_NOW | RTLD_LOCAL), NULL, NULL};
+    if (!it.at) return it;
+    *(void **)&it.open = dlsym(it.at, "sqr_open_path");
+    *(void **)&it.close = dlsym(it.at, "sqr_close_path");
+    return it;
+}
+
+static int two(const char *file, char **names) {
+    check(locked_first(file) >= 0, "a lock of the process's own");
+    const int before = descriptors();
+    for (int i = 0; i < 50; i++) {
+        struct version both[2] = {loaded(names[0]), loaded(names[1])};
+        struct sqr_path *paths[2] = {NULL, NULL};
+        check(both[0].open && both[1].open && both[0].open != both[1].open, "two versions are loaded");
+        for (int k = 0; k < 2; k++) check(both[k].open(file, 0, NULL, &paths[k]) == SQR_OK, "each opens the path");
+        both[i % 2].close(&paths[i % 2]);
+        check(is_kept(file, SHARED), "the other's lock is there still");
+        both[1 - i % 2].close(&paths[1 - i % 2]);
+        check(!is_kept(file, SHARED) && is_kept(file, LOCKED), "and then the process's own alone");
+        dlclose(both[0].at), dlclose(both[1].at);
+    }
+    check(descriptors() == before, "no descriptor is left");
+    return 0;
+}
+
+/* ---- how much memory is taken */
+
+static long own_memory(void) { /* the most so far, in KiB */
+    struct rusage used;
+    return getrusage(RUSAGE_SELF, &used) ? -1 : used.ru_maxrss;
+}
+
+static int size(const char *file) {
+    const long before = own_memory();
+    struct sqr_path *path = NULL;
+    uint32_t said[5];
+    for (int i = 0; i < 2; i++) {
+        said[i] = sqr_open_path(file, i ? SQR_FILES_ONLY : 0, NULL, &path);
+        sqr_close_path(&path);
+    }
+    said[2] = copied(file);
+    unlink(out);
+    said[3] = sqr_recover_to(file, out, SQR_AT, NULL, NULL);
+    said[4] = recovered(file);
+    for (int i = 0; i < 5; i++) printf("%s, ", sqr_status_name(said[i]));
+    return printf("%ld KiB\n", own_memory() - before) < 0;
+}
+
 /* ---- without a task */
 
 static void *sleeps(void *gate) {
@@ -341,12 +560,15 @@ static int alone(const char *file) {
 }
 
 int main(int argc, char **argv) {
-    if (argc > 3 && !strcmp(argv[1], "in")) return in_box(argv + 2);
+    if (argc > 2 && !strcmp(argv[1], "old")) return without_close_range(argv + 2);
     if (argc < 4) return 2;
     at_hand = argv[1];
     names_at(argv[3]);
+    if (!strcmp(argv[1], "size")) return size(argv[2]);
     if (!strcmp(argv[1], "keeps")) keeps(argv[2]);
     if (!strcmp(argv[1], "hostile")) hostile(argv[2]);
+    if (!strcmp(argv[1], "odd")) odd(argv[2]);
+    if (!strcmp(argv[1], "two") && argc > 5) two(argv[2], argv + 4);
     if (!strcmp(argv[1], "alone")) alone(argv[2]);
     return summed();
 }

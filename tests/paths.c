@@ -57,8 +57,10 @@ static int answer(const char *file, uint32_t flags) {
 }
 
 static int memory(char **files) {
+    static const uint32_t all[] = {0, SQR_FILES_ONLY, SQR_FILES_ONLY | SQR_NO_LOCK, SQR_AT, SQR_NO_LOCK | SQR_AT};
     for (; *files; files++) {
-        for (uint32_t flags = 0; flags < 8; flags += 3) {
+        for (size_t which = 0; which < sizeof all / sizeof *all; which++) {
+            const uint32_t flags = all[which];
             size_t total = 0;
             uint32_t right = SQR_OK;
             for (size_t number = 0; number <= total; number++) {

@@ -3,6 +3,7 @@
     with View("ledger.db") as view:         # takes the locks of a reader of SQLite, and writes nothing
         print(len(view), view.page_size)
         first = view[1]                     # pages are counted from 1
+        view.read_into(2, buffer)           # a page into a buffer of your own
         for page in view:
             ...
         view.check()                        # a Report, or the exception Damaged
@@ -495,14 +496,19 @@ class View:
 
     def __getitem__(self, number):
         """The bytes of a page."""
+        page = ctypes.create_string_buffer(self.page_size)
+        self.read_into(number, page)
+        return page.raw
+
+    def read_into(self, number, buffer):
+        """Writes the bytes of a page to a writable buffer, such as a bytearray; ValueError if it is shorter."""
         number = operator.index(number)
         with self._source:
             view, _ = self._opened()
             if not 0 < number <= view.pages:
                 raise NoSuchPage(f"page {number} of {view.pages}")
-            page = ctypes.create_string_buffer(view.page_size)
+            page = (ctypes.c_char * view.page_size).from_buffer(buffer)
             _judge(_library.sqr_page(view, number, page, view.page_size))
-        return page.raw
 
     def __iter__(self):
         return (self[number] for number in range(1, len(self) + 1))
