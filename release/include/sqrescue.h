@@ -16,8 +16,8 @@
 
    - Ownership. All memory is the caller's. Nothing is kept between calls but what the caller holds, nothing is opened
      or closed, no file is touched (but by path; written by sqr_recover and sqr_recover_to alone), and there is no
-     global state. A call may ask malloc for memory, and gives it back before it returns, sqr_close_path where
-     sqr_open_path asked.
+     global state, except that a call by path notes whether close_range(2) works. A call may ask malloc for memory, and
+     gives it back before it returns, sqr_close_path where sqr_open_path asked.
    - One moment (README's A4). The bytes of the three files are of one moment: nobody wrote to them from before the
      first was read until the last was. Nothing in them says so where it isn't so. By path the locks see to it.
    - Pointers. A pointer with a length names that many bytes or places. It is never NULL, with the length 0 neither:
@@ -124,7 +124,7 @@ enum sqr_status
     SQR_UNKNOWN_OPTIONS = 24, /* a flag or an option that this version doesn't know, or a size that isn't one */
     SQR_MISUSE = 25,        /* NULL where a pointer has to be; sqr_recover_to: OUT is the name of a log of FILE */
     SQR_NOT_WRITABLE = 26,  /* sqr_recover, sqr_recover_to, as all that follow: the system doesn't let FILE, FILE-shm
-                               or the log that counts be written, or OUT be made */
+                               or the log that counts be written, or OUT be made; by path, no copy can be made */
     SQR_ALREADY_THERE = 27, /* something lies at OUT */
     SQR_DISK_FULL = 28,     /* there is no space left for it, or a limit of the size of files is reached. SIGXFSZ ends a
                                process that doesn't ignore it only if the call has no task */
@@ -342,7 +342,8 @@ enum sqr_flag {
     SQR_AT = 4,           /* sqr_open_path, sqr_recover_to, sqr_check_with, sqr_check_deep, sqr_page_roles: the
                              database at a commit, as sqr_open_at */
     SQR_LARGE = 8,        /* sqr_check_with, sqr_check_deep, sqr_page_roles: a database of up to 2^40 bytes, and a log
-                             of up to 2^32 - 2 valid frames, where otherwise 2^30 and 2^21 are too large */
+                             of up to 2^32 - 2 valid frames, where otherwise 2^30 and 2^21 are too large. Memory is then
+                             for as many pages as the log says, even if it has few: 2^28 pages take over 2 GiB */
     SQR_POINTER_MAPS = 16 /* sqr_check_with, sqr_page_roles: a database of auto-vacuum too, with its pointer maps
                              (fileformat2, 1.8), which otherwise is refused by SQR_AUTO_VACUUM; sqr_check_deep judges
                              them with it or without */
@@ -556,7 +557,7 @@ uint32_t sqr_journal_scan(const uint8_t *journal, size_t len, struct sqr_record 
    order, is proved, and so is how much of the log counts by FILE-shm. While a path is open its bytes stand for one
    committed database, beside any number of connections of SQLite that read and write: README's A4 is then kept by these
    locks, but for programs that keep none (cp, mv, rm, an editor; SQLite by unix-none, unix-dotfile, nolock or
-   immutable). Nothing is written to FILE, its logs or FILE-shm, and no file is made.
+   immutable). Nothing is written to FILE, its logs or FILE-shm, and no file is made but copies without a name.
 
    - In WAL mode others aren't held up: they read, write and open it. A checkpoint is busy, so the log may grow; so is a
      change of the journal mode, and each commit with a rollback journal, which answer SQLITE_BUSY or wait as long as
@@ -564,14 +565,20 @@ uint32_t sqr_journal_scan(const uint8_t *journal, size_t len, struct sqr_record 
    - Writers in WAL mode wait as well where FILE-shm can't be opened for writing, and with SQR_FILES_ONLY where no
      connection was live: then the log alone says its front, and may not grow.
    - FILE and its logs are mapped. No lock keeps the bytes of a database in WAL mode that has no FILE-shm, so its
-     files are copied into memory, and a hot journal too. Of a journal that isn't hot, `journal` has the header alone,
-     28 bytes at most.
+     files are copied, and a hot journal too. Of a journal that isn't hot, `journal` has the header alone, 28 bytes at
+     most.
+   - A copy of up to 4 MiB is in memory. A longer one is a file without a name, which ends with the handle. It is in
+     /var/tmp, or else in /tmp; sqr_recover_to first tries OUT's folder. Holes stay holes, and the copy takes at most
+     half of the free room there. Otherwise the call is refused by SQR_DISK_FULL, or by SQR_NOT_WRITABLE if no folder
+     can be used. So a call takes at most 16 MiB of memory, whatever lies beside FILE, besides its maps and what
+     sqr_size takes for frames, records and pages.
    - What is mapped and can't be read ends the process (SIGBUS): the disk fails, or a program that keeps no locks cuts
      the file. sqr_recover reads the logs to their ends first, so that their errors are its status.
 
-   A process that has FILE open, by SQLite or otherwise, may make each call: it loses no lock. The system gives back all
-   POSIX locks that a process has on a file when it closes any descriptor of it (fcntl(2)), and so SQLite's. Here no
-   descriptor of FILE, its logs, FILE-shm or OUT is ever opened or closed in the table of descriptors of the process:
+   A service that keeps its database open with SQLite can make any of these calls, also in Docker's default container,
+   and loses nothing. So can each process that has FILE open: it loses no lock. The system gives back all POSIX locks
+   that a process has on a file when it closes any descriptor of it (fcntl(2)), and so SQLite's. Here no descriptor of
+   FILE, its logs, FILE-shm or OUT is ever opened or closed in the table of descriptors of the process:
 
    - Each call runs in a task: a thread that gets a separate table by close_range(2) with CLOSE_RANGE_UNSHARE (Linux
      5.9), or else by unshare(2) with CLONE_FILES. The thread ends with the call. It proves that the table is separate
@@ -600,7 +607,8 @@ struct sqr_options {
 
 /* Opens the database that a path leads to, with the logs beside it, and takes the locks. `options` may be NULL. Where
    it isn't SQR_OK the handle is NULL and nothing is kept. Refused by SQR_MISUSE, SQR_UNKNOWN_OPTIONS, SQR_NOT_THERE ..
-   SQR_FILE_FAILED, SQR_NO_MEMORY, and without SQR_FILES_ONLY as sqr_open or sqr_open_at is. Memory is malloc's, until
+   SQR_FILE_FAILED, SQR_NO_MEMORY, without SQR_FILES_ONLY as sqr_open or sqr_open_at is, and by SQR_NOT_WRITABLE or
+   SQR_DISK_FULL if a copy can't be made. Memory is malloc's, until
    it is closed. */
 uint32_t sqr_open_path(const char *path, uint32_t flags, const struct sqr_options *options, struct sqr_path **handle);
 
