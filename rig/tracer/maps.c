@@ -131,7 +131,7 @@ enum answer ask_mmap(struct call *call) {
     struct file *file = find_file(&seen.state);
     if (!file || !S_ISREG(seen.state.st_mode) || (seen.flags & O_ACCMODE) != O_RDWR) return PASS;
     if (file->below) refuse(BELOW, NULL, call->kind->text, file->below, NULL);
-    else if (!watch(file, call->thread, (int)call->args[4])) {
+    else if (!watch(file, call->thread, (int)call->args[4]) && !was_killed(call->thread)) {
         refuse(SHARED_MAP, file, call->kind->text, name_in_text(file), NULL);
     }
     return PASS;

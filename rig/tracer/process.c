@@ -176,6 +176,12 @@ int open_reader(struct thread *thread, int descriptor) {
     return reader >= 0 ? reader : open(path, O_RDONLY | O_CLOEXEC | O_NONBLOCK);
 }
 
+/* Whether a thread that was stopped at a call has been killed there: it never makes that call. */
+int was_killed(struct thread *thread) {
+    unsigned long message;
+    return ptrace(PTRACE_GETEVENTMSG, thread->id, NULL, &message) < 0 && errno == ESRCH;
+}
+
 /* ---- Paths. */
 
 static int standard(const char *path) { /* the number of the descriptor that it is another name of */

@@ -158,6 +158,7 @@ int read_memory(struct thread *thread, uint64_t from, void *to, size_t count);
 int read_text(struct thread *thread, uint64_t from, char *to, size_t room);
 int look(struct thread *thread, int descriptor, struct seen *seen);
 int open_reader(struct thread *thread, int descriptor);
+int was_killed(struct thread *thread);
 int path_here(struct thread *thread, int at, uint64_t path, char *to, size_t room);
 int side_open(struct thread *thread, int at, uint64_t path, struct side *side);
 void side_close(struct side *side);

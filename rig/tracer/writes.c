@@ -164,6 +164,7 @@ static enum answer enter_file(struct call *call, const struct stat *state, void 
     call->end = end;
     call->reader = open_reader(call->thread, call->descriptor);
     if (call->reader >= 0) return ENTER;
+    if (was_killed(call->thread)) return PASS;
     refuse(UNSEEN, call->file, call->kind->text, name_in_text(call->file), "a file that the recorder can't read");
     return PASS;
 }
