@@ -16,7 +16,7 @@ mod progress;
 mod watch;
 
 pub use fronts::{FrameHead, Seen, as_before};
-pub use hints::{ToldRefusal, tell_dropped, tell_length, told};
+pub use hints::{ToldRefusal, tell_counts, tell_dropped, tell_length, told};
 pub use in_use::{OpenElsewhere, is_index_live, tell_unread};
 pub use journals::names_super_journal;
 pub use logs::{Beheld, Beside, counting_log, open_database, open_logs, tell_alone};
