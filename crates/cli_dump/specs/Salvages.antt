@@ -14,4 +14,4 @@ IsScripted d size places before after whole = ((length d ≡ 0) × (whole ≡ tr
 abbrev pub IsSalvageShown : (at : Commit) → (places : Bool) → (db wal journal : List ℕ) → (before after : Option (List ℕ)) → Result Bool Stop → Type 0
 IsSalvageShown at places db wal journal before after ended =
     (size : ℕ) × (d : Database) × AskedShows at size db wal journal d
-    × MatchResult ended (IsScripted d size places before after) (λ stop. IsScriptStopped d size stop before after)
+    × MatchResult ended (IsScripted d size places before after) (λ stop. IsScriptStopped d size places stop before after)

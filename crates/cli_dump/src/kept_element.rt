@@ -151,6 +151,8 @@ fn word_of_stop(stop: &Stop) -> &'static str
         Stop::Default => "default not understood",
         Stop::Behind => "more columns than the table has",
         Stop::Encoding => "text encoding",
+        Stop::NotNamed => "a name with NUL or CR",
+        Stop::LeftOut(_) => "texts or tables left out",
         Stop::NoSuchTable => "no such table",
         Stop::NoMemory => "no memory",
         Stop::Write(error) => word_of_write(error.kind()),

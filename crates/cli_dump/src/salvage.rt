@@ -35,7 +35,7 @@ fn write_script<S: PageSource, W: Write>(
     ensures ok { S.gives_pages source.old → IfOk result (IsScripted (S.pages source.old) (S.size source.old) places
         (W.contents out.old) (W.contents out.new)) }
     ensures err { S.gives_pages source.old → IfErr result (λ stop. IsScriptStopped (S.pages source.old)
-        (S.size source.old) stop (W.contents out.old) (W.contents out.new)) }
+        (S.size source.old) places stop (W.contents out.old) (W.contents out.new)) }
 {
     if source.count() == 0 {
         return Ok(true);

@@ -43,7 +43,8 @@ answer_of_unsound faults.Source = Err (errors.Refused FileFailed)
 answer_of_unsound faults.NoMemory = Err (errors.Refused NoMemory)
 answer_of_unsound _ = Ok Damaged
 
--- what comes of rows that ended so: a tree that isn't sound and a row that is no record are damage
+-- What comes of rows that ended so. A tree that isn't sound and a row that is no record are damage, and so is what a script
+-- has to leave out.
 abbrev pub answer_of_rows : Result (Unit {0}) Stop → Result Answer ShowError
 answer_of_rows (Ok done) = Ok Done
 answer_of_rows (Err (stops.Fault error)) = answer_of_unsound error.fault
@@ -56,6 +57,8 @@ answer_of_rows (Err stops.NotUnderstood) = Ok (Refused NotUnderstood)
 answer_of_rows (Err stops.Default) = Ok (Refused NotUnderstood)
 answer_of_rows (Err stops.Behind) = Ok (Refused NotUnderstood)
 answer_of_rows (Err stops.Encoding) = Ok (Refused NotUnderstood)
+answer_of_rows (Err stops.NotNamed) = Ok (Refused NotUnderstood)
+answer_of_rows (Err (stops.LeftOut n)) = Ok Damaged
 
 -- what comes of a script that ended so: one that doesn't have the whole database is damage
 abbrev pub answer_of_script : Result Bool Stop → Result Answer ShowError

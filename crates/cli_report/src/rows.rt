@@ -44,14 +44,14 @@ fn answer_of(stop: &Stop) -> Result<Answer, ShowError>
 {
     match stop {
         Stop::Fault(error) => answer_of_unsound(error.fault),
-        Stop::Record(_) => Ok(Answer::Damaged),
+        Stop::Record(_) | Stop::LeftOut(_) => Ok(Answer::Damaged),
         Stop::TooLong => Err(ShowError::Refused(Refusal::TooLarge)),
         Stop::NoMemory => Err(ShowError::Refused(Refusal::NoMemory)),
         Stop::Write(error) => Err(unwritten(error)),
         Stop::NoSuchTable => Ok(Answer::Refused(Untold::NoSuchTable)),
-        Stop::NotUnderstood | Stop::Default | Stop::Behind | Stop::Encoding => {
-            Ok(Answer::Refused(Untold::NotUnderstood))
-        }
+        Stop::NotUnderstood | Stop::Default | Stop::Behind | Stop::Encoding | Stop::NotNamed => Ok(
+            Answer::Refused(Untold::NotUnderstood),
+        ),
     }
 }
 

@@ -146,7 +146,7 @@ fn whole(salvaged: Result<Salvaged, Refusal>, flushed: io::Result<()>) -> Result
             Ok(
                 Salvaged {
                     front,
-                    ended: Ok(_),
+                    ended: Ok(_) | Err(Stop::LeftOut(_)),
                 },
             ),
             Err(error),
@@ -173,14 +173,24 @@ where
     let mut made = new_page(job, to.0, notes)?;
     let salvaged = script_filled(job, &mut made, to.1, notes);
     let written = match &salvaged {
-        Ok(Salvaged { ended: Ok(_), .. }) => Ok(()),
+        Ok(
+            Salvaged {
+                ended: Ok(_) | Err(Stop::LeftOut(_)),
+                ..
+            },
+        ) => Ok(()),
         Ok(_) => Err(Refusal::FileFailed),
         Err(refusal) => Err(*refusal),
     };
     match named(job, made, written, notes) {
         Ok(()) => salvaged,
         Err(refusal) => match salvaged {
-            Ok(Salvaged { ended: Ok(_), .. }) => Err(refusal),
+            Ok(
+                Salvaged {
+                    ended: Ok(_) | Err(Stop::LeftOut(_)),
+                    ..
+                },
+            ) => Err(refusal),
             salvaged => salvaged,
         },
     }

@@ -43,6 +43,10 @@ is_left_out (Spaced v) = false
 is_left_out RowOfSchema = true
 is_left_out (Comment why) = true
 
+-- The text of an object of this type and name was printed as `t`.
+abbrev pub IsTextPrinted : (kind name sql t : List ℕ) → Type 0
+IsTextPrinted kind name sql t = (p : Printed) × IsJudged kind name sql p × (t ≡ printed_text sql p)
+
 -- bytes as a text, in the encoding of the database that reads them
 abbrev pub cast_text : List ℕ → List ℕ
 cast_text bytes = codes "CAST(X'" ++ (encode_lower bytes ++ codes "' AS TEXT)")

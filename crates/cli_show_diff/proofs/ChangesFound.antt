@@ -11,7 +11,7 @@ use Rattle.sqrows.specs.declared.rows.Rows.{Rows}
 use Rattle.sqrows.specs.RowCursor.{IsAtRow}
 use Rattle.sqtables.specs.declared.columns.Columns.{Columns}
 use Rattle.cli_show_rows.specs.declared.stop.Stop.{Stop}
-use Rattle.cli_show_rows.specs.declared.stop.Stop.TheVariants.{Fault, Record, TooLong, NotUnderstood, Default, Behind, Encoding, NoSuchTable, NoMemory, Write}
+use Rattle.cli_show_rows.specs.declared.stop.Stop.TheVariants.{Fault, Record, TooLong, NotUnderstood, Default, Behind, Encoding, NotNamed, LeftOut, NoSuchTable, NoMemory, Write}
 use Rattle.sqdiff.specs.Changes.{Change, inserted, deleted, changed}
 use Rattle.cli_show_diff.specs.internal.TableDiffs.{ChangesLeft, ChangesMove, IsAtChange, new_rows, old_rows}
 use Rattle.cli_show_diff.specs.declared.table_diff.TableDiff.{TableDiff}
@@ -106,6 +106,8 @@ module _ (diff : TableDiff) (kind : Kind) (writing : Writing) (key : Option KeyO
   unwritten Behind not h = at_only (λ x. IsUnwritten writing key columns x Behind) h
   unwritten Encoding not h = at_only (λ x. IsUnwritten writing key columns x Encoding) h
   unwritten NoSuchTable not h = at_only (λ x. IsUnwritten writing key columns x NoSuchTable) h
+  unwritten NotNamed not h = at_only (λ x. IsUnwritten writing key columns x NotNamed) h
+  unwritten (LeftOut k) not h = at_only (λ x. IsUnwritten writing key columns x (LeftOut k)) h
   unwritten NoMemory not h = at_only (λ x. IsUnwritten writing key columns x NoMemory) h
   unwritten (Write error) not h = at_only (λ x. IsUnwritten writing key columns x (Write error)) h
 

@@ -11,7 +11,7 @@ use Rattle.sqrows.specs.declared.payload.PayloadError.TheVariants.{TooLong as Pa
 use Rattle.sqrows.specs.declared.rows.RowsError.TheVariants.{Tree, Payload}
 use Rattle.sqtables.specs.declared.columns.Columns.{Columns}
 use Rattle.cli_show_rows.specs.declared.stop.Stop.{Stop}
-use Rattle.cli_show_rows.specs.declared.stop.Stop.TheVariants.{Fault, Record, TooLong, NotUnderstood, Default, Behind, Encoding, NoSuchTable, NoMemory, Write}
+use Rattle.cli_show_rows.specs.declared.stop.Stop.TheVariants.{Fault, Record, TooLong, NotUnderstood, Default, Behind, Encoding, NotNamed, LeftOut, NoSuchTable, NoMemory, Write}
 use Rattle.sqdiff.specs.Changes.{Change, inserted, deleted, changed, Rise, rowids}
 use Rattle.sqdiff.specs.DiffCursor.{AreRefused, AreNotBegun}
 use Rattle.sqkeydiff.specs.KeyChanges.{Ascend, keys_of}
@@ -124,5 +124,7 @@ module _ (d e : Database) (writing : Writing) (key : Option KeyOrder) (columns :
   found_stops diff kind Behind c rest same at h = (c, rest, same, h c at)
   found_stops diff kind Encoding c rest same at h = (c, rest, same, h c at)
   found_stops diff kind NoSuchTable c rest same at h = (c, rest, same, h c at)
+  found_stops diff kind NotNamed c rest same at h = (c, rest, same, h c at)
+  found_stops diff kind (LeftOut k) c rest same at h = (c, rest, same, h c at)
   found_stops diff kind NoMemory c rest same at h = tt
   found_stops diff kind (Write error) c rest same at h = tt

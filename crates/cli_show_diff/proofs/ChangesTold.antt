@@ -4,7 +4,7 @@ use Rattle.std.specs.Io.KnownBytes.{Appends}
 use Rattle.std.proofs.KnownBytes.{Appends-nil, Appends-trans}
 use Rattle.sqval.specs.Database.{Database}
 use Rattle.cli_show_rows.specs.declared.stop.Stop.{Stop}
-use Rattle.cli_show_rows.specs.declared.stop.Stop.TheVariants.{Fault, Record, TooLong, NotUnderstood, Default, Behind, Encoding, NoSuchTable, NoMemory, Write}
+use Rattle.cli_show_rows.specs.declared.stop.Stop.TheVariants.{Fault, Record, TooLong, NotUnderstood, Default, Behind, Encoding, NotNamed, LeftOut, NoSuchTable, NoMemory, Write}
 use Rattle.cli_show_rows.specs.Stops.{WrittenUntil}
 use Rattle.sqdiff.specs.Changes.{Change}
 use Rattle.cli_show_diff.specs.Sorted.{HasChangesBy}
@@ -42,6 +42,8 @@ written_until Default before mid after t appended kept = subst (λ o. Appends be
 written_until Behind before mid after t appended kept = subst (λ o. Appends before o t) kept appended
 written_until Encoding before mid after t appended kept = subst (λ o. Appends before o t) kept appended
 written_until NoSuchTable before mid after t appended kept = subst (λ o. Appends before o t) kept appended
+written_until NotNamed before mid after t appended kept = subst (λ o. Appends before o t) kept appended
+written_until (LeftOut n) before mid after t appended kept = subst (λ o. Appends before o t) kept appended
 written_until NoMemory before mid after t appended kept = subst (λ o. Appends before o t) kept appended
 written_until (Write e) before mid after t appended kept = tt
 
@@ -54,6 +56,8 @@ kept_same Default out = refl
 kept_same Behind out = refl
 kept_same Encoding out = refl
 kept_same NoSuchTable out = refl
+kept_same NotNamed out = refl
+kept_same (LeftOut n) out = refl
 kept_same NoMemory out = refl
 kept_same (Write e) out = tt
 

@@ -19,7 +19,7 @@ use Rattle.sqrows.specs.internal.Passing.{ArePassed, Passes}
 use Rattle.sqrows.proofs.PassedRows.{none_passed, one_passed, come_first, holds_at, tree_fault}
 use Rattle.sqtables.specs.declared.columns.Columns.{Columns}
 use Rattle.cli_show_rows.specs.declared.stop.Stop.{Stop}
-use Rattle.cli_show_rows.specs.declared.stop.Stop.TheVariants.{Fault, Record, TooLong, NotUnderstood, Default, Behind, Encoding, NoSuchTable, NoMemory, Write}
+use Rattle.cli_show_rows.specs.declared.stop.Stop.TheVariants.{Fault, Record, TooLong, NotUnderstood, Default, Behind, Encoding, NotNamed, LeftOut, NoSuchTable, NoMemory, Write}
 use Rattle.cli_show_rows.specs.internal.Stopping.{stop_of_row}
 use Rattle.sqdiff.specs.Changes.{Change}
 use Rattle.sqkeydiff.specs.declared.key.KeyOrder.{KeyOrder}
@@ -90,6 +90,8 @@ module _ (d : Database) (root : ℕ) (comes : Bool) (style : Style) where
   row_stops cursor rows Behind limit passed h = holds_at d root cursor rows (HasUnwritable d style.writing style.key style.columns.now Behind) passed h
   row_stops cursor rows Encoding limit passed h = holds_at d root cursor rows (HasUnwritable d style.writing style.key style.columns.now Encoding) passed h
   row_stops cursor rows NoSuchTable limit passed h = holds_at d root cursor rows (HasUnwritable d style.writing style.key style.columns.now NoSuchTable) passed h
+  row_stops cursor rows NotNamed limit passed h = holds_at d root cursor rows (HasUnwritable d style.writing style.key style.columns.now NotNamed) passed h
+  row_stops cursor rows (LeftOut n) limit passed h = holds_at d root cursor rows (HasUnwritable d style.writing style.key style.columns.now (LeftOut n)) passed h
   row_stops cursor rows NoMemory limit passed h = tt
   row_stops cursor rows (Write error) limit passed h = tt
 
@@ -128,7 +130,11 @@ write_stops d writing key columns comes old new row (Write error) passes h = tt
 write_stops d writing key columns true old new row Encoding passes h = absurd h
 write_stops d writing key columns false old new row Encoding passes h = absurd h
 write_stops d writing key columns true old new row NoSuchTable passes h = absurd h
+write_stops d writing key columns true old new row NotNamed passes h = absurd h
+write_stops d writing key columns true old new row (LeftOut n) passes h = absurd h
 write_stops d writing key columns false old new row NoSuchTable passes h = absurd h
+write_stops d writing key columns false old new row NotNamed passes h = absurd h
+write_stops d writing key columns false old new row (LeftOut n) passes h = absurd h
 write_stops d writing key columns true old new row NotUnderstood passes h = λ xs left. let n = passes xs left in (n.0, n.1, n.2, (row, n.3, h))
 write_stops d writing key columns false old new row NotUnderstood passes h = λ xs left. let n = passes xs left in (n.0, n.1, n.2, (row, n.3, h))
 write_stops d writing key columns true old new row Default passes h = λ xs left. let n = passes xs left in (n.0, n.1, n.2, (row, n.3, h))

@@ -1,5 +1,5 @@
 -- The changes between two databases as they are printed, and why they aren't (own).
-use Rattle.std.specs.Prelude.{◌≡◌, ◌≢◌, ◌⊎◌, ◌≤◌, ℕ, Bool, true, false, List, [], ◌∷◌, length, map, take, slice_get, Option, Some, None, All}
+use Rattle.std.specs.Prelude.{◌≡◌, ◌≢◌, ◌⊎◌, ◌<◌, ◌≤◌, ℕ, Bool, true, false, List, [], ◌∷◌, length, map, take, slice_get, Option, Some, None, All}
 use Rattle.std.specs.Borrow.{Bor}
 use Rattle.std.specs.Io.KnownBytes.{Appends}
 use Rattle.std.specs.List.{Contains}
@@ -11,15 +11,17 @@ use Rattle.sqdeep.specs.declared.text.Encoding.{Encoding}
 use Rattle.sqdeep.specs.declared.text.Encoding.TheVariants.{Utf8}
 use Rattle.sqdeep.specs.Records.{encoding_of}
 use Rattle.cli_show_rows.specs.declared.stop.Stop.{Stop}
-use Rattle.cli_show_rows.specs.declared.stop.Stop.TheVariants.{Encoding as Encodings, NotUnderstood, NoSuchTable}
+use Rattle.cli_show_rows.specs.declared.stop.Stop.TheVariants.{Encoding as Encodings, LeftOut, NotUnderstood, NoSuchTable}
+use Rattle.cli_schema_text.specs.Comments.{count_text}
 use Rattle.cli_show_rows.specs.Schemas.{HasObjectsRead}
-use Rattle.cli_show_rows.specs.Stops.{IsWriteError, SchemaRefused}
+use Rattle.cli_show_rows.specs.Stops.{IsUnheaded, SchemaRefused}
 use Rattle.cli_show_diff.specs.declared.changes.Schemas.{Schemas}
 use Rattle.cli_show_diff.specs.declared.form.ChangeForm.{ChangeForm}
 use Rattle.cli_show_diff.specs.declared.pair.Pair.{Pair}
 use Rattle.cli_show_diff.specs.declared.turn.Turn.{Turn}
 use Rattle.cli_show_diff.specs.declared.turn.Side.TheVariants.{Old, New}
-use Rattle.cli_show_diff.specs.Frames.{IsWritten, closing_text, opening_text}
+use Rattle.cli_show_diff.specs.Frames.{IsClosingText, IsOpeningText, IsWritten}
+use Rattle.cli_show_diff.specs.LeftOut.{LeavesOut}
 use Rattle.cli_show_diff.specs.Pairs.{IsPairPrinted, IsPairStopped}
 use Rattle.cli_show_diff.specs.Turns.{AreTurnsPrinted, AreTurnsStopped, IsFound}
 
@@ -106,18 +108,38 @@ abbrev pub AreAskedStopped : Database → Database → Schemas → (names : List
 AreAskedStopped d e schemas [] form stop before after = AreAllStopped d e schemas form stop before after
 AreAskedStopped d e schemas (name ∷ names) form stop before after = AreNamedStopped d e schemas (name ∷ names) form stop before after
 
--- They were printed between what stands before and behind them.
-abbrev pub AreFramedPrinted : Database → Database → Schemas → (names : List (List ℕ)) → ChangeForm → Encoding → (before after : Option (List ℕ)) → Type 0
-AreFramedPrinted d e schemas names form encoding before after =
-    (begun ended : Option (List ℕ)) × Appends before begun (opening_text form encoding schemas.old.now) × AreAskedPrinted d e schemas names form begun ended
-    × Appends ended after (closing_text form schemas.new.now)
+-- They were printed between what stands before and behind them, and so many objects, or texts, are left out.
+pub record AreFramed (d e : Database) (schemas : Schemas) (names : List (List ℕ)) (form : ChangeForm) (encoding : Encoding) (left : ℕ) (before after : Option (List ℕ)) : Type 0 where
+  pub opening : List ℕ
+  pub opens : IsOpeningText form encoding schemas.old.now schemas.new.now opening
+  pub begun : Option (List ℕ)
+  pub first : Appends before begun opening
+  pub ended : Option (List ℕ)
+  pub asked : AreAskedPrinted d e schemas names form begun ended
+  pub closing : List ℕ
+  pub closes : IsClosingText form schemas.new.now closing
+  pub last : Appends ended after closing
+  pub counted : LeavesOut form names schemas.old.now schemas.new.now left
 
--- They weren't: the writer failed, an object can't be written, or the printing stopped behind what stands before.
+-- They were, and none is left out.
+abbrev pub AreFramedPrinted : Database → Database → Schemas → (names : List (List ℕ)) → ChangeForm → Encoding → (before after : Option (List ℕ)) → Type 0
+AreFramedPrinted d e schemas names form encoding before after = AreFramed d e schemas names form encoding 0 before after
+
+-- All were printed but what this many comments stand for, which the last line counts.
+abbrev pub AreSomeLeftOut : Database → Database → Schemas → (names : List (List ℕ)) → ChangeForm → Encoding → Stop → (before after : Option (List ℕ)) → Type 0
+AreSomeLeftOut d e schemas names form encoding (LeftOut n) before after =
+    (mid : Option (List ℕ)) × AreFramed d e schemas names form encoding n before mid × (0 < n) × Appends mid after (count_text n)
+AreSomeLeftOut d e schemas names form encoding _ before after = ⊥
+
+-- They weren't: the writer failed, or memory ran out before anything was written; an object can't be written; the printing stopped
+-- behind what stands before; or a script leaves something out.
 abbrev pub AreFramedStopped : Database → Database → Schemas → (names : List (List ℕ)) → ChangeForm → Encoding → Stop → (before after : Option (List ℕ)) → Type 0
 AreFramedStopped d e schemas names form encoding stop before after =
-    IsWriteError stop
+    IsUnheaded stop before after
     ⊎ ((o : Object) × (Contains schemas.old.now o ⊎ Contains schemas.new.now o) × (¬ IsWritten form o) × (stop ≡ NotUnderstood) × (before ≡ after))
-    ⊎ ((begun : Option (List ℕ)) × Appends before begun (opening_text form encoding schemas.old.now) × AreAskedStopped d e schemas names form stop begun after)
+    ⊎ ((opening : List ℕ) × (begun : Option (List ℕ)) × IsOpeningText form encoding schemas.old.now schemas.new.now opening × Appends before begun opening
+    × AreAskedStopped d e schemas names form stop begun after)
+    ⊎ AreSomeLeftOut d e schemas names form encoding stop before after
 
 -- The changes between two databases were printed, whose texts are in one encoding.
 abbrev pub AreChangesPrinted : Database → Database → (names : List (List ℕ)) → ChangeForm → (before after : Option (List ℕ)) → Type 0

@@ -1,34 +1,68 @@
 -- What stands before and behind the changes of a script (own).
-use Rattle.std.specs.Prelude.{◌≢◌, ◌⊎◌, ℕ, ◌<◌, Bool, if◌then◌else◌, List, [], ◌++◌, codes, nat_eq}
+use Rattle.std.specs.Prelude.{◌≡◌, ◌≢◌, ◌⊎◌, ℕ, ◌<◌, Bool, true, false, if◌then◌else◌, MatchBool, All, List, [], ◌∷◌, ◌++◌, codes, nat_eq}
 use Rattle.std.specs.Cmp.Lexicographic.{pointwise}
-use Rattle.std.specs.List.{flat_map}
+use Rattle.std.specs.List.{Contains}
+use Rattle.std.specs.Str.{str_eq_ignore_ascii_case}
 use Rattle.sqdeep.specs.declared.text.Encoding.{Encoding}
 use Rattle.sqtables.specs.declared.list.Object.{Object}
+use Rattle.schema_print.specs.declared.refusals.Printed.{Printed}
 use Rattle.cli_row_text.specs.Lines.{between_marks}
-use Rattle.cli_show_rows.specs.Dumps.{start_text, statement_text}
+use Rattle.cli_schema_text.specs.Comments.{hex_line, unnamed_text}
+use Rattle.cli_schema_text.specs.Names.{can_be_named}
+use Rattle.cli_schema_text.specs.Texts.{IsJudged, is_left_out}
+use Rattle.cli_show_rows.specs.Dumps.{IsStatementText, start_text}
 use Rattle.cli_show_diff.specs.declared.form.ChangeForm.{ChangeForm}
 use Rattle.cli_show_diff.specs.declared.form.ChangeForm.TheVariants.{Lines, Json, Sql}
 
 abbrev pub is_trigger : Object → Bool
 is_trigger o = pointwise nat_eq o.kind.items (codes "trigger")
 
--- what drops an object that is a trigger, and what makes it
-abbrev pub drop_trigger : Object → List ℕ
-drop_trigger o = if is_trigger o then codes "DROP TRIGGER " ++ (between_marks 34 o.name.items ++ codes ";\n") else []
+-- An object is a trigger of this name, as SQLite compares names.
+abbrev pub IsTriggerNamed : (name : List ℕ) → Object → Type 0
+IsTriggerNamed name o = (is_trigger o ≡ true) × (str_eq_ignore_ascii_case o.name.items name ≡ true)
 
-abbrev pub make_trigger : Object → List ℕ
-make_trigger o = if is_trigger o then statement_text o.sql.items else []
+-- A comment stands for the text of an object, or none does.
+abbrev pub IsTextLeft : Object → Bool → Type 0
+IsTextLeft o left = (p : Printed) × IsJudged o.kind.items o.name.items o.sql.items p × (left ≡ is_left_out p)
 
--- A script is one transaction, in the encoding of the databases, in which no trigger is there that its statements would run.
-abbrev pub opening_text : ChangeForm → Encoding → List Object → List ℕ
-opening_text Lines encoding objects = []
-opening_text (Json commit) encoding objects = []
-opening_text Sql encoding objects = start_text encoding ++ flat_map drop_trigger objects
+-- Whether a script can't make the trigger of this name that the new database has: of one of that name the text isn't printed.
+abbrev pub IsStaying : (name : List ℕ) → (objects : List Object) → Bool → Type 0
+IsStaying name objects stays =
+    MatchBool stays ((o : Object) × Contains objects o × IsTriggerNamed name o × IsTextLeft o true)
+    (All (λ o. (¬ IsTriggerNamed name o) ⊎ IsTextLeft o false) objects)
 
-abbrev pub closing_text : ChangeForm → List Object → List ℕ
-closing_text Lines objects = []
-closing_text (Json commit) objects = []
-closing_text Sql objects = flat_map make_trigger objects ++ codes "COMMIT;\n"
+-- what drops a trigger, or says that it stays
+abbrev pub drop_trigger : (stays : Bool) → (name : List ℕ) → List ℕ
+drop_trigger stays name =
+    if stays then codes "-- not dropped, its new text isn't printed" ++ hex_line name else codes "DROP TRIGGER " ++ (between_marks 34 name ++ codes ";\n")
+
+-- What is written of an object of the old database: what drops a trigger, unless it stays or no statement can name it.
+abbrev pub IsDropText : (news : List Object) → Object → List ℕ → Type 0
+IsDropText news o t =
+    MatchBool (is_trigger o)
+    (MatchBool (can_be_named o.name.items) ((stays : Bool) × IsStaying o.name.items news stays × (t ≡ drop_trigger stays o.name.items)) (t ≡ unnamed_text o.name.items))
+    (t ≡ [])
+
+-- What is written of one of the new database: the text of a trigger.
+abbrev pub IsMakeText : Object → List ℕ → Type 0
+IsMakeText o t = MatchBool (is_trigger o) (IsStatementText o t) (t ≡ [])
+
+-- The texts of these objects, of which each is such a one.
+abbrev pub AreTextsOf : (Object → List ℕ → Type 0) → List Object → List ℕ → Type 0
+AreTextsOf is [] t = t ≡ []
+AreTextsOf is (o ∷ objects) t = (own more : List ℕ) × is o own × AreTextsOf is objects more × (t ≡ own ++ more)
+
+-- A script is one transaction, in the encoding of the databases, in which no trigger is there that its statements would run, but
+-- those that stay.
+abbrev pub IsOpeningText : ChangeForm → Encoding → (olds news : List Object) → List ℕ → Type 0
+IsOpeningText Lines encoding olds news t = t ≡ []
+IsOpeningText (Json commit) encoding olds news t = t ≡ []
+IsOpeningText Sql encoding olds news t = (drops : List ℕ) × AreTextsOf (IsDropText news) olds drops × (t ≡ start_text encoding ++ drops)
+
+abbrev pub IsClosingText : ChangeForm → (news : List Object) → List ℕ → Type 0
+IsClosingText Lines news t = t ≡ []
+IsClosingText (Json commit) news t = t ≡ []
+IsClosingText Sql news t = (makes : List ℕ) × AreTextsOf IsMakeText news makes × (t ≡ makes ++ codes "COMMIT;\n")
 
 -- An object can be written: in SQL no virtual table, whose own tables its module makes.
 abbrev pub IsWritten : ChangeForm → Object → Type 0

@@ -5,5 +5,6 @@ pub mod Tables
 pub mod Pairs
 pub mod Turns
 pub mod Frames
+pub mod LeftOut
 pub mod Changes
 pub mod internal

@@ -1,5 +1,5 @@
 -- The changes of a table that one or both databases have, as they are printed, and why they aren't (own).
-use Rattle.std.specs.Prelude.{◌≡◌, ◌⊎◌, ℕ, true, false, if◌then◌else◌, List, [], ◌++◌, codes, Option, Some, None}
+use Rattle.std.specs.Prelude.{◌≡◌, ◌⊎◌, ℕ, true, false, if◌then◌else◌, MatchBool, List, [], ◌++◌, codes, Option, Some, None}
 use Rattle.std.specs.Borrow.{Bor}
 use Rattle.std.specs.Io.KnownBytes.{Appends}
 use Rattle.std.specs.Str.{str_eq_ignore_ascii_case}
@@ -8,8 +8,11 @@ use Rattle.sqtables.specs.declared.list.Object.{Object}
 use Rattle.cli_row_text.specs.Lines.{between_marks}
 use Rattle.cli_row_text.specs.declared.form.Notation.TheVariants.{Sql as InSql}
 use Rattle.cli_show_rows.specs.declared.stop.Stop.{Stop}
-use Rattle.cli_show_rows.specs.Dumps.{form_in, making_text}
-use Rattle.cli_show_rows.specs.Stops.{IsTableStopped, IsWriteError}
+use Rattle.cli_schema_text.specs.Comments.{unnamed_text}
+use Rattle.cli_schema_text.specs.Names.{can_be_named}
+use Rattle.sqdeep.specs.Records.{encoding_of}
+use Rattle.cli_show_rows.specs.Dumps.{IsMakingPrinted, form_in}
+use Rattle.cli_show_rows.specs.Stops.{IsTableStopped, IsUnheaded, IsWriteError}
 use Rattle.cli_show_rows.specs.Tables.{IsTablePrinted}
 use Rattle.cli_change_text.specs.declared.style.Writing.TheVariants.{Line, Object as AsObject, Removal, Arrival}
 use Rattle.cli_show_diff.specs.declared.form.ChangeForm.{ChangeForm}
@@ -17,10 +20,13 @@ use Rattle.cli_show_diff.specs.declared.form.ChangeForm.TheVariants.{Lines, Json
 use Rattle.cli_show_diff.specs.declared.pair.Pair.{Pair}
 use Rattle.cli_show_diff.specs.Tables.{IsKeptPrinted, IsKeptStopped, IsSidePrinted, IsSideStopped}
 
--- what drops a table in SQL; sqlite_sequence can't be dropped (fileformat2, 2.6.2)
-abbrev pub drop_text : (table : List ℕ) → List ℕ
-drop_text table =
+-- what drops a table in SQL, if a statement can name it; sqlite_sequence can't be dropped (fileformat2, 2.6.2)
+abbrev pub drop_table : (table : List ℕ) → List ℕ
+drop_table table =
     if str_eq_ignore_ascii_case table (codes "sqlite_sequence") then [] else codes "DROP TABLE " ++ (between_marks 34 table ++ codes ";\n")
+
+abbrev pub drop_text : (table : List ℕ) → List ℕ
+drop_text table = if can_be_named table then drop_table table else unnamed_text table
 
 -- The rows of two tables are compared where their texts are the same, but in SQL those of sqlite_sequence, which other INSERTs
 -- change.
@@ -28,19 +34,26 @@ abbrev pub AreKept : ChangeForm → (old new : Object) → Type 0
 AreKept Sql old new = (str_eq_ignore_ascii_case old.name.items (codes "sqlite_sequence") ≡ false) × (old.sql.items ≡ new.sql.items)
 AreKept _ old new = old.sql.items ≡ new.sql.items
 
--- The changes of a table that both have were printed. A script has the DELETEs of all rows that went or changed, and then the
--- INSERTs of those that came or changed.
+-- A script has the DELETEs of all rows that went or changed, and then the INSERTs of those that came or changed.
+abbrev pub IsScriptPrinted : Database → Database → (old new : Object) → (before after : Option (List ℕ)) → Type 0
+IsScriptPrinted d e old new before after = (mid : Option (List ℕ)) × IsKeptPrinted d e old new Removal before mid × IsKeptPrinted d e old new Arrival mid after
+
+abbrev pub IsScriptStopped : Database → Database → (old new : Object) → Stop → (before after : Option (List ℕ)) → Type 0
+IsScriptStopped d e old new stop before after =
+    IsKeptStopped d e old new Removal stop before after
+    ⊎ ((mid : Option (List ℕ)) × IsKeptPrinted d e old new Removal before mid × IsKeptStopped d e old new Arrival stop mid after)
+
+-- The changes of a table that both have were printed, in SQL if a statement can name it.
 abbrev pub IsBothPrinted : Database → Database → (old new : Object) → ChangeForm → (before after : Option (List ℕ)) → Type 0
 IsBothPrinted d e old new Lines before after = IsKeptPrinted d e old new Line before after
 IsBothPrinted d e old new (Json commit) before after = IsKeptPrinted d e old new (AsObject commit) before after
-IsBothPrinted d e old new Sql before after = (mid : Option (List ℕ)) × IsKeptPrinted d e old new Removal before mid × IsKeptPrinted d e old new Arrival mid after
+IsBothPrinted d e old new Sql before after =
+    MatchBool (can_be_named old.name.items) (IsScriptPrinted d e old new before after) (Appends before after (unnamed_text old.name.items))
 
 abbrev pub IsBothStopped : Database → Database → (old new : Object) → ChangeForm → Stop → (before after : Option (List ℕ)) → Type 0
 IsBothStopped d e old new Lines stop before after = IsKeptStopped d e old new Line stop before after
 IsBothStopped d e old new (Json commit) stop before after = IsKeptStopped d e old new (AsObject commit) stop before after
-IsBothStopped d e old new Sql stop before after =
-    IsKeptStopped d e old new Removal stop before after
-    ⊎ ((mid : Option (List ℕ)) × IsKeptPrinted d e old new Removal before mid × IsKeptStopped d e old new Arrival stop mid after)
+IsBothStopped d e old new Sql stop before after = MatchBool (can_be_named old.name.items) (IsScriptStopped d e old new stop before after) (IsWriteError stop)
 
 -- That a table went was printed: all of its rows, and in SQL what drops it.
 abbrev pub IsGonePrinted : Database → ChangeForm → Object → (before after : Option (List ℕ)) → Type 0
@@ -53,17 +66,21 @@ IsGoneStopped d Lines table stop before after = IsSideStopped d table false Line
 IsGoneStopped d (Json commit) table stop before after = IsSideStopped d table false (AsObject commit) stop before after
 IsGoneStopped d Sql table stop before after = IsWriteError stop
 
--- That a table came was printed: all of its rows, in SQL behind what makes it.
+-- That a table came was printed: all of its rows, in SQL behind what makes it, if a statement can name it.
 abbrev pub IsMadePrinted : Database → ChangeForm → Object → (before after : Option (List ℕ)) → Type 0
 IsMadePrinted d Lines table before after = IsSidePrinted d table true Line before after
 IsMadePrinted d (Json commit) table before after = IsSidePrinted d table true (AsObject commit) before after
-IsMadePrinted d Sql table before after = (mid : Option (List ℕ)) × Appends before mid (making_text table) × IsTablePrinted d table (form_in d InSql) mid after
+IsMadePrinted d Sql table before after =
+    (mid : Option (List ℕ)) × IsMakingPrinted (encoding_of d) table before mid
+    × MatchBool (can_be_named table.name.items) (IsTablePrinted d table (form_in d InSql) mid after) (mid ≡ after)
 
 abbrev pub IsMadeStopped : Database → ChangeForm → Object → Stop → (before after : Option (List ℕ)) → Type 0
 IsMadeStopped d Lines table stop before after = IsSideStopped d table true Line stop before after
 IsMadeStopped d (Json commit) table stop before after = IsSideStopped d table true (AsObject commit) stop before after
 IsMadeStopped d Sql table stop before after =
-    IsWriteError stop ⊎ ((mid : Option (List ℕ)) × Appends before mid (making_text table) × IsTableStopped d table (form_in d InSql) stop mid after)
+    IsUnheaded stop before after
+    ⊎ ((mid : Option (List ℕ)) × IsMakingPrinted (encoding_of d) table before mid × (can_be_named table.name.items ≡ true)
+    × IsTableStopped d table (form_in d InSql) stop mid after)
 
 -- the same, if there is a table
 abbrev pub IsGoneIfPrinted : Database → ChangeForm → Option (Bor Object) → (before after : Option (List ℕ)) → Type 0

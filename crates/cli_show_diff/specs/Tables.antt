@@ -1,5 +1,6 @@
 -- The changes of one table as they are printed (own).
-use Rattle.std.specs.Prelude.{◌≡◌, ◌⊎◌, ℕ, Bool, List, [], Option, Some, None, is_some}
+use Rattle.std.specs.Prelude.{◌≡◌, ◌⊎◌, ℕ, Bool, false, List, [], Option, Some, None, is_some}
+use Rattle.std.specs.List.{list_all}
 use Rattle.std.specs.Io.KnownBytes.{Appends}
 use Rattle.sqval.specs.Database.{Database}
 use Rattle.sqtables.specs.declared.columns.Columns.{Columns}
@@ -7,6 +8,7 @@ use Rattle.sqtables.specs.declared.list.Object.{Object}
 use Rattle.sqdeep.specs.declared.text.Encoding.{Encoding}
 use Rattle.sqdeep.specs.Records.{encoding_of}
 use Rattle.cli_row_text.specs.Inserts.{insert_text}
+use Rattle.cli_schema_text.specs.Names.{can_be_named}
 use Rattle.cli_show_rows.specs.declared.stop.Stop.{Stop}
 use Rattle.cli_show_rows.specs.declared.stop.Stop.TheVariants.{NoMemory, NotUnderstood}
 use Rattle.cli_show_rows.specs.Schemas.{AreColumnsIn}
@@ -62,11 +64,16 @@ abbrev pub IsSidePrinted : Database → Object → (comes : Bool) → Writing �
 IsSidePrinted d table comes writing before after =
     (style : Style) × (t : List ℕ) × IsStyleOf (encoding_of d) table writing style × IsSortedIn d table.sql.items style.key × IsOneTold d table.root comes style t × Appends before after t
 
--- A script can't name the columns of a table, or its rows: no column is known, or there is no key, and no name of a rowid.
+-- every column has a name that a statement can have
+abbrev pub are_nameable : Columns → Bool
+are_nameable columns = list_all (λ n. can_be_named n.items) columns.names.items
+
+-- A script can't name the columns of a table, or its rows: no column is known, or one has a name that no statement can have, or
+-- there is no key, and no name of a rowid.
 abbrev pub IsUnnamed : Writing → Columns → (rowid : Option (List ℕ)) → (key : Option KeyOrder) → Type 0
 IsUnnamed Line columns rowid key = ⊥
 IsUnnamed (AsObject commit) columns rowid key = ⊥
-IsUnnamed _ columns rowid key = (columns.names.items ≡ []) ⊎ ((rowid ≡ None) × (columns.alias ≡ None) × (key ≡ None))
+IsUnnamed _ columns rowid key = (columns.names.items ≡ []) ⊎ (are_nameable columns ≡ false) ⊎ ((rowid ≡ None) × (columns.alias ≡ None) × (key ≡ None))
 
 -- Nothing was printed of a table that a script can't name, or for want of memory.
 abbrev pub IsUnbegun : Encoding → (by : Option KeyOrder → Type 0) → Object → Writing → Stop → (before after : Option (List ℕ)) → Type 0

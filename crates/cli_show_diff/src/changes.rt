@@ -2,15 +2,20 @@
 ghost use Rattle.std.specs.Prelude.{◌≡◌, ◌≢◌, OnOk, IfOk, IfErr, MatchOption, Some};
 ghost use Rattle.sqpage.specs.Source.{KeepsPages};
 ghost use Rattle.cli_show_rows.specs.Stops.{SchemaRefused};
+ghost use Rattle.cli_show_rows.specs.internal.Stopping.{IsCounted};
+ghost use Rattle.cli_show_rows.specs.declared.stop.Stop.{Stop};
 ghost use Rattle.cli_show_diff.specs.Changes.{AreAllPrinted, AreAllStopped, AreAskedPrinted, AreAskedStopped};
 ghost use Rattle.cli_show_diff.specs.Changes.{AreChangesPrinted, AreChangesStopped, AreFramedPrinted, AreFramedStopped};
 ghost use Rattle.cli_show_diff.specs.Changes.{AreTablesPrinted, AreTablesStopped, HasObjectsOf, IsNamedPrinted};
 ghost use Rattle.cli_show_diff.specs.Changes.{AreNamedPrinted, AreNamedStopped, IsCommon, IsNamedStopped, texts_of};
+ghost use Rattle.cli_show_diff.specs.internal.Framing.{AreBegunPrinted, AreBegunStopped, IsFrameOf};
 
 use crate::form::ChangeForm;
-use crate::frame::{are_written, write_closing, write_opening};
+use crate::frame::{are_written, closing_of, opening_of};
+use crate::left::left_out;
 use crate::pair::{Pair, print_pair};
 use crate::turn::{Side, Turn, print_turn};
+use cli_schema_text::write_count;
 use cli_show_rows::{Schema, Stop, listed};
 use sqdeep::Encoding;
 use sqpage::PageSource;
@@ -215,7 +220,78 @@ fn print_asked<S: PageSource, T: PageSource, W: Write>(
     print_each(alloc, old, new, of, asked.form, out)
 }
 
-/// The same between what stands before and behind it.
+/// What stands before and behind the changes of a script, and how many objects it leaves out, or their texts.
+#[derive(Drop)]
+pub(crate) struct Frame {
+    pub(crate) opening: Vec<u8>,
+    pub(crate) closing: Vec<u8>,
+    pub(crate) left: usize,
+}
+
+/// What stands around what is asked for.
+fn frame_of(alloc: Global, asked: Asked<'_>) -> Result<Frame, Stop>
+    ensures ok { IfOk result (IsFrameOf asked.entry.schemas (texts_of asked.entry.selected.names.now)
+        asked.entry.form asked.entry.encoding) }
+    ensures err { IfErr result (λ stop. stop ≡ Stop.NoMemory) }
+{
+    let Schemas { old, new } = asked.schemas;
+    let opening = match opening_of(alloc, asked.form, asked.encoding, old, new) {
+        Ok(opening) => opening,
+        Err(stop) => return Err(stop),
+    };
+    let closing = match closing_of(alloc, asked.form, new) {
+        Ok(closing) => closing,
+        Err(stop) => return Err(stop),
+    };
+    match left_out(alloc, asked.form, asked.selected.names, old, new) {
+        Ok(left) => Ok(Frame {
+            opening,
+            closing,
+            left,
+        }),
+        Err(stop) => Err(stop),
+    }
+}
+
+/// Prints what is asked for behind this opening.
+fn print_begun<S: PageSource, T: PageSource, W: Write>(
+    alloc: Global,
+    old: &mut S,
+    new: &mut T,
+    asked: Asked<'_>,
+    opening: &[u8],
+    out: &mut W,
+) -> Result<(), Stop>
+    ensures ok { S.gives_pages old.old → T.gives_pages new.old → OnOk result (AreBegunPrinted (S.pages old.old)
+        (T.pages new.old) asked.entry.schemas (texts_of asked.entry.selected.names.now) asked.entry.form
+        opening.now (W.contents out.old) (W.contents out.new)) }
+    ensures err { S.gives_pages old.old → T.gives_pages new.old → IfErr result (λ stop. AreBegunStopped
+        (S.pages old.old) (T.pages new.old) asked.entry.schemas (texts_of asked.entry.selected.names.now)
+        asked.entry.form opening.now stop (W.contents out.old) (W.contents out.new)) }
+    ensures keeps { KeepsPages S.pages S.size S.reads_right S.gives_pages old.old old.new
+        × KeepsPages T.pages T.size T.reads_right T.gives_pages new.old new.new }
+{
+    match out.write_all(opening) {
+        Ok(()) => print_asked(alloc, old, new, asked, out),
+        Err(error) => Err(Stop::Write(error)),
+    }
+}
+
+/// Counts what is left out, if anything is.
+fn print_count<W: Write>(count: usize, out: &mut W) -> Result<(), Stop>
+    ensures ok { OnOk result ((count ≡ 0) × (W.contents out.old ≡ W.contents out.new)) }
+    ensures err { IfErr result (λ stop. IsCounted count stop (W.contents out.old) (W.contents out.new)) }
+{
+    if count == 0 {
+        return Ok(());
+    }
+    match write_count(out, count) {
+        Ok(()) => Err(Stop::LeftOut(count)),
+        Err(error) => Err(Stop::Write(error)),
+    }
+}
+
+/// Prints what is asked for between what stands before and behind it.
 fn print_framed<S: PageSource, T: PageSource, W: Write>(
     alloc: Global,
     old: &mut S,
@@ -240,16 +316,16 @@ fn print_framed<S: PageSource, T: PageSource, W: Write>(
     if !are_written(asked.form, olds) || !are_written(asked.form, news) {
         return Err(Stop::NotUnderstood);
     }
-    match write_opening(out, asked.form, asked.encoding, olds) {
-        Ok(()) => {}
-        Err(error) => return Err(Stop::Write(error)),
-    }
-    match print_asked(alloc, old, new, asked, out) {
+    let frame = match frame_of(alloc, asked) {
+        Ok(frame) => frame,
+        Err(stop) => return Err(stop),
+    };
+    match print_begun(alloc, old, new, asked, &frame.opening, out) {
         Ok(()) => {}
         Err(stop) => return Err(stop),
     }
-    match write_closing(out, asked.form, news) {
-        Ok(()) => Ok(()),
+    match out.write_all(&frame.closing) {
+        Ok(()) => print_count(frame.left, out),
         Err(error) => Err(Stop::Write(error)),
     }
 }
@@ -257,10 +333,14 @@ fn print_framed<S: PageSource, T: PageSource, W: Write>(
 /// Prints which rows differ between an old database and a new one, of the tables that are named, in that order, or of
 /// each: the user's before SQLite's own, those that the old database has before those that it lacks, and each by rowid,
 /// or by key in one WITHOUT ROWID. Tables are matched by name; where only one has a table, or their texts differ, all
-/// rows went and all came. In SQL all of it is a script in one transaction. Refused by the faults of both schemas, by
-/// `Encoding` where an encoding isn't known or each has its own, by `NoSuchTable`, by `NotUnderstood` where it isn't
-/// known how the rows of a table WITHOUT ROWID are sorted and it has some, and in SQL where there is a virtual table or
-/// the text of a table with changes isn't understood, and by faults of trees and rows behind what stands before them.
+/// rows went and all came. In SQL all of it is a script in one transaction, and tables are made as `print_making` makes
+/// them; a comment stands for each statement that would need a name with NUL or CR, and for the text of a trigger that
+/// sqlite3's shell would read otherwise than SQLite: then that of the old database stays. The last line counts them.
+/// Refused by `LeftOut` where comments stand for texts or tables, by the faults of both schemas, by `Encoding` where an
+/// encoding isn't known or each has its own, by `NoSuchTable`, by `NotUnderstood` where it isn't known how the rows of
+/// a table WITHOUT ROWID are sorted and it has some, and in SQL where there is a virtual table, or a column of a table
+/// with changes isn't known or has a name with NUL or CR, and by faults of trees and rows behind what stands before
+/// them.
 pub fn print_changes<S: PageSource, T: PageSource, W: Write>(
     alloc: Global,
     old: &mut S,

@@ -1,102 +1,237 @@
 //! What stands before and behind the changes of a script.
-ghost use Rattle.std.specs.Prelude.{◌≡◌, All, OnOk, IsTrue, false};
+ghost use Rattle.std.specs.Prelude.{◌≡◌, ◌⊎◌, ◌++◌, ℕ, All, Bool, IfErr, IfOk, IsTrue, List, MatchBool, OnOk, false, true};
 ghost use Rattle.std.specs.Io.KnownBytes.{Appends};
-ghost use Rattle.std.specs.List.{flat_map};
 ghost use Rattle.std.specs.List.{Contains};
 ghost use Rattle.sqtables.specs.declared.list.Object.{Object};
-ghost use Rattle.cli_show_diff.specs.Frames.{IsWritten, closing_text, drop_trigger, is_trigger, make_trigger};
-ghost use Rattle.cli_show_diff.specs.Frames.{opening_text};
+ghost use Rattle.cli_schema_text.specs.Comments.{hex_line, unnamed_text};
+ghost use Rattle.cli_show_rows.specs.declared.stop.Stop.{Stop};
+ghost use Rattle.cli_show_diff.specs.Frames.{AreTextsOf, IsClosingText, IsDropText, IsMakeText, IsOpeningText};
+ghost use Rattle.cli_show_diff.specs.Frames.{IsStaying, IsTextLeft, IsTriggerNamed, IsWritten, drop_trigger};
+ghost use Rattle.cli_show_diff.specs.Frames.{is_trigger};
 
 use crate::form::ChangeForm;
 use cli_row_text::write_between;
-use cli_show_rows::{write_start, write_statement};
+use cli_schema_text::{can_be_named, is_left_out, judged, write_unnamed};
+use cli_show_rows::{Stop, print_statement, write_start};
+use cli_text::write_hex;
 use sqdeep::Encoding;
 use sqtables::Object;
+use std::alloc::{AllocError, Global};
 use std::io::{self, Write};
 
 /// Whether an object is a trigger.
-fn is_trigger(object: &Object) -> bool
+pub(crate) fn is_trigger(object: &Object) -> bool
     ensures { result ≡ is_trigger object.now }
 {
     object.kind.as_slice() == b"trigger".as_slice()
 }
 
-/// What drops an object, if it is a trigger.
-fn write_drop<W: Write>(out: &mut W, object: &Object) -> io::Result<()>
-    ensures { OnOk result (Appends (W.contents out.old) (W.contents out.new) (drop_trigger object.now)) }
+/// Whether an object is a trigger of this name. SQLite's names don't tell ASCII's small letters from its capitals.
+fn is_trigger_named(object: &Object, name: &[u8]) -> bool
+    ensures yes { IsTrue result → IsTriggerNamed name.now object.now }
+    ensures not { result ≡ false → ¬ IsTriggerNamed name.now object.now }
+{
+    is_trigger(object) && object.name.as_slice().eq_ignore_ascii_case(name)
+}
+
+/// Whether a comment stands for the text of an object.
+pub(crate) fn is_text_left(alloc: Global, object: &Object) -> Result<bool, AllocError>
+    ensures { IfOk result (IsTextLeft object.now) }
+{
+    let kind = object.kind.as_slice();
+    let name = object.name.as_slice();
+    let printed = judged(alloc, kind, name, object.sql.as_slice())?;
+    Ok(is_left_out(&printed))
+}
+
+/// Whether an object is a trigger of this name whose text isn't printed.
+fn stays_for(alloc: Global, object: &Object, name: &[u8]) -> Result<bool, AllocError>
+    ensures { IfOk result (λ stays. MatchBool stays (IsTriggerNamed name.now object.now × IsTextLeft object.now true)
+        ((¬ IsTriggerNamed name.now object.now) ⊎ IsTextLeft object.now false)) }
+{
+    if !is_trigger_named(object, name) {
+        return Ok(false);
+    }
+    is_text_left(alloc, object)
+}
+
+/// Whether a trigger of this name stays, as its new text isn't printed.
+fn is_staying(alloc: Global, news: &[Object], name: &[u8]) -> Result<bool, AllocError>
+    ensures { IfOk result (IsStaying name.now news.now) }
+{
+    for object in news {
+        if stays_for(alloc, object, name)? {
+            return Ok(true);
+        }
+    }
+    Ok(false)
+}
+
+/// A name in hex at the end of a comment.
+fn write_stay_name<W: Write>(out: &mut W, name: &[u8]) -> io::Result<()>
+    ensures { OnOk result (Appends (W.contents out.old) (W.contents out.new) (hex_line name.now)) }
+{
+    out.write_all(b": x'")?;
+    write_hex(out, name)?;
+    out.write_all(b"'\n")
+}
+
+/// That a trigger of this name stays.
+fn write_stay<W: Write>(out: &mut W, name: &[u8]) -> io::Result<()>
+    ensures { OnOk result (Appends (W.contents out.old) (W.contents out.new) (drop_trigger true name.now)) }
+{
+    out.write_all(b"-- not dropped, its new text isn't printed")?;
+    write_stay_name(out, name)
+}
+
+/// What drops a trigger of this name.
+fn write_drop<W: Write>(out: &mut W, name: &[u8]) -> io::Result<()>
+    ensures { OnOk result (Appends (W.contents out.old) (W.contents out.new) (drop_trigger false name.now)) }
+{
+    out.write_all(b"DROP TRIGGER ")?;
+    write_between(out, b'"', name)?;
+    out.write_all(b";\n")
+}
+
+/// The one or the other.
+fn write_named<W: Write>(out: &mut W, stays: bool, name: &[u8]) -> io::Result<()>
+    ensures { OnOk result (Appends (W.contents out.old) (W.contents out.new) (drop_trigger stays name.now)) }
+{
+    if stays {
+        write_stay(out, name)
+    } else {
+        write_drop(out, name)
+    }
+}
+
+/// Adds what is written of a trigger of this name in the old database.
+fn add_named(alloc: Global, news: &[Object], name: &[u8], out: &mut Vec<u8>) -> Result<(), Stop>
+    ensures ok { OnOk result ((stays : Bool) × IsStaying name.now news.now stays
+        × (out.new.items ≡ out.old.items ++ drop_trigger stays name.now)) }
+    ensures err { IfErr result (λ stop. stop ≡ Stop.NoMemory) }
+{
+    let Ok(stays) = is_staying(alloc, news, name) else {
+        return Err(Stop::NoMemory);
+    };
+    match write_named(out, stays, name) {
+        Ok(()) => Ok(()),
+        Err(_) => Err(Stop::NoMemory),
+    }
+}
+
+/// The same of one that no statement can name.
+fn add_unnamed(name: &[u8], out: &mut Vec<u8>) -> Result<(), Stop>
+    ensures ok { OnOk result (out.new.items ≡ out.old.items ++ unnamed_text name.now) }
+    ensures err { IfErr result (λ stop. stop ≡ Stop.NoMemory) }
+{
+    match write_unnamed(out, name) {
+        Ok(()) => Ok(()),
+        Err(_) => Err(Stop::NoMemory),
+    }
+}
+
+/// Adds what is written of an object of the old database.
+fn add_drop(alloc: Global, news: &[Object], object: &Object, out: &mut Vec<u8>) -> Result<(), Stop>
+    ensures ok { OnOk result ((t : List ℕ) × IsDropText news.now object.now t
+        × (out.new.items ≡ out.old.items ++ t)) }
+    ensures err { IfErr result (λ stop. stop ≡ Stop.NoMemory) }
 {
     if !is_trigger(object) {
         return Ok(());
     }
-    out.write_all(b"DROP TRIGGER ")?;
-    write_between(out, b'"', object.name.as_slice())?;
-    out.write_all(b";\n")
+    let name = object.name.as_slice();
+    if !can_be_named(name) {
+        return add_unnamed(name, out);
+    }
+    add_named(alloc, news, name, out)
 }
 
-/// What makes an object, if it is a trigger.
-fn write_make<W: Write>(out: &mut W, object: &Object) -> io::Result<()>
-    ensures { OnOk result (Appends (W.contents out.old) (W.contents out.new) (make_trigger object.now)) }
+/// Adds what is written of an object of the new one.
+fn add_make(alloc: Global, object: &Object, out: &mut Vec<u8>) -> Result<(), Stop>
+    ensures ok { OnOk result ((t : List ℕ) × IsMakeText object.now t × (out.new.items ≡ out.old.items ++ t)) }
+    ensures err { IfErr result (λ stop. stop ≡ Stop.NoMemory) }
 {
-    if is_trigger(object) {
-        write_statement(out, object.sql.as_slice())
-    } else {
-        Ok(())
+    if !is_trigger(object) {
+        return Ok(());
+    }
+    match print_statement(alloc, object, out) {
+        Ok(()) => Ok(()),
+        Err(_) => Err(Stop::NoMemory),
     }
 }
 
-/// What drops all triggers, which the statements of a script would run.
-fn write_drops<W: Write>(out: &mut W, objects: &[Object]) -> io::Result<()>
-    ensures { OnOk result (Appends (W.contents out.old) (W.contents out.new) (flat_map drop_trigger objects.now)) }
+/// The same of each object of the old one.
+fn add_drops(alloc: Global, olds: &[Object], news: &[Object], out: &mut Vec<u8>) -> Result<(), Stop>
+    ensures ok { OnOk result ((t : List ℕ) × AreTextsOf (IsDropText news.now) olds.now t
+        × (out.new.items ≡ out.old.items ++ t)) }
+    ensures err { IfErr result (λ stop. stop ≡ Stop.NoMemory) }
 {
-    for object in objects {
-        write_drop(out, object)?;
+    for object in olds {
+        match add_drop(alloc, news, object, out) {
+            Ok(()) => {}
+            Err(stop) => return Err(stop),
+        }
     }
     Ok(())
 }
 
-/// What makes all triggers.
-fn write_makes<W: Write>(out: &mut W, objects: &[Object]) -> io::Result<()>
-    ensures { OnOk result (Appends (W.contents out.old) (W.contents out.new) (flat_map make_trigger objects.now)) }
+/// And of each of the new one.
+fn add_makes(alloc: Global, news: &[Object], out: &mut Vec<u8>) -> Result<(), Stop>
+    ensures ok { OnOk result ((t : List ℕ) × AreTextsOf IsMakeText news.now t × (out.new.items ≡ out.old.items ++ t)) }
+    ensures err { IfErr result (λ stop. stop ≡ Stop.NoMemory) }
 {
-    for object in objects {
-        write_make(out, object)?;
+    for object in news {
+        match add_make(alloc, object, out) {
+            Ok(()) => {}
+            Err(stop) => return Err(stop),
+        }
     }
     Ok(())
 }
 
-/// What stands before all changes of a database of these objects.
-pub(crate) fn write_opening<W: Write>(
-    out: &mut W,
+/// What stands before all changes of a database of these objects, which become those.
+pub(crate) fn opening_of(
+    alloc: Global,
     form: ChangeForm,
     encoding: Encoding,
-    objects: &[Object],
-) -> io::Result<()>
-    ensures { OnOk result (Appends (W.contents out.old) (W.contents out.new)
-        (opening_text form encoding objects.now)) }
+    olds: &[Object],
+    news: &[Object],
+) -> Result<Vec<u8>, Stop>
+    ensures ok { IfOk result (λ v. IsOpeningText form encoding olds.now news.now v.items) }
+    ensures err { IfErr result (λ stop. stop ≡ Stop.NoMemory) }
 {
+    let mut out = Vec::new(alloc);
     match form {
-        ChangeForm::Lines | ChangeForm::Json(_) => Ok(()),
-        ChangeForm::Sql => {
-            write_start(out, encoding)?;
-            write_drops(out, objects)
-        }
+        ChangeForm::Lines | ChangeForm::Json(_) => return Ok(out),
+        ChangeForm::Sql => {}
+    }
+    match write_start(&mut out, encoding) {
+        Ok(()) => {}
+        Err(_) => return Err(Stop::NoMemory),
+    }
+    match add_drops(alloc, olds, news, &mut out) {
+        Ok(()) => Ok(out),
+        Err(stop) => Err(stop),
     }
 }
 
 /// What stands behind all changes to a database of these objects.
-pub(crate) fn write_closing<W: Write>(
-    out: &mut W,
-    form: ChangeForm,
-    objects: &[Object],
-) -> io::Result<()>
-    ensures { OnOk result (Appends (W.contents out.old) (W.contents out.new) (closing_text form objects.now)) }
+pub(crate) fn closing_of(alloc: Global, form: ChangeForm, news: &[Object]) -> Result<Vec<u8>, Stop>
+    ensures ok { IfOk result (λ v. IsClosingText form news.now v.items) }
+    ensures err { IfErr result (λ stop. stop ≡ Stop.NoMemory) }
 {
+    let mut out = Vec::new(alloc);
     match form {
-        ChangeForm::Lines | ChangeForm::Json(_) => Ok(()),
-        ChangeForm::Sql => {
-            write_makes(out, objects)?;
-            out.write_all(b"COMMIT;\n")
-        }
+        ChangeForm::Lines | ChangeForm::Json(_) => return Ok(out),
+        ChangeForm::Sql => {}
+    }
+    match add_makes(alloc, news, &mut out) {
+        Ok(()) => {}
+        Err(stop) => return Err(stop),
+    }
+    match out.extend_from_slice(b"COMMIT;\n") {
+        Ok(()) => Ok(out),
+        Err(_) => Err(Stop::NoMemory),
     }
 }
 

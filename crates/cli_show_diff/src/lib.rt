@@ -5,6 +5,7 @@ mod both;
 mod changes;
 mod form;
 mod frame;
+mod left;
 mod one;
 mod pair;
 mod sorted;

@@ -3,21 +3,24 @@ ghost use Rattle.std.specs.Prelude.{◌≡◌, OnOk, IfErr, IsTrue, false};
 ghost use Rattle.std.specs.Io.KnownBytes.{Appends};
 ghost use Rattle.sqpage.specs.Source.{KeepsPages};
 ghost use Rattle.cli_row_text.specs.declared.form.Notation.{Notation};
-ghost use Rattle.cli_show_rows.specs.Dumps.{form_in};
+ghost use Rattle.sqdeep.specs.Records.{encoding_of as named_encoding};
+ghost use Rattle.cli_show_rows.specs.Dumps.{IsMakingPrinted, form_in};
 ghost use Rattle.cli_show_rows.specs.Stops.{IsTableStopped};
 ghost use Rattle.cli_show_rows.specs.Tables.{IsTablePrinted};
 ghost use Rattle.cli_show_diff.specs.Pairs.{AreKept, IsBothPrinted, IsBothStopped, IsGonePrinted, IsGoneStopped};
 ghost use Rattle.cli_show_diff.specs.declared.form.ChangeForm.{ChangeForm};
 ghost use Rattle.cli_show_diff.specs.Pairs.{IsGoneIfPrinted, IsGoneIfStopped, IsMadeIfPrinted, IsMadeIfStopped};
 ghost use Rattle.cli_show_diff.specs.Pairs.{IsAnewPrinted, IsAnewStopped, IsMadePrinted, IsMadeStopped, IsPairPrinted};
-ghost use Rattle.cli_show_diff.specs.Pairs.{IsPairStopped, drop_text};
+ghost use Rattle.cli_show_diff.specs.Pairs.{IsPairStopped, IsScriptPrinted, IsScriptStopped, drop_table, drop_text};
 
 use crate::form::ChangeForm;
 use crate::sorted::encoding_of;
 use crate::table::{print_kept, print_side};
 use cli_change_text::Writing;
 use cli_row_text::{Form, Notation, write_between};
-use cli_show_rows::{Stop, is_sequence, print_table, write_making};
+use cli_schema_text::{can_be_named, write_unnamed};
+use cli_show_rows::{Stop, is_sequence, print_making, print_table};
+use sqdeep::Encoding;
 use sqpage::PageSource;
 use sqtables::Object;
 use std::alloc::Global;
@@ -32,7 +35,7 @@ pub(crate) struct Pair<'a> {
 
 /// What drops a table in SQL. That in which SQLite counts keys can't be dropped.
 fn write_drop<W: Write>(out: &mut W, table: &[u8]) -> io::Result<()>
-    ensures { OnOk result (Appends (W.contents out.old) (W.contents out.new) (drop_text table.now)) }
+    ensures { OnOk result (Appends (W.contents out.old) (W.contents out.new) (drop_table table.now)) }
 {
     if is_sequence(table) {
         return Ok(());
@@ -42,9 +45,20 @@ fn write_drop<W: Write>(out: &mut W, table: &[u8]) -> io::Result<()>
     out.write_all(b";\n")
 }
 
+/// The same, or a comment for a table that no statement can name.
+fn write_drop_named<W: Write>(out: &mut W, table: &[u8]) -> io::Result<()>
+    ensures { OnOk result (Appends (W.contents out.old) (W.contents out.new) (drop_text table.now)) }
+{
+    if can_be_named(table) {
+        write_drop(out, table)
+    } else {
+        write_unnamed(out, table)
+    }
+}
+
 /// Whether the rows of two tables of one name are compared: their texts are the same. In SQL the table in which SQLite
 /// counts keys is made anew, since other INSERTs change it.
-fn are_kept(form: ChangeForm, old: &Object, new: &Object) -> bool
+pub(crate) fn are_kept(form: ChangeForm, old: &Object, new: &Object) -> bool
     ensures yes { IsTrue result → AreKept form old.now new.now }
     ensures not { result ≡ false → ¬ AreKept form old.now new.now }
 {
@@ -54,8 +68,57 @@ fn are_kept(form: ChangeForm, old: &Object, new: &Object) -> bool
     old.sql.as_slice() == new.sql.as_slice()
 }
 
-/// Prints the changes of a table that both have. A script has the DELETEs of all rows that went or changed before the
-/// INSERTs, so that no two rows meet in a UNIQUE column.
+/// Prints the changes of a table that both have in SQL: the DELETEs of all rows that went or changed before the INSERTs,
+/// so that no two rows meet in a UNIQUE column.
+fn print_script<S: PageSource, T: PageSource, W: Write>(
+    alloc: Global,
+    old: &mut S,
+    new: &mut T,
+    tables: (&Object, &Object),
+    out: &mut W,
+) -> Result<(), Stop>
+    ensures ok { S.gives_pages old.old → T.gives_pages new.old → OnOk result (IsScriptPrinted (S.pages old.old)
+        (T.pages new.old) tables.entry.0.now tables.entry.1.now (W.contents out.old) (W.contents out.new)) }
+    ensures err { S.gives_pages old.old → T.gives_pages new.old → IfErr result (λ stop. IsScriptStopped
+        (S.pages old.old) (T.pages new.old) tables.entry.0.now tables.entry.1.now stop (W.contents out.old)
+        (W.contents out.new)) }
+    ensures keeps { KeepsPages S.pages S.size S.reads_right S.gives_pages old.old old.new
+        × KeepsPages T.pages T.size T.reads_right T.gives_pages new.old new.new }
+{
+    match print_kept(alloc, old, new, tables, Writing::Removal, out) {
+        Ok(()) => print_kept(alloc, old, new, tables, Writing::Arrival, out),
+        Err(stop) => Err(stop),
+    }
+}
+
+/// The same, or a comment for a table that no statement can name.
+fn print_script_named<S: PageSource, T: PageSource, W: Write>(
+    alloc: Global,
+    old: &mut S,
+    new: &mut T,
+    tables: (&Object, &Object),
+    out: &mut W,
+) -> Result<(), Stop>
+    ensures ok { S.gives_pages old.old → T.gives_pages new.old → OnOk result (IsBothPrinted (S.pages old.old)
+        (T.pages new.old) tables.entry.0.now tables.entry.1.now ChangeForm.Sql (W.contents out.old)
+        (W.contents out.new)) }
+    ensures err { S.gives_pages old.old → T.gives_pages new.old → IfErr result (λ stop. IsBothStopped (S.pages old.old)
+        (T.pages new.old) tables.entry.0.now tables.entry.1.now ChangeForm.Sql stop (W.contents out.old)
+        (W.contents out.new)) }
+    ensures keeps { KeepsPages S.pages S.size S.reads_right S.gives_pages old.old old.new
+        × KeepsPages T.pages T.size T.reads_right T.gives_pages new.old new.new }
+{
+    let name = tables.0.name.as_slice();
+    if can_be_named(name) {
+        return print_script(alloc, old, new, tables, out);
+    }
+    match write_unnamed(out, name) {
+        Ok(()) => Ok(()),
+        Err(error) => Err(Stop::Write(error)),
+    }
+}
+
+/// Prints the changes of a table that both have.
 fn print_both_ways<S: PageSource, T: PageSource, W: Write>(
     alloc: Global,
     old: &mut S,
@@ -81,10 +144,7 @@ fn print_both_ways<S: PageSource, T: PageSource, W: Write>(
             Writing::Object(commit),
             out,
         ),
-        ChangeForm::Sql => match print_kept(alloc, old, new, tables, Writing::Removal, out) {
-            Ok(()) => print_kept(alloc, old, new, tables, Writing::Arrival, out),
-            Err(stop) => Err(stop),
-        },
+        ChangeForm::Sql => print_script_named(alloc, old, new, tables, out),
     }
 }
 
@@ -113,30 +173,36 @@ fn print_gone<S: PageSource, W: Write>(
             Writing::Object(commit),
             out,
         ),
-        ChangeForm::Sql => match write_drop(out, table.name.as_slice()) {
+        ChangeForm::Sql => match write_drop_named(out, table.name.as_slice()) {
             Ok(()) => Ok(()),
             Err(error) => Err(Stop::Write(error)),
         },
     }
 }
 
-/// Writes the rows of a table in SQL.
-fn print_rows<S: PageSource, W: Write>(
+/// Makes a table in SQL in this encoding, and its rows, if a statement can name it.
+fn print_made_in<S: PageSource, W: Write>(
     alloc: Global,
     source: &mut S,
     table: &Object,
+    encoding: Encoding,
     out: &mut W,
 ) -> Result<(), Stop>
-    ensures ok { S.gives_pages source.old → OnOk result (IsTablePrinted (S.pages source.old) table.now
-        (form_in (S.pages source.old) Notation.Sql) (W.contents out.old) (W.contents out.new)) }
-    ensures err { S.gives_pages source.old → IfErr result (λ stop. IsTableStopped (S.pages source.old) table.now
-        (form_in (S.pages source.old) Notation.Sql) stop (W.contents out.old) (W.contents out.new)) }
+    ensures ok { S.gives_pages source.old → encoding ≡ named_encoding (S.pages source.old)
+        → OnOk result (IsMadePrinted (S.pages source.old) ChangeForm.Sql table.now
+        (W.contents out.old) (W.contents out.new)) }
+    ensures err { S.gives_pages source.old → encoding ≡ named_encoding (S.pages source.old)
+        → IfErr result (λ stop. IsMadeStopped (S.pages source.old) ChangeForm.Sql
+        table.now stop (W.contents out.old) (W.contents out.new)) }
     ensures keeps { KeepsPages S.pages S.size S.reads_right S.gives_pages source.old source.new }
 {
-    let encoding = match encoding_of(alloc, source) {
-        Ok(encoding) => encoding,
+    match print_making(alloc, encoding, table, out) {
+        Ok(()) => {}
         Err(stop) => return Err(stop),
-    };
+    }
+    if !can_be_named(table.name.as_slice()) {
+        return Ok(());
+    }
     let form = Form {
         notation: Notation::Sql,
         encoding,
@@ -144,8 +210,8 @@ fn print_rows<S: PageSource, W: Write>(
     print_table(alloc, source, table, form, out)
 }
 
-/// Makes a table in SQL, and its rows.
-fn print_making<S: PageSource, W: Write>(
+/// The same in the encoding of its database.
+fn print_made_named<S: PageSource, W: Write>(
     alloc: Global,
     source: &mut S,
     table: &Object,
@@ -157,9 +223,9 @@ fn print_making<S: PageSource, W: Write>(
         table.now stop (W.contents out.old) (W.contents out.new)) }
     ensures keeps { KeepsPages S.pages S.size S.reads_right S.gives_pages source.old source.new }
 {
-    match write_making(out, table) {
-        Ok(()) => print_rows(alloc, source, table, out),
-        Err(error) => Err(Stop::Write(error)),
+    match encoding_of(alloc, source) {
+        Ok(encoding) => print_made_in(alloc, source, table, encoding, out),
+        Err(stop) => Err(stop),
     }
 }
 
@@ -188,7 +254,7 @@ fn print_made<S: PageSource, W: Write>(
             Writing::Object(commit),
             out,
         ),
-        ChangeForm::Sql => print_making(alloc, source, table, out),
+        ChangeForm::Sql => print_made_named(alloc, source, table, out),
     }
 }
 

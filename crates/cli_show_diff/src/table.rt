@@ -3,7 +3,7 @@ ghost use Rattle.std.specs.Prelude.{◌≡◌, ◌++◌, OnOk, IfOk, IfErr, IsTr
 ghost use Rattle.sqpage.specs.Source.{KeepsPages};
 ghost use Rattle.cli_row_text.specs.Inserts.{rowid_name as rowid_named};
 ghost use Rattle.cli_show_diff.specs.Tables.{IsKeptPrinted, IsSidePrinted, IsUnnamed, before_text, head_text};
-ghost use Rattle.cli_show_diff.specs.Tables.{IsKeptStopped, IsSideStopped, IsStyleOf, condition_start};
+ghost use Rattle.cli_show_diff.specs.Tables.{IsKeptStopped, IsSideStopped, IsStyleOf, are_nameable, condition_start};
 ghost use Rattle.sqdeep.specs.Records.{encoding_of};
 ghost use Rattle.cli_show_diff.specs.Sorted.{AreSortedBy, IsSortedIn};
 ghost use Rattle.cli_show_rows.specs.declared.stop.Stop.{Stop};
@@ -15,6 +15,7 @@ use cli_change_text::{
     Style, Writing, write_object_head, write_removal_head, write_removal_start, write_title,
 };
 use cli_row_text::write_insert;
+use cli_schema_text::can_be_named;
 use cli_show_rows::{Stop, known_columns, rowid_name};
 use sqkeydiff::KeyOrder;
 use sqpage::PageSource;
@@ -101,6 +102,13 @@ fn texts_of(
     }
 }
 
+/// Whether a statement can have the name of each column.
+fn are_nameable(columns: &Columns) -> bool
+    ensures { result ≡ are_nameable columns.now }
+{
+    columns.names.iter().all(|n| can_be_named(n.as_slice()))
+}
+
 /// Whether a script can't name the rows of a table, or its columns.
 fn is_unnamed(writing: Writing, columns: &Columns, naming: Naming<'_>) -> bool
     ensures { IsTrue result → IsUnnamed writing columns.now (rowid_named naming.entry.rowid) naming.entry.key }
@@ -109,7 +117,7 @@ fn is_unnamed(writing: Writing, columns: &Columns, naming: Naming<'_>) -> bool
         Writing::Line | Writing::Object(_) => false,
         Writing::Removal | Writing::Arrival => {
             let no_rowid = naming.rowid.is_none() && columns.alias.is_none();
-            columns.names.is_empty() || (no_rowid && naming.key.is_none())
+            columns.names.is_empty() || !are_nameable(columns) || (no_rowid && naming.key.is_none())
         }
     }
 }

@@ -11,7 +11,7 @@ use Rattle.sqrows.specs.Stops.{TreeRefused}
 use Rattle.sqrows.specs.Trees.{Entry, IsTree}
 use Rattle.cli_words.specs.declared.requests.Style.{Style}
 use Rattle.cli_show_rows.specs.declared.stop.Stop.{Stop}
-use Rattle.cli_show_rows.specs.declared.stop.Stop.TheVariants.{Fault, Record, TooLong, NotUnderstood, Default, Behind, Encoding, NoSuchTable, NoMemory, Write}
+use Rattle.cli_show_rows.specs.declared.stop.Stop.TheVariants.{Fault, Record, TooLong, NotUnderstood, Default, Behind, Encoding, NotNamed, LeftOut, NoSuchTable, NoMemory, Write}
 use Rattle.cli_show_places.specs.Lines.{place_of, place_text, places_text}
 use Rattle.cli_show_places.specs.Stops.{AreCellsStopped, IsTreeStop}
 use Rattle.cli_show_places.specs.internal.Walks.{AreWalked, NextRefused, PlacesNext}
@@ -68,6 +68,8 @@ tree_stop d frames style root cells Default before after w h = absurd h
 tree_stop d frames style root cells Behind before after w h = absurd h
 tree_stop d frames style root cells Encoding before after w h = absurd h
 tree_stop d frames style root cells NoSuchTable before after w h = absurd h
+tree_stop d frames style root cells NotNamed before after w h = absurd h
+tree_stop d frames style root cells (LeftOut n) before after w h = absurd h
 tree_stop d frames style root cells NoMemory before after w h = absurd h
 tree_stop d frames style root cells (Write e) before after w h = absurd h
 

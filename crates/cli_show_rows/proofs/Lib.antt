@@ -2,3 +2,5 @@ pub mod TurnsTaken
 pub mod TablesStopped
 pub mod ObjectsRead
 pub mod DefaultsStored
+pub mod LeftOut
+pub mod Cases

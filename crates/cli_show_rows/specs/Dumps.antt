@@ -1,25 +1,31 @@
 -- All tables of a database as they are printed (own).
-use Rattle.std.specs.Prelude.{◌≡◌, ◌⊎◌, ◌&&◌, ℕ, ◌≤◌, nat_le, Bool, true, false, if◌then◌else◌, List, [], ◌∷◌, ◌++◌, length, take, Option, None, codes, pos}
+use Rattle.std.specs.Prelude.{◌≡◌, ◌⊎◌, ◌&&◌, ◌||◌, ℕ, suc, ◌≤◌, nat_le, Bool, true, false, not, if◌then◌else◌, MatchBool, List, [], ◌∷◌, ◌++◌, length, take, Option, codes}
 use Rattle.std.specs.Io.KnownBytes.{Appends}
 use Rattle.std.specs.List.{Contains}
 use Rattle.std.specs.Str.{str_eq_ignore_ascii_case}
 use Rattle.sqval.specs.Bytes.{word}
 use Rattle.sqval.specs.Database.{Database, page}
-use Rattle.sqval.specs.Datum.{Datum, integer, text}
 use Rattle.sqtables.specs.declared.list.Object.{Object}
 use Rattle.sqtables.specs.Objects.{IsTable, IsTableNamed}
 use Rattle.sqdeep.specs.declared.text.Encoding.{Encoding}
 use Rattle.sqdeep.specs.declared.text.Encoding.TheVariants.{Utf8, Utf16Le, Utf16Be}
 use Rattle.sqdeep.specs.Records.{encoding_of}
+use Rattle.sqtext.specs.Texts.{IsStoredAs}
+use Rattle.sqtables.specs.declared.columns.Columns.{Columns}
 use Rattle.cli_row_text.specs.declared.form.Form.{Form}
 use Rattle.cli_row_text.specs.declared.form.Notation.{Notation}
 use Rattle.cli_row_text.specs.declared.form.Notation.TheVariants.{Json, Csv, Sql}
 use Rattle.cli_row_text.specs.Headings.{heading_text}
-use Rattle.cli_row_text.specs.Lines.{IsLine, form_of}
+use Rattle.cli_row_text.specs.Lines.{form_of}
+use Rattle.cli_schema_text.specs.Comments.{unnamed_text}
+use Rattle.cli_schema_text.specs.Names.{can_be_named, column_names, fallback_text}
+use Rattle.cli_schema_text.specs.Texts.{IsJudged, IsTextPrinted, is_left_out, printed_text, schema_row_text}
+use Rattle.schema_print.specs.declared.refusals.Printed.{Printed}
+use Rattle.schema_print.specs.declared.refusals.Printed.TheVariants.{RowOfSchema}
 use Rattle.cli_show_rows.specs.declared.dump.Turn.{Turn}
-use Rattle.cli_show_rows.specs.declared.dump.Turn.TheVariants.{Tables, Internal, Others}
-use Rattle.cli_show_rows.specs.Schemas.{HasObjectsRead}
-use Rattle.cli_show_rows.specs.Tables.{IsHeadedPrinted}
+use Rattle.cli_show_rows.specs.declared.dump.Turn.TheVariants.{Tables, Internal, Others, Virtual}
+use Rattle.cli_show_rows.specs.Schemas.{AreColumnsIn, HasObjectsRead}
+use Rattle.cli_show_rows.specs.Tables.{IsHeadedPrinted, is_named_in}
 
 -- a name that SQLite keeps for its own tables (fileformat2, 2.6.2)
 abbrev pub is_internal : (name : List ℕ) → Bool
@@ -29,15 +35,20 @@ is_internal name = nat_le 7 (length name) && str_eq_ignore_ascii_case (take 7 na
 abbrev pub IsVirtual : Object → Type 0
 IsVirtual o = (¬ IsTable o) × (o.kind.items ≡ codes "table")
 
--- First come the tables of the user and virtual ones, then SQLite's own, and then what isn't a table.
+-- First come the user's tables, then SQLite's own; then what isn't a table, and at last virtual tables.
 abbrev pub IsInTurn : Turn → Object → Type 0
-IsInTurn Tables o = (IsTable o × (is_internal o.name.items ≡ false)) ⊎ IsVirtual o
+IsInTurn Tables o = IsTable o × (is_internal o.name.items ≡ false)
 IsInTurn Internal o = IsTable o × (is_internal o.name.items ≡ true)
 IsInTurn Others o = (¬ IsTable o) × (¬ IsVirtual o)
+IsInTurn Virtual o = IsVirtual o
 
--- a statement that the schema has
-abbrev pub statement_text : List ℕ → List ℕ
-statement_text sql = sql ++ codes ";\n"
+-- What an object's text is printed as.
+abbrev pub IsStatementText : Object → List ℕ → Type 0
+IsStatementText o t = IsTextPrinted o.kind.items o.name.items o.sql.items t
+
+-- The text of an object was printed.
+abbrev pub IsStatementPrinted : Object → (before after : Option (List ℕ)) → Type 0
+IsStatementPrinted o before after = (t : List ℕ) × IsStatementText o t × Appends before after t
 
 -- What makes one of SQLite's own tables in SQL: sqlite_sequence is there once a table counts its keys, and is emptied; the
 -- others are those that ANALYZE makes (fileformat2, 2.6).
@@ -45,61 +56,82 @@ abbrev pub internal_text : (name : List ℕ) → List ℕ
 internal_text name =
     if str_eq_ignore_ascii_case name (codes "sqlite_sequence") then codes "DELETE FROM sqlite_sequence;\n" else codes "ANALYZE sqlite_schema;\n"
 
--- what makes a table in SQL
-abbrev pub making_text : Object → List ℕ
-making_text o = if is_internal o.name.items then internal_text o.name.items else statement_text o.sql.items
+-- What makes a user's table: its text, and one that makes the table if SQLite refuses that text, so that its rows have a place.
+abbrev pub IsTableText : Encoding → Object → List ℕ → Type 0
+IsTableText encoding o t =
+    (own : List ℕ) × (columns : Columns) × IsStatementText o own × AreColumnsIn encoding o.sql.items columns
+    × (t ≡ own ++ fallback_text o.name.items (column_names columns.names.items))
+
+-- What stands for a table that no statement can name: two comments, as its text isn't printed either.
+abbrev pub IsUnnamedText : Object → List ℕ → Type 0
+IsUnnamedText o t = (own : List ℕ) × IsStatementText o own × (t ≡ own ++ unnamed_text o.name.items)
+
+-- What makes a table in SQL, in a database of this encoding.
+abbrev pub IsMakingText : Encoding → Object → List ℕ → Type 0
+IsMakingText encoding o t =
+    MatchBool (can_be_named o.name.items) (MatchBool (is_internal o.name.items) (t ≡ internal_text o.name.items) (IsTableText encoding o t)) (IsUnnamedText o t)
+
+-- It was printed.
+abbrev pub IsMakingPrinted : Encoding → Object → (before after : Option (List ℕ)) → Type 0
+IsMakingPrinted encoding o before after = (t : List ℕ) × IsMakingText encoding o t × Appends before after t
 
 -- a line that names a table, which no row is, as texts stand in quotes there
 abbrev pub title_text : (name : List ℕ) → List ℕ
 title_text name = codes "table," ++ heading_text Csv [] (name ∷ [])
 
--- what stands before the heading of a table
-abbrev pub made_text : Notation → Object → List ℕ
-made_text Json o = []
-made_text Csv o = title_text o.name.items
-made_text Sql o = making_text o
+-- What stands before the heading of a table.
+abbrev pub IsMadeText : Notation → Encoding → Object → List ℕ → Type 0
+IsMadeText Json encoding o t = t ≡ []
+IsMadeText Csv encoding o t = t ≡ title_text o.name.items
+IsMadeText Sql encoding o t = IsMakingText encoding o t
 
--- the row of the schema that a virtual table has
-abbrev pub virtual_row : Object → List Datum
-virtual_row o = text (codes "table") ∷ text o.name.items ∷ text o.name.items ∷ integer (pos 0) ∷ text o.sql.items ∷ []
+abbrev pub IsMadeWritten : Form → Object → (before after : Option (List ℕ)) → Type 0
+IsMadeWritten form o before after = (t : List ℕ) × IsMadeText form.notation form.encoding o t × Appends before after t
 
 -- how the rows of a database are written in a notation: its texts are in its encoding
 abbrev pub form_in : Database → Notation → Form
 form_in d notation = form_of notation (encoding_of d)
 
--- SQL whose texts are in UTF-8
-abbrev pub script_form : Form
-script_form = form_of Sql Utf8
+-- The row of the schema that makes a virtual table again without its module.
+abbrev pub IsSchemaRow : Encoding → Object → List ℕ → Type 0
+IsSchemaRow encoding o t =
+    (name : List ℕ) × (sql : List ℕ) × IsStoredAs encoding o.name.items name × IsStoredAs encoding o.sql.items sql × (t ≡ schema_row_text name sql)
 
--- What a virtual table is printed as: in SQL the INSERT of its row into the schema, so that no module makes its tables again
--- (SQLite's pragma, "writable_schema"). Its module's tables are printed as others are.
-abbrev pub IsVirtualText : Notation → Object → List ℕ → Type 0
-IsVirtualText Json o t = t ≡ []
-IsVirtualText Csv o t = t ≡ []
-IsVirtualText Sql o t =
-    (line : List ℕ) × IsLine script_form (codes "INSERT OR ABORT INTO sqlite_schema(type,name,tbl_name,rootpage,sql) VALUES(") [] None (virtual_row o) line
-    × (t ≡ codes "PRAGMA writable_schema=ON;\n" ++ (line ++ codes "PRAGMA writable_schema=OFF;\n"))
+abbrev pub is_row : Printed → Bool
+is_row RowOfSchema = true
+is_row _ = false
 
-abbrev pub IsVirtualPrinted : Notation → Object → (before after : Option (List ℕ)) → Type 0
-IsVirtualPrinted notation o before after = (t : List ℕ) × IsVirtualText notation o t × Appends before after t
+-- A virtual table is printed as this row; or its text as that of another object, if it makes none.
+abbrev pub IsVirtualJudged : Encoding → Object → Printed → List ℕ → Type 0
+IsVirtualJudged encoding o p t = MatchBool (is_row p) (IsSchemaRow encoding o t) (t ≡ printed_text o.sql.items p)
 
--- what an object that isn't a table is printed as: in SQL its text
-abbrev pub other_text : Notation → Object → List ℕ
-other_text Json o = []
-other_text Csv o = []
-other_text Sql o = statement_text o.sql.items
+abbrev pub IsVirtualText : Encoding → Object → List ℕ → Type 0
+IsVirtualText encoding o t = (p : Printed) × IsJudged o.kind.items o.name.items o.sql.items p × IsVirtualJudged encoding o p t
 
--- The rows of a table were printed behind its heading and what makes it.
+-- What an object that isn't a table, or a virtual table, is printed as: only in SQL. A virtual table's own tables are printed as
+-- others are.
+abbrev pub IsOtherText : Notation → Object → List ℕ → Type 0
+IsOtherText Json o t = t ≡ []
+IsOtherText Csv o t = t ≡ []
+IsOtherText Sql o t = IsStatementText o t
+
+abbrev pub IsVirtualIn : Notation → Encoding → Object → List ℕ → Type 0
+IsVirtualIn Json encoding o t = t ≡ []
+IsVirtualIn Csv encoding o t = t ≡ []
+IsVirtualIn Sql encoding o t = IsVirtualText encoding o t
+
+-- The rows of a table were printed behind its heading and what makes it; or what stands for it, if no statement can name it.
 abbrev pub IsMadePrinted : Database → Form → Object → (before after : Option (List ℕ)) → Type 0
 IsMadePrinted d form o before after =
-    (mid : Option (List ℕ)) × Appends before mid (made_text form.notation o) × IsHeadedPrinted d o form mid after
+    (mid : Option (List ℕ)) × IsMadeWritten form o before mid
+    × MatchBool (is_named_in form.notation o.name.items) (IsHeadedPrinted d o form mid after) (mid ≡ after)
 
 -- An object was printed.
 abbrev pub IsObjectPrinted : Database → Form → Turn → Object → (before after : Option (List ℕ)) → Type 0
-IsObjectPrinted d form Tables o before after =
-    (IsVirtual o × IsVirtualPrinted form.notation o before after) ⊎ ((¬ IsVirtual o) × IsMadePrinted d form o before after)
+IsObjectPrinted d form Tables o before after = IsMadePrinted d form o before after
 IsObjectPrinted d form Internal o before after = IsMadePrinted d form o before after
-IsObjectPrinted d form Others o before after = Appends before after (other_text form.notation o)
+IsObjectPrinted d form Others o before after = (t : List ℕ) × IsOtherText form.notation o t × Appends before after t
+IsObjectPrinted d form Virtual o before after = (t : List ℕ) × IsVirtualIn form.notation form.encoding o t × Appends before after t
 
 -- It was printed in its turn, and nothing in another one.
 abbrev pub IsTurnTaken : Database → Form → Turn → Object → (before after : Option (List ℕ)) → Type 0
@@ -118,10 +150,19 @@ encoding_text Utf8 = []
 encoding_text Utf16Le = codes "PRAGMA encoding='UTF-16le';\n"
 encoding_text Utf16Be = codes "PRAGMA encoding='UTF-16be';\n"
 
--- A script in SQL is one transaction, in the database's encoding. Loading it checks no foreign key and runs no CHECK: SQLite runs
--- each function that a CHECK names, also one that writes files (SQLite's pragma, "ignore_check_constraints").
+-- Loading a script checks no foreign key and runs no CHECK: SQLite runs each function that a CHECK names, also one that writes
+-- files (SQLite's pragma, "ignore_check_constraints").
+abbrev pub settings : List ℕ
+settings = codes "PRAGMA foreign_keys=OFF;\nPRAGMA ignore_check_constraints=ON;\n"
+
+-- What a script begins with. Its tables and rows are one transaction, in the database's encoding.
 abbrev pub start_text : Encoding → List ℕ
-start_text encoding = encoding_text encoding ++ codes "PRAGMA foreign_keys=OFF;\nPRAGMA ignore_check_constraints=ON;\nBEGIN TRANSACTION;\n"
+start_text encoding = encoding_text encoding ++ (settings ++ codes "BEGIN TRANSACTION;\n")
+
+abbrev pub settings_text : Notation → List ℕ
+settings_text Json = []
+settings_text Csv = []
+settings_text Sql = settings
 
 abbrev pub begin_text : Notation → Encoding → List ℕ
 begin_text Json encoding = []
@@ -136,24 +177,52 @@ last_text Json = []
 last_text Csv = []
 last_text Sql = codes "COMMIT;\n"
 
--- These objects were printed, turn by turn.
-pub record AreObjectsPrinted (d : Database) (form : Form) (objects : List Object) (before after : Option (List ℕ)) : Type 0 where
+-- These tables were printed, the user's before SQLite's own, and in a script committed.
+pub record AreRowsCommitted (d : Database) (form : Form) (objects : List Object) (before after : Option (List ℕ)) : Type 0 where
   pub tables_done : Option (List ℕ)
   pub internal_done : Option (List ℕ)
   pub tables : AreTurnsTaken d form Tables objects before tables_done
   pub internal : AreTurnsTaken d form Internal objects tables_done internal_done
-  pub others : AreTurnsTaken d form Others objects internal_done after
+  pub commits : Appends internal_done after (last_text form.notation)
 
--- The objects of a database were printed, each once.
+-- These objects were printed, turn by turn: what isn't a table, and virtual tables, behind the transaction, so that a text
+-- that SQLite refuses costs itself alone.
+pub record AreObjectsPrinted (d : Database) (form : Form) (objects : List Object) (before after : Option (List ℕ)) : Type 0 where
+  pub committed : Option (List ℕ)
+  pub others_done : Option (List ℕ)
+  pub rows : AreRowsCommitted d form objects before committed
+  pub others : AreTurnsTaken d form Others objects committed others_done
+  pub virtual : AreTurnsTaken d form Virtual objects others_done after
+
+-- Whether a script leaves out an object, or its text, that is judged so.
+abbrev pub LeavesOut : Object → Printed → Bool → Type 0
+LeavesOut o p left =
+    (IsTable o × (left ≡ (not (can_be_named o.name.items) || (not (is_internal o.name.items) && is_left_out p))))
+    ⊎ (IsVirtual o × (left ≡ (not (is_row p) && is_left_out p))) ⊎ ((¬ IsTable o) × (¬ IsVirtual o) × (left ≡ is_left_out p))
+
+abbrev pub IsLeftOut : Object → Bool → Type 0
+IsLeftOut o left = (p : Printed) × IsJudged o.kind.items o.name.items o.sql.items p × LeavesOut o p left
+
+-- So many of these objects are left out.
+abbrev pub HasLeftOut : List Object → ℕ → Type 0
+HasLeftOut [] n = n ≡ 0
+HasLeftOut (o ∷ objects) n =
+    (left : Bool) × (m : ℕ) × IsLeftOut o left × HasLeftOut objects m × (n ≡ (if left then suc m else m))
+
+abbrev pub LeavesOutIn : Notation → List Object → ℕ → Type 0
+LeavesOutIn Json objects n = n ≡ 0
+LeavesOutIn Csv objects n = n ≡ 0
+LeavesOutIn Sql objects n = HasLeftOut objects n
+
+-- The objects of a database were printed, each once and none left out.
 pub record AreTablesPrinted (d : Database) (notation : Notation) (before after : Option (List ℕ)) : Type 0 where
   pub objects : List Object
   pub has : HasObjectsRead d objects
   pub encoded : word (page d 1) 56 ≤ 3
   pub begun : Option (List ℕ)
-  pub ended : Option (List ℕ)
   pub first : Appends before begun (first_text (form_in d notation))
-  pub printed : AreObjectsPrinted d (form_in d notation) objects begun ended
-  pub last : Appends ended after (last_text notation)
+  pub printed : AreObjectsPrinted d (form_in d notation) objects begun after
+  pub whole : LeavesOutIn notation objects 0
 
 -- The rows of a table of this name were printed behind its heading.
 pub record IsNamedPrinted (d : Database) (name : List ℕ) (notation : Notation) (before after : Option (List ℕ)) : Type 0 where
@@ -163,4 +232,6 @@ pub record IsNamedPrinted (d : Database) (name : List ℕ) (notation : Notation)
   pub table : Object
   pub among : Contains objects table
   pub named : IsTableNamed name table
-  pub printed : IsHeadedPrinted d table (form_in d notation) before after
+  pub begun : Option (List ℕ)
+  pub first : Appends before begun (settings_text notation)
+  pub printed : IsHeadedPrinted d table (form_in d notation) begun after

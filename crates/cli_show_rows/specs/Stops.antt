@@ -1,5 +1,5 @@
 -- Why not all rows are printed, and what was written until then (own).
-use Rattle.std.specs.Prelude.{◌≡◌, ◌⊎◌, ◌<◌, ◌≤◌, ℕ, true, List, length, map, take, slice_get, Option, Some}
+use Rattle.std.specs.Prelude.{◌≡◌, ◌⊎◌, ◌<◌, ◌≤◌, ℕ, true, false, List, length, map, take, slice_get, Option, Some}
 use Rattle.std.specs.Io.KnownBytes.{Appends}
 use Rattle.std.specs.List.{Contains}
 use Rattle.std.specs.Prelude.{All}
@@ -18,12 +18,14 @@ use Rattle.cli_row_text.specs.declared.form.Notation.TheVariants.{Sql}
 use Rattle.cli_row_text.specs.Headings.{heading_text}
 use Rattle.cli_row_text.specs.Printed.{AreLines, Lacks, HasMore}
 use Rattle.cli_show_rows.specs.declared.stop.Stop.{Stop}
-use Rattle.cli_show_rows.specs.declared.stop.Stop.TheVariants.{Fault, Record, TooLong, NotUnderstood, Default, Behind, Encoding, NoSuchTable, NoMemory, Write}
+use Rattle.cli_show_rows.specs.declared.stop.Stop.TheVariants.{Fault, Record, TooLong, NotUnderstood, Default, Behind, Encoding, NoSuchTable, NotNamed, LeftOut, NoMemory, Write}
 use Rattle.cli_show_rows.specs.declared.dump.Turn.{Turn}
-use Rattle.cli_show_rows.specs.declared.dump.Turn.TheVariants.{Tables, Internal, Others}
+use Rattle.cli_show_rows.specs.declared.dump.Turn.TheVariants.{Tables, Internal, Others, Virtual}
 use Rattle.cli_show_rows.specs.Schemas.{AreColumnsIn, HasObjectsRead}
-use Rattle.cli_show_rows.specs.Tables.{IsInsert, IsNameFor, are_unnamed, leads_in}
-use Rattle.cli_show_rows.specs.Dumps.{AreTurnsTaken, IsInTurn, IsVirtual, first_text, form_in, made_text}
+use Rattle.cli_schema_text.specs.Comments.{count_text}
+use Rattle.cli_show_rows.specs.Tables.{IsInsert, IsNameFor, are_unnamed, is_named_in, leads_in}
+use Rattle.cli_show_rows.specs.Dumps.{AreObjectsPrinted, AreRowsCommitted, AreTurnsTaken, IsInTurn, IsMadeWritten, LeavesOutIn}
+use Rattle.cli_show_rows.specs.Dumps.{first_text, form_in, settings_text}
 
 -- This text was written and no more, unless it was the writer that failed.
 abbrev pub WrittenUntil : Stop → (before after : Option (List ℕ)) → List ℕ → Type 0
@@ -58,9 +60,11 @@ pub record IsBegun (d : Database) (table : Object) (form : Form) (stop : Stop) (
   pub lines : AreLines form insert columns (leads_in form.notation columns rowid) rows text
   pub written : WrittenUntil stop before after text
 
--- Nothing was written: no column is known of a table that is to be written as SQL, or memory ran out.
+-- Nothing was written: of a table that is to be written as SQL no column is known, or no statement can have its name; or memory
+-- ran out.
 abbrev pub IsUnbegun : Object → Form → Stop → (before after : Option (List ℕ)) → Type 0
 IsUnbegun table form NotUnderstood before after = (columns : Columns) × AreColumnsIn form.encoding table.sql.items columns × (are_unnamed columns ≡ true) × (form.notation ≡ Sql) × (before ≡ after)
+IsUnbegun table form NotNamed before after = (is_named_in form.notation table.name.items ≡ false) × (before ≡ after)
 IsUnbegun table form NoMemory before after = before ≡ after
 IsUnbegun table form _ before after = ⊥
 
@@ -96,25 +100,27 @@ SchemaRefused d NoMemory = Unit {0}
 SchemaRefused d _ = ⊥
 
 -- The printing of a table of this name stopped: the objects aren't listed, none is a table of this name, or that one isn't
--- printed to its end.
+-- printed to its end; or the writer failed.
 abbrev pub IsNamedStopped : Database → (name : List ℕ) → Notation → Stop → (before after : Option (List ℕ)) → Type 0
 IsNamedStopped d name notation stop before after =
     (SchemaRefused d stop × (before ≡ after))
     ⊎ ((objects : List Object) × HasObjectsRead d objects × All (λ o. ¬ IsTableNamed name o) objects × (stop ≡ NoSuchTable) × (before ≡ after))
-    ⊎ ((objects : List Object) × (table : Object) × HasObjectsRead d objects × Contains objects table × IsTableNamed name table
-    × IsHeadedStopped d table (form_in d notation) stop before after)
+    ⊎ ((objects : List Object) × (table : Object) × (begun : Option (List ℕ)) × HasObjectsRead d objects × Contains objects table × IsTableNamed name table
+    × Appends before begun (settings_text notation) × IsHeadedStopped d table (form_in d notation) stop begun after)
+    ⊎ IsWriteError stop
 
 -- The printing of a table stopped behind what makes it, or before.
 abbrev pub IsMadeStopped : Database → Form → Object → Stop → (before after : Option (List ℕ)) → Type 0
 IsMadeStopped d form o stop before after =
-    IsWriteError stop ⊎ ((mid : Option (List ℕ)) × Appends before mid (made_text form.notation o) × IsHeadedStopped d o form stop mid after)
+    IsUnheaded stop before after
+    ⊎ ((mid : Option (List ℕ)) × IsMadeWritten form o before mid × (is_named_in form.notation o.name.items ≡ true) × IsHeadedStopped d o form stop mid after)
 
 -- The printing of an object stopped.
 abbrev pub IsObjectStopped : Database → Form → Turn → Object → Stop → (before after : Option (List ℕ)) → Type 0
-IsObjectStopped d form Tables o stop before after =
-    (IsVirtual o × IsWriteError stop) ⊎ ((¬ IsVirtual o) × IsMadeStopped d form o stop before after)
+IsObjectStopped d form Tables o stop before after = IsMadeStopped d form o stop before after
 IsObjectStopped d form Internal o stop before after = IsMadeStopped d form o stop before after
-IsObjectStopped d form Others o stop before after = IsWriteError stop
+IsObjectStopped d form Others o stop before after = IsUnheaded stop before after
+IsObjectStopped d form Virtual o stop before after = IsUnheaded stop before after
 
 -- Of these objects those whose turn it is were printed up to object i, at which the printing stopped.
 abbrev pub IsTurnStopped : Database → Form → Turn → List Object → Stop → (before after : Option (List ℕ)) → Type 0
@@ -122,18 +128,30 @@ IsTurnStopped d form turn objects stop before after =
     (i : ℕ) × (o : Object) × (mid : Option (List ℕ)) × (slice_get objects i ≡ Some o) × AreTurnsTaken d form turn (take i objects) before mid
     × IsInTurn turn o × IsObjectStopped d form turn o stop mid after
 
--- The printing of objects stopped in one of the turns, behind those before.
+-- The printing of objects stopped in one of the turns, behind those before; or the writer failed.
 abbrev pub AreObjectsStopped : Database → Form → List Object → Stop → (before after : Option (List ℕ)) → Type 0
 AreObjectsStopped d form objects stop before after =
-    IsTurnStopped d form Tables objects stop before after
+    IsWriteError stop
+    ⊎ IsTurnStopped d form Tables objects stop before after
     ⊎ ((mid : Option (List ℕ)) × AreTurnsTaken d form Tables objects before mid × IsTurnStopped d form Internal objects stop mid after)
-    ⊎ ((mid : Option (List ℕ)) × (late : Option (List ℕ)) × AreTurnsTaken d form Tables objects before mid × AreTurnsTaken d form Internal objects mid late
-    × IsTurnStopped d form Others objects stop late after)
+    ⊎ ((mid : Option (List ℕ)) × AreRowsCommitted d form objects before mid × IsTurnStopped d form Others objects stop mid after)
+    ⊎ ((mid : Option (List ℕ)) × (late : Option (List ℕ)) × AreRowsCommitted d form objects before mid × AreTurnsTaken d form Others objects mid late
+    × IsTurnStopped d form Virtual objects stop late after)
 
--- The printing of a database stopped: its objects aren't listed, or one isn't printed to its end, or the writer failed.
+-- All was printed but what this many comments stand for, which the last line counts.
+abbrev pub AreSomeLeftOut : Database → Notation → Stop → (before after : Option (List ℕ)) → Type 0
+AreSomeLeftOut d notation (LeftOut n) before after =
+    (objects : List Object) × (begun : Option (List ℕ)) × (ended : Option (List ℕ)) × HasObjectsRead d objects × (word (page d 1) 56 ≤ 3)
+    × Appends before begun (first_text (form_in d notation)) × AreObjectsPrinted d (form_in d notation) objects begun ended
+    × LeavesOutIn notation objects n × (0 < n) × Appends ended after (count_text n)
+AreSomeLeftOut d notation _ before after = ⊥
+
+-- The printing of a database stopped: its objects aren't listed, or one isn't printed to its end, or the writer failed; or a
+-- script leaves something out.
 abbrev pub AreTablesStopped : Database → Notation → Stop → (before after : Option (List ℕ)) → Type 0
 AreTablesStopped d notation stop before after =
     (SchemaRefused d stop × (before ≡ after))
     ⊎ IsWriteError stop
     ⊎ ((objects : List Object) × (begun : Option (List ℕ)) × HasObjectsRead d objects × (word (page d 1) 56 ≤ 3) × Appends before begun (first_text (form_in d notation))
     × AreObjectsStopped d (form_in d notation) objects stop begun after)
+    ⊎ AreSomeLeftOut d notation stop before after

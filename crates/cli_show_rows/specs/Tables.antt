@@ -12,6 +12,7 @@ use Rattle.cli_row_text.specs.declared.form.Notation.TheVariants.{Json, Csv, Sql
 use Rattle.cli_row_text.specs.Headings.{heading_text}
 use Rattle.cli_row_text.specs.Inserts.{insert_text}
 use Rattle.cli_row_text.specs.Printed.{IsPrinted}
+use Rattle.cli_schema_text.specs.Names.{can_be_named, column_names}
 use Rattle.cli_show_rows.specs.Schemas.{AreColumnsIn}
 
 -- some column has this name, where ASCII's small letters are its capitals
@@ -34,7 +35,13 @@ pub record IsRowidName (columns : Columns) (name : List ℕ) : Type 0 where
 abbrev pub IsInsert : Notation → Object → Columns → (rowid : Option (List ℕ)) → List ℕ → Type 0
 IsInsert Json table columns rowid insert = insert ≡ []
 IsInsert Csv table columns rowid insert = insert ≡ []
-IsInsert Sql table columns rowid insert = insert ≡ insert_text table.name.items rowid (map (λ n. n.items) columns.names.items)
+IsInsert Sql table columns rowid insert = insert ≡ insert_text table.name.items rowid (column_names columns.names.items)
+
+-- whether a table of this name can be written: in SQL by a name that a statement can have
+abbrev pub is_named_in : Notation → (name : List ℕ) → Bool
+is_named_in Json name = true
+is_named_in Csv name = true
+is_named_in Sql name = can_be_named name
 
 -- there is no rowid, or no name of it will do
 abbrev pub NoRowidName : Columns → Type 0
@@ -59,6 +66,7 @@ leads_in Sql columns rowid = is_some rowid
 -- The lines of the rows of a table were written, each once and in order: under the names that its text gives to its columns,
 -- with its rowids, the values and the defaults of the columns.
 pub record IsTablePrinted (d : Database) (table : Object) (form : Form) (before after : Option (List ℕ)) : Type 0 where
+  pub nameable : is_named_in form.notation table.name.items ≡ true
   pub columns : Columns
   pub known : AreColumnsIn form.encoding table.sql.items columns
   pub rowid : Option (List ℕ)

@@ -7,12 +7,15 @@ mod schema;
 mod stop;
 mod table;
 mod tables;
+mod texts;
 
 pub use columns::known_columns;
-pub use dump::{
-    is_internal, is_sequence, print_named, print_tables, write_making, write_start, write_statement,
-};
+pub use dump::{print_named, print_tables, write_start};
 pub use schema::{Schema, listed, read_object};
 pub use stop::Stop;
 pub use table::{print_table, rowid_name};
 pub use tables::print_headed;
+pub use texts::{
+    is_internal, is_sequence, is_virtual, left_out, print_making, print_statement,
+    print_virtual_text,
+};

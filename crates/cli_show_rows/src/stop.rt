@@ -36,6 +36,12 @@ pub enum Stop {
     /// The encoding of the database's texts isn't known.
     #[error("text encoding not understood")]
     Encoding,
+    /// No statement of a script can have the table's name.
+    #[error("a name with NUL or CR")]
+    NotNamed,
+    /// A script leaves out so many texts and tables, each behind a comment that says why.
+    #[error("{0} texts and tables left out")]
+    LeftOut(usize),
     /// No table has the name.
     #[error("no such table")]
     NoSuchTable,

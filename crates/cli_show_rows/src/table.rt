@@ -5,7 +5,7 @@ ghost use Rattle.std.specs.Str.{str_eq_ignore_ascii_case};
 ghost use Rattle.sqpage.specs.Source.{KeepsPages};
 ghost use Rattle.cli_row_text.specs.Inserts.{rowid_name as rowid_named};
 ghost use Rattle.cli_show_rows.specs.Tables.{IsInsert, IsNameFor, IsTablePrinted, has_column as has_named};
-ghost use Rattle.cli_show_rows.specs.Tables.{are_unnamed, has_rowids, leads_in};
+ghost use Rattle.cli_show_rows.specs.Tables.{are_unnamed, has_rowids, is_named_in, leads_in};
 ghost use Rattle.cli_row_text.specs.declared.form.Notation.{Notation};
 ghost use Rattle.cli_show_rows.specs.Stops.{IsTableStopped};
 ghost use Rattle.cli_show_rows.specs.declared.stop.Stop.{Stop};
@@ -13,6 +13,7 @@ ghost use Rattle.cli_show_rows.specs.declared.stop.Stop.{Stop};
 use crate::columns::known_columns;
 use crate::stop::Stop;
 use cli_row_text::{Form, Notation, Style, print_rows, write_insert};
+use cli_schema_text::{can_be_named, column_names};
 use sqpage::PageSource;
 use sqtables::{Columns, Object};
 use std::alloc::Global;
@@ -96,10 +97,25 @@ fn insert_of(
     let mut insert = Vec::new(alloc);
     match notation {
         Notation::Json | Notation::Csv => Ok(insert),
-        Notation::Sql => match write_insert(&mut insert, &table.name, rowid, &columns.names) {
-            Ok(()) => Ok(insert),
-            Err(_) => Err(Stop::NoMemory),
-        },
+        Notation::Sql => {
+            let Ok(names) = column_names(alloc, &columns.names) else {
+                return Err(Stop::NoMemory);
+            };
+            match write_insert(&mut insert, &table.name, rowid, &names) {
+                Ok(()) => Ok(insert),
+                Err(_) => Err(Stop::NoMemory),
+            }
+        }
+    }
+}
+
+/// Whether a table of this name can be written: in SQL not if a statement can't have the name.
+pub(crate) fn is_named_in(notation: Notation, name: &[u8]) -> bool
+    ensures { result ≡ is_named_in notation name.now }
+{
+    match notation {
+        Notation::Json | Notation::Csv => true,
+        Notation::Sql => can_be_named(name),
     }
 }
 
@@ -115,7 +131,8 @@ fn is_unknown(notation: Notation, columns: &Columns) -> bool
 
 /// Writes a line for each row of a table, in order. The rowid stands before the values where the form is SQL and no
 /// column is another name for it, or where no column is known. Refused by `NotUnderstood` where the form is SQL and no
-/// column is known; by faults of its tree and rows behind the lines that stand before them.
+/// column is known, and by `NotNamed` where it is SQL and no statement can have the table's name; by faults of its tree
+/// and rows behind the lines that stand before them.
 pub fn print_table<S: PageSource, W: Write>(
     alloc: Global,
     source: &mut S,
@@ -137,6 +154,9 @@ pub fn print_table<S: PageSource, W: Write>(
     };
     if is_unknown(form.notation, &columns) {
         return Err(Stop::NotUnderstood);
+    }
+    if !is_named_in(form.notation, table.name.as_slice()) {
+        return Err(Stop::NotNamed);
     }
     let rowid = rowid_name(&columns);
     let insert = match insert_of(alloc, table, &columns, rowid, form.notation) {

@@ -6,5 +6,7 @@ pub mod Kept
 pub mod LeavesWritten
 -- Objects, one more at the end.
 pub mod ObjectsWritten
+-- Of what stops that comes from printing a text.
+pub mod RunOut
 -- Texts of numbers in a row, one more at the end.
 pub mod TextsInRow

@@ -18,6 +18,8 @@ pub turns_more : (d : Database) (encoding : Encoding) (lost : List ℕ) (places 
 turns_more d encoding lost places own passed old before objects i o mid_passed now_passed mid new at after within are is =
     subst (λ (xs : List Object). AreTurnsSalvaged d encoding lost places own passed old before xs now_passed new after) (one_more objects i o within) (more are is)
 
-pub others_more : (before : Option (List ℕ)) (objects : List Object) (i : ℕ) (o : Object) (mid after : Option (List ℕ)) → i < length objects
-    → AreOthersWritten before (take i objects) mid → IsOtherWritten (get_or objects i o) mid after → AreOthersWritten before (take (i + 1) objects) after
-others_more before objects i o mid after within are is = subst (λ (xs : List Object). AreOthersWritten before xs after) (one_more objects i o within) (next (get_or objects i o) are is)
+pub others_more : (virtual : Bool) (encoding : Encoding) (before : Option (List ℕ)) (objects : List Object) (i : ℕ) (o : Object) (mid after : Option (List ℕ)) → i < length objects
+    → AreOthersWritten virtual encoding before (take i objects) mid → IsOtherWritten virtual encoding (get_or objects i o) mid after
+    → AreOthersWritten virtual encoding before (take (i + 1) objects) after
+others_more virtual encoding before objects i o mid after within are is =
+    subst (λ (xs : List Object). AreOthersWritten virtual encoding before xs after) (one_more objects i o within) (next (get_or objects i o) are is)

@@ -22,7 +22,7 @@ use crate::faults::{faults_of, print_faults};
 use crate::found::stop_of;
 use crate::leaves::{print_lost_leaves, print_tree};
 use crate::lost::write_made;
-use crate::tables::{lost_name, print_others, print_turn};
+use crate::tables::{lost_name, print_behind, print_turn};
 use byteorder::{BigEndian, ByteOrder};
 use cli_row_text::Notation;
 use cli_show_rows::{Stop, print_tables, write_start};
@@ -143,7 +143,7 @@ struct How {
     encoding: Encoding,
 }
 
-/// Writes the rows of the objects, and behind them what has no rows of its own.
+/// Writes the rows of the objects, and behind them what has no rows of its own. Gives how many are left out.
 fn print_rows<S: PageSource, W: Write>(
     alloc: Global,
     source: &mut S,
@@ -151,12 +151,12 @@ fn print_rows<S: PageSource, W: Write>(
     objects: &[Object],
     how: How,
     out: &mut W,
-) -> Result<(), Stop>
+) -> Result<usize, Stop>
     requires sized { S.size source.old ≡ salvage.old.size }
     requires ended { salvage.old.pending.items ≡ [] }
     requires first { salvage.old.at ≡ 0 }
-    ensures ok { S.gives_pages source.old → IsOver (S.pages source.old) salvage.old → OnOk result
-        (AreRowsSalvaged (S.pages source.old) how.encoding how.places objects.now salvage.old.marks.items
+    ensures ok { S.gives_pages source.old → IsOver (S.pages source.old) salvage.old → IfOk result
+        (λ left. AreRowsSalvaged (S.pages source.old) how.encoding how.places objects.now salvage.old.marks.items left
         (W.contents out.old) (W.contents out.new)) }
     ensures err { S.gives_pages source.old → IsOver (S.pages source.old) salvage.old → IfErr result IsRunOut }
     ensures keeps { KeepsPages S.pages S.size S.reads_right S.gives_pages source.old source.new }
@@ -178,7 +178,7 @@ fn print_rows<S: PageSource, W: Write>(
         own: false,
     };
     match print_trees(source, salvage, turn, &mut book, out) {
-        Ok(()) => print_others(out, objects),
+        Ok(()) => print_behind(alloc, how.encoding, objects, out),
         Err(stop) => Err(stop),
     }
 }
@@ -216,16 +216,16 @@ fn print_opening<W: Write>(
     }
 }
 
-/// Writes what can be read of a database whose pages have these faults.
+/// Writes what can be read of a database whose pages have these faults. Gives how many objects are left out.
 fn print_damaged<S: PageSource, W: Write>(
     alloc: Global,
     source: &mut S,
     faults: &[CheckError],
     places: bool,
     out: &mut W,
-) -> Result<(), Stop>
-    ensures ok { S.gives_pages source.old → AreFaultsOf (S.pages source.old) (S.size source.old) faults.now → OnOk
-        result (IsSalvaged (S.pages source.old) (S.size source.old) places (W.contents out.old)
+) -> Result<usize, Stop>
+    ensures ok { S.gives_pages source.old → AreFaultsOf (S.pages source.old) (S.size source.old) faults.now → IfOk
+        result (λ left. IsSalvaged (S.pages source.old) (S.size source.old) places left (W.contents out.old)
         (W.contents out.new)) }
     ensures err { S.gives_pages source.old → IfErr result (λ stop. IsRunOut stop
         ⊎ (IsUnfit (S.pages source.old) stop × (W.contents out.old ≡ W.contents out.new))) }
@@ -271,14 +271,16 @@ fn print_whole<S: PageSource, W: Write>(
 }
 
 /// Writes a database as a script of SQL that makes it. Of one that is well formed, pointer maps and all, exactly what
-/// `print_tables` writes, with its errors. Of any other what can be read, as one transaction: the tables whose texts
-/// are understood, with the rows that they take, those WITHOUT ROWID too; each other row that can be read in a table
-/// `lost_and_found`, with the root of its tree, or NULL, its page, how many values it has and its rowid, or NULL; a
-/// comment for each cell that can't, with its page and its index there; with `places` such a comment before each row
-/// too. Before all of them stands a comment for each page that has a fault, rising, with the first one that a survey
-/// tells of it. Leaves that no tree reaches are read where they are those of a table with rowids: those of a table
-/// WITHOUT ROWID can't be told from an index's. Indexes, triggers and views come behind it. True where it is well
-/// formed. Refused by `Encoding` where it is well formed and the encoding of its texts isn't known, by PageOutside and
+/// `print_tables` writes, with its errors. Of any other what can be read, as one transaction: tables as `print_making`
+/// makes them, with the rows that they take, those WITHOUT ROWID too; each other row that can be read, and each of a
+/// table of which no column is known or that no statement can name, in a table `lost_and_found`, with the root of its
+/// tree, or NULL, its page, how many values it has and its rowid, or NULL; a comment for each cell that can't, with its
+/// page and its index there; with `places` such a comment before each row too. Before all of them stands a comment for
+/// each page that has a fault, rising, with the first one that a survey tells of it. Leaves that no tree reaches are
+/// read where they are those of a table with rowids: those of a table WITHOUT ROWID can't be told from an index's.
+/// Indexes, triggers and views come behind it, and virtual tables behind those. What comments stand for is counted in
+/// the last line. True where the database is well formed. Refused by `LeftOut` where something is left out, behind all
+/// of the script, by `Encoding` where it is well formed and the encoding of its texts isn't known, by PageOutside and
 /// Reserved at page 1 where there is no page or fewer than 480 bytes of one are usable, by `NoMemory`, and by an error
 /// of the writer.
 pub fn print_salvage<S: PageSource, W: Write>(
@@ -290,7 +292,7 @@ pub fn print_salvage<S: PageSource, W: Write>(
     ensures ok { S.gives_pages source.old → IfOk result (IsScript (S.pages source.old) (S.size source.old) places
         (W.contents out.old) (W.contents out.new)) }
     ensures err { S.gives_pages source.old → IfErr result (λ stop. IsScriptStopped (S.pages source.old)
-        (S.size source.old) stop (W.contents out.old) (W.contents out.new)) }
+        (S.size source.old) places stop (W.contents out.old) (W.contents out.new)) }
     ensures keeps { KeepsPages S.pages S.size S.reads_right S.gives_pages source.old source.new }
 {
     let faults = match faults_of(alloc, source) {
@@ -299,7 +301,8 @@ pub fn print_salvage<S: PageSource, W: Write>(
         Err(stop) => return Err(stop),
     };
     match print_damaged(alloc, source, &faults, places, out) {
-        Ok(()) => Ok(false),
+        Ok(0) => Ok(false),
+        Ok(left) => Err(Stop::LeftOut(left)),
         Err(stop) => Err(stop),
     }
 }

@@ -1,38 +1,31 @@
 //! The table that an object of the schema is, as far as its rows can be read.
-ghost use Rattle.std.specs.Prelude.{◌≡◌, [], IfErr, IfOk, OnOk, Some, map};
-ghost use Rattle.std.specs.Io.KnownBytes.{Appends};
+ghost use Rattle.std.specs.Prelude.{◌≡◌, [], IfErr, IfOk, OnOk, Some};
 ghost use Rattle.sqpage.specs.Source.{KeepsPages};
 ghost use Rattle.cli_row_text.specs.Inserts.{insert_text, rowid_name as rowid_named};
-ghost use Rattle.cli_show_rows.specs.Tables.{are_unnamed, has_rowids};
+ghost use Rattle.cli_schema_text.specs.Names.{column_names};
+ghost use Rattle.cli_show_rows.specs.Dumps.{IsMakingPrinted};
+ghost use Rattle.cli_show_rows.specs.Tables.{has_rowids};
 ghost use Rattle.sqsalvage.specs.SalvageCursor.{IsOver};
 ghost use Rattle.cli_show_salvage.specs.Cells.{IsRunOut};
-ghost use Rattle.cli_show_salvage.specs.Scripts.{IsGoing, IsTableSalvaged, head_text, unmade_text};
+ghost use Rattle.cli_show_salvage.specs.Scripts.{IsGoing, IsTableSalvaged, takes_rows};
 
 use crate::book::{Book, Going, Target, Turn};
 use crate::leaves::print_tree;
-use crate::marks::write_literal;
 use cli_row_text::{Form, Notation, Style, write_insert};
-use cli_show_rows::{Stop, known_columns, rowid_name, write_making};
+use cli_schema_text::{can_be_named, column_names};
+use cli_show_rows::{Stop, known_columns, print_making, rowid_name};
+use sqdeep::Encoding;
 use sqpage::PageSource;
 use sqsalvage::Salvage;
 use sqtables::{Columns, Object};
 use std::alloc::Global;
-use std::io::{self, Write};
+use std::io::Write;
 
-/// A statement that isn't made.
-pub(crate) fn write_unmade<W: Write>(out: &mut W, sql: &[u8]) -> io::Result<()>
-    ensures { OnOk result (Appends (W.contents out.old) (W.contents out.new) (unmade_text sql.now)) }
+/// Whether rows can be written as a table's: a column of it is known, and a statement can name it.
+fn takes_rows(table: &Object, columns: &Columns) -> bool
+    ensures { result ≡ takes_rows table.now columns.now }
 {
-    out.write_all(b"-- not made: ")?;
-    write_literal(out, sql)?;
-    out.write_all(b"\n")
-}
-
-/// Whether no column of a table is known, which isn't made then.
-fn are_unnamed(columns: &Columns) -> bool
-    ensures { result ≡ are_unnamed columns.now }
-{
-    columns.names.is_empty()
+    !columns.names.is_empty() && can_be_named(table.name.as_slice())
 }
 
 /// Whether a table has rowids.
@@ -43,13 +36,19 @@ fn has_rowids(columns: &Columns) -> bool
 }
 
 /// What stands before the rows of a table.
-fn write_head<W: Write>(out: &mut W, table: &Object, columns: &Columns) -> io::Result<()>
-    ensures { OnOk result (Appends (W.contents out.old) (W.contents out.new) (head_text table.now columns.now)) }
+#[tactic(auto, using(crate::proofs::RunOut::run_out))]
+fn print_head<W: Write>(
+    alloc: Global,
+    encoding: Encoding,
+    table: &Object,
+    out: &mut W,
+) -> Result<(), Stop>
+    ensures ok { OnOk result (IsMakingPrinted encoding table.now (W.contents out.old) (W.contents out.new)) }
+    ensures err { IfErr result IsRunOut }
 {
-    if are_unnamed(columns) {
-        write_unmade(out, table.sql.as_slice())
-    } else {
-        write_making(out, table)
+    match print_making(alloc, encoding, table, out) {
+        Ok(()) => Ok(()),
+        Err(stop) => Err(stop),
     }
 }
 
@@ -61,11 +60,14 @@ fn insert_of(
     rowid: Option<&str>,
 ) -> Result<Vec<u8>, Stop>
     ensures ok { IfOk result (λ insert. insert.items ≡ insert_text table.now.name.items (rowid_named rowid.entry)
-        (map (λ n. n.items) columns.now.names.items)) }
+        (column_names columns.now.names.items)) }
     ensures err { IfErr result IsRunOut }
 {
+    let Ok(names) = column_names(alloc, &columns.names) else {
+        return Err(Stop::NoMemory);
+    };
     let mut insert = Vec::new(alloc);
-    match write_insert(&mut insert, &table.name, rowid, &columns.names) {
+    match write_insert(&mut insert, &table.name, rowid, &names) {
         Ok(()) => Ok(insert),
         Err(_) => Err(Stop::NoMemory),
     }
@@ -74,22 +76,22 @@ fn insert_of(
 /// Where the rows of a table go.
 fn target_of<'a>(
     turn: Turn<'a>,
-    root: u32,
+    object: &Object,
     columns: &'a Columns,
     insert: &'a [u8],
     leads: bool,
 ) -> Target<'a>
     ensures lost { (result.lost.now ≡ turn.entry.lost.now) × (result.places ≡ turn.entry.places)
         × (result.encoding ≡ turn.entry.encoding) }
-    ensures root { result.root ≡ Some root }
+    ensures root { result.root ≡ Some object.now.root }
     ensures table { result.table ≡ has_rowids columns.entry.now }
-    ensures goes { IsGoing turn.entry.encoding columns.entry.now insert.entry.now leads result.going }
+    ensures goes { IsGoing turn.entry.encoding object.now columns.entry.now insert.entry.now leads result.going }
 {
     let table = has_rowids(columns);
-    if are_unnamed(columns) {
+    if !takes_rows(object, columns) {
         return Target {
             lost: turn.lost,
-            root: Some(root),
+            root: Some(object.root),
             table,
             going: Going::Lost,
             places: turn.places,
@@ -107,7 +109,7 @@ fn target_of<'a>(
     };
     Target {
         lost: turn.lost,
-        root: Some(root),
+        root: Some(object.root),
         table,
         going: Going::Table(style),
         places: turn.places,
@@ -115,7 +117,7 @@ fn target_of<'a>(
     }
 }
 
-/// Writes a table and its rows. Where its text isn't understood the rows are lost ones.
+/// Writes a table and its rows. Where no column is known, or no statement can name it, the rows are lost ones.
 pub(crate) fn print_table<S: PageSource, W: Write>(
     source: &mut S,
     salvage: &mut Salvage,
@@ -145,11 +147,11 @@ pub(crate) fn print_table<S: PageSource, W: Write>(
         Ok(insert) => insert,
         Err(stop) => return Err(stop),
     };
-    match write_head(out, table, &columns) {
+    match print_head(book.alloc, turn.encoding, table, out) {
         Ok(()) => {}
-        Err(error) => return Err(Stop::Write(error)),
+        Err(stop) => return Err(stop),
     }
     book.empty();
-    let target = target_of(turn, table.root, &columns, &insert, rowid.is_some());
+    let target = target_of(turn, table, &columns, &insert, rowid.is_some());
     print_tree(source, salvage, &target, table.root, book, out)
 }

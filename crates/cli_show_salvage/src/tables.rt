@@ -1,22 +1,26 @@
 //! The objects of a damaged database.
-ghost use Rattle.std.specs.Prelude.{◌≡◌, ◌≢◌, [], All, IfErr, IfOk, IsTrue, OnOk, false, codes, ◌++◌};
+ghost use Rattle.std.specs.Prelude.{◌≡◌, ◌≢◌, ℕ, List, [], All, IfErr, IfOk, IsTrue, OnOk, false, codes, ◌++◌};
 ghost use Rattle.std.specs.Fmt.{decimal};
 ghost use Rattle.std.specs.Io.KnownBytes.{Appends};
 ghost use Rattle.std.specs.Str.{str_eq_ignore_ascii_case};
 ghost use Rattle.sqpage.specs.Source.{KeepsPages};
 ghost use Rattle.sqsalvage.specs.SalvageCursor.{IsOver};
 ghost use Rattle.cli_show_salvage.specs.Cells.{IsRunOut};
-ghost use Rattle.cli_show_salvage.specs.Scripts.{AreOthersWritten, AreTurnsSalvaged, IsLostName, IsOtherWritten};
-ghost use Rattle.cli_show_salvage.specs.Scripts.{IsTableOf, IsTurnSalvaged, other_text};
+ghost use Rattle.cli_show_rows.specs.Dumps.{HasLeftOut};
+ghost use Rattle.cli_schema_text.specs.Comments.{count_text};
+ghost use Rattle.cli_show_salvage.specs.Scripts.{AreOthersCounted, AreOthersWritten, AreTurnsSalvaged, IsLostName};
+ghost use Rattle.cli_show_salvage.specs.Scripts.{IsOther, IsOtherText, IsOtherWritten, IsTableOf, IsTurnSalvaged};
 
 use crate::book::{Book, Turn};
-use crate::table::{print_table, write_unmade};
-use cli_show_rows::{Stop, is_internal, write_statement};
+use crate::table::print_table;
+use cli_schema_text::write_count;
+use cli_show_rows::{Stop, is_internal, is_virtual, left_out, print_statement, print_virtual_text};
+use sqdeep::Encoding;
 use sqpage::PageSource;
 use sqsalvage::Salvage;
 use sqtables::Object;
 use std::alloc::{AllocError, Global};
-use std::io::{self, Write};
+use std::io::Write;
 
 /// Whether an object is one of these tables.
 fn is_table_of(own: bool, object: &Object) -> bool
@@ -86,43 +90,117 @@ pub(crate) fn print_turn<S: PageSource, W: Write>(
     Ok(())
 }
 
-/// An object without rows of its own.
-fn write_other<W: Write>(out: &mut W, object: &Object) -> io::Result<()>
-    ensures { OnOk result (Appends (W.contents out.old) (W.contents out.new) (other_text object.now)) }
+/// Whether an object has no rows of its own: a virtual table, or what is none.
+fn is_other(object: &Object, only_virtual: bool) -> bool
+    ensures yes { IsTrue result → IsOther only_virtual object.now }
+    ensures not { result ≡ false → ¬ IsOther only_virtual object.now }
 {
-    if object.kind.as_slice() == b"table".as_slice() {
-        write_unmade(out, object.sql.as_slice())
+    if only_virtual {
+        is_virtual(object)
     } else {
-        write_statement(out, object.sql.as_slice())
+        !object.is_table() && !is_virtual(object)
     }
 }
 
-/// Writes an object where it has no rows of its own.
-fn print_other<W: Write>(out: &mut W, object: &Object) -> Result<(), Stop>
-    ensures ok { OnOk result (IsOtherWritten object.now (W.contents out.old) (W.contents out.new)) }
+/// Writes an object without rows of its own.
+#[tactic(auto, using(crate::proofs::RunOut::run_out))]
+fn print_text<W: Write>(
+    alloc: Global,
+    encoding: Encoding,
+    object: &Object,
+    only_virtual: bool,
+    out: &mut W,
+) -> Result<(), Stop>
+    ensures ok { OnOk result ((t : List ℕ) × IsOtherText only_virtual encoding object.now t
+        × Appends (W.contents out.old) (W.contents out.new) t) }
     ensures err { IfErr result IsRunOut }
 {
-    if object.is_table() {
-        return Ok(());
-    }
-    match write_other(out, object) {
+    let printed = if only_virtual {
+        print_virtual_text(alloc, encoding, object, out)
+    } else {
+        print_statement(alloc, object, out)
+    };
+    match printed {
         Ok(()) => Ok(()),
-        Err(error) => Err(Stop::Write(error)),
+        Err(stop) => Err(stop),
     }
 }
 
-/// Writes those of the objects that have no rows of their own.
-pub(crate) fn print_others<W: Write>(out: &mut W, objects: &[Object]) -> Result<(), Stop>
-    ensures ok { OnOk result (AreOthersWritten (W.contents out.old) objects.now (W.contents out.new)) }
+/// Writes an object where it is such a one.
+fn print_other<W: Write>(
+    alloc: Global,
+    encoding: Encoding,
+    object: &Object,
+    only_virtual: bool,
+    out: &mut W,
+) -> Result<(), Stop>
+    ensures ok { OnOk result (IsOtherWritten only_virtual encoding object.now (W.contents out.old)
+        (W.contents out.new)) }
+    ensures err { IfErr result IsRunOut }
+{
+    if is_other(object, only_virtual) {
+        print_text(alloc, encoding, object, only_virtual, out)
+    } else {
+        Ok(())
+    }
+}
+
+/// Writes those of the objects that are such ones.
+fn print_others<W: Write>(
+    alloc: Global,
+    encoding: Encoding,
+    objects: &[Object],
+    only_virtual: bool,
+    out: &mut W,
+) -> Result<(), Stop>
+    ensures ok { OnOk result (AreOthersWritten only_virtual encoding (W.contents out.old) objects.now
+        (W.contents out.new)) }
     ensures err { IfErr result IsRunOut }
 {
     for object in objects {
-        match print_other(out, object) {
+        match print_other(alloc, encoding, object, only_virtual, out) {
             Ok(()) => {}
             Err(stop) => return Err(stop),
         }
     }
     Ok(())
+}
+
+/// Writes how many of the objects are left out, or their texts.
+fn print_count<W: Write>(alloc: Global, objects: &[Object], out: &mut W) -> Result<usize, Stop>
+    ensures ok { IfOk result (λ count. HasLeftOut objects.now count
+        × Appends (W.contents out.old) (W.contents out.new) (count_text count)) }
+    ensures err { IfErr result IsRunOut }
+{
+    let Ok(count) = left_out(alloc, objects) else {
+        return Err(Stop::NoMemory);
+    };
+    match write_count(out, count) {
+        Ok(()) => Ok(count),
+        Err(error) => Err(Stop::Write(error)),
+    }
+}
+
+/// Writes what stands behind the rows of the objects: what has none, virtual tables last, and how many are left out.
+/// Gives that number.
+pub(crate) fn print_behind<W: Write>(
+    alloc: Global,
+    encoding: Encoding,
+    objects: &[Object],
+    out: &mut W,
+) -> Result<usize, Stop>
+    ensures ok { IfOk result (λ left. AreOthersCounted encoding objects.now left
+        (W.contents out.old) (W.contents out.new)) }
+    ensures err { IfErr result IsRunOut }
+{
+    match print_others(alloc, encoding, objects, false, out) {
+        Ok(()) => {}
+        Err(stop) => return Err(stop),
+    }
+    match print_others(alloc, encoding, objects, true, out) {
+        Ok(()) => print_count(alloc, objects, out),
+        Err(stop) => Err(stop),
+    }
 }
 
 /// Whether an object has this name. SQLite's names don't tell ASCII's small letters from its capitals.

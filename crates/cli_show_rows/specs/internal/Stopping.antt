@@ -1,4 +1,7 @@
 -- What a stop is told for (own).
+use Rattle.std.specs.Prelude.{◌≡◌, ◌<◌, ℕ, List, Option}
+use Rattle.std.specs.Io.KnownBytes.{Appends}
+use Rattle.cli_schema_text.specs.Comments.{count_text}
 use Rattle.sqrows.specs.declared.rows.RowsError.{RowsError}
 use Rattle.sqrows.specs.declared.rows.RowsError.TheVariants as row_errors
 use Rattle.sqrows.specs.declared.payload.PayloadError.TheVariants as payload_errors
@@ -7,7 +10,13 @@ use Rattle.sqtables.specs.declared.list.ListError.TheVariants as list_errors
 use Rattle.cli_row_text.specs.declared.print.PrintError.{PrintError}
 use Rattle.cli_row_text.specs.declared.print.PrintError.TheVariants as print_errors
 use Rattle.cli_show_rows.specs.declared.stop.Stop.{Stop}
-use Rattle.cli_show_rows.specs.declared.stop.Stop.TheVariants.{Fault, Record, TooLong, Default, Behind, NoMemory, Write}
+use Rattle.cli_show_rows.specs.declared.stop.Stop.TheVariants.{Fault, Record, TooLong, Default, Behind, LeftOut, NoMemory, Write}
+
+-- What was left out was counted in a line, or the writer failed.
+abbrev pub IsCounted : (count : ℕ) → Stop → (before after : Option (List ℕ)) → Type 0
+IsCounted count (LeftOut n) before after = (n ≡ count) × (0 < count) × Appends before after (count_text count)
+IsCounted count (Write e) before after = Unit {0}
+IsCounted count _ before after = ⊥
 
 abbrev pub stop_of_row : RowsError → Stop
 stop_of_row (row_errors.Tree e) = Fault e

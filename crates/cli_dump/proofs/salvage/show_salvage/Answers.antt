@@ -42,7 +42,7 @@ returns-in-Ok-clause-shown g c = λ given.
       v.page_size,
       d,
       shows,
-      both c.write_script-ended.result (IsScripted d v.page_size c.args.places before after) (λ stop. IsScriptStopped d v.page_size stop before after)
+      both c.write_script-ended.result (IsScripted d v.page_size c.args.places before after) (λ stop. IsScriptStopped d v.page_size c.args.places stop before after)
           (c.write_script-ended.ensures.ok gives) (c.write_script-ended.ensures.err gives),
     )
 

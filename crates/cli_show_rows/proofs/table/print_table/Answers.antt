@@ -1,8 +1,9 @@
-use Rattle.std.proofs.Common.{Bool, List, ℕ, inl, inr, refl, subst, sym}
+use Rattle.std.proofs.Common.{Bool, List, ℕ, ◌∙◌, ap, inl, inr, refl, subst, sym}
 use Rattle.cli_row_text.specs.Inserts.{rowid_name}
 use Rattle.cli_row_text.specs.Printed.{IsPrinted, IsPrintedUntil}
 use Rattle.cli_show_rows.specs.declared.stop.Stop.{Stop}
 use Rattle.cli_show_rows.specs.Stops.{IsUnbegun}
+use Rattle.cli_show_rows.specs.Tables.{is_named_in}
 use Rattle.cli_show_rows.proofs.TablesStopped.{begun}
 use Rattle.cli_show_rows.proofs.table.print_table.Goals as goal
 
@@ -14,6 +15,7 @@ returns-in-Ok-print_rows-clause-ok g c = λ gives.
     let insert = c.in-Ok-insert_of.insert.items in
     let begun = subst (λ (insert : List ℕ). IsPrinted d c.args.table.now.root c.args.form insert columns c.leads.result p.0) c.deref.ensures.value p.1 in
     record {
+      nameable = (sym (c.is_named_in.ensures ∙ ap (λ n. is_named_in c.args.form.notation n) c.as_slice.ensures.value) ∙ c.if-not-is_named_in.false);
       columns = columns;
       known = c.in-Ok.ensures.ok;
       rowid = rowid_name c.rowid_name-rowid.result;
@@ -50,3 +52,6 @@ returns-clause-err g c = λ gives.
     let until = subst (λ (insert : List ℕ). IsPrintedUntil d c.args.table.now.root c.args.form insert columns c.leads.result e before after) c.deref.ensures.value (c.in-Err-print_rows.ensures.err gives) in
     inr (begun d c.args.table.now c.args.form columns (rowid_name c.rowid_name-rowid.result) c.in-Ok-insert_of.insert.items c.leads.result e c.from.result before after
     c.in-Ok.ensures.ok c.rowid_name-rowid.ensures c.in-Ok-insert_of.ensures.ok c.leads.ensures c.from.ensures until)
+
+pub returns-then-not-is_named_in-clause-err : goal.returns-then-not-is_named_in-clause-err
+returns-then-not-is_named_in-clause-err g c = λ gives. inl ((sym (c.is_named_in.ensures ∙ ap (λ n. is_named_in c.args.form.notation n) c.as_slice.ensures.value) ∙ c.if-not-is_named_in.true), refl)

@@ -1,6 +1,6 @@
 use Rattle.std.proofs.Common.{List, ℕ, ◌≡◌, ◌∙◌, length, ap, sym, subst}
 use Rattle.std.specs.Io.KnownBytes.{Appends}
-use Rattle.std.proofs.lemmas.Result.{on_ok_weaker}
+use Rattle.std.proofs.lemmas.Result.{IfOk-weaker}
 use Rattle.sqval.specs.Database.{Database}
 use Rattle.sqdeep.specs.declared.text.Encoding.{Encoding}
 use Rattle.sqdeep.specs.Records.{encoding_of}
@@ -9,7 +9,7 @@ use Rattle.sqsalvage.specs.SalvageCursor.{IsOver}
 use Rattle.cli_show_rows.specs.Dumps.{start_text}
 use Rattle.cli_show_salvage.specs.Faults.{AreFirstsWritten}
 use Rattle.cli_show_salvage.specs.Leaves.{IsTreeTold}
-use Rattle.cli_show_salvage.specs.Scripts.{AreRowsSalvaged}
+use Rattle.cli_show_salvage.specs.Scripts.{AreRowsSalvaged, IsSalvaged}
 use Rattle.cli_show_salvage.proofs.Kept.{kept_more}
 use Rattle.cli_show_salvage.proofs.salvage.print_damaged.Goals as goal
 
@@ -35,7 +35,8 @@ returns-in-Ok-print_tree-clause-ok g c = λ gives has.
     let over = subst (λ (x : Database). IsOver x salvage) (sym one.same_pages) (begun.ok gives).0 in
     let over_moved = subst (λ (x : Database). IsOver x moved) (sym tree.keeps.same_pages) (tree.over (one.still_gives gives) over) in
     let all : c.count.result ≡ length d = c.count.ensures ∙ ap (λ (x : Database). length x) one.same_pages in
-    on_ok_weaker c.print_rows.result (λ rows. record {
+    IfOk-weaker c.print_rows.result (λ left. AreRowsSalvaged (P.pages c.print_tree.new.source) c.in-Ok-encoding_of.encoding c.args.places c.deref.result.now moved.marks.items left schema_done after)
+    (λ left. IsSalvaged d (P.size c.args.source.now) c.args.places left before after) (λ left rows. record {
       first_done = opened.0;
       first = subst (λ (e : Encoding). Appends before opened.0 (start_text e)) is opened.1;
       faults_done = faults_done;
@@ -52,7 +53,7 @@ returns-in-Ok-print_tree-clause-ok g c = λ gives has.
       read = read;
       schema_done = schema_done;
       schema = subst (λ (x : Database). IsTreeTold x target 1 salvage.marks.items moved.marks.items c.new-book.result read faults_done schema_done) one.same_pages (tree.ok (one.still_gives gives) over);
-      rows = subst (λ (e : Encoding). AreRowsSalvaged d e c.args.places read.objects.items moved.marks.items schema_done after) is
-          (subst (λ (os : List Object). AreRowsSalvaged d c.in-Ok-encoding_of.encoding c.args.places os moved.marks.items schema_done after) c.deref.ensures.value
-          (subst (λ (x : Database). AreRowsSalvaged x c.in-Ok-encoding_of.encoding c.args.places c.deref.result.now moved.marks.items schema_done after) both.same_pages rows));
+      rows = subst (λ (e : Encoding). AreRowsSalvaged d e c.args.places read.objects.items moved.marks.items left schema_done after) is
+          (subst (λ (os : List Object). AreRowsSalvaged d c.in-Ok-encoding_of.encoding c.args.places os moved.marks.items left schema_done after) c.deref.ensures.value
+          (subst (λ (x : Database). AreRowsSalvaged x c.in-Ok-encoding_of.encoding c.args.places c.deref.result.now moved.marks.items left schema_done after) both.same_pages rows));
     }) (c.print_rows.ensures.ok (both.still_gives gives) over_moved)

@@ -1,8 +1,8 @@
 use Rattle.std.proofs.Common.{List, ℕ, subst}
 use Rattle.std.specs.Io.KnownBytes.{Appends}
-use Rattle.std.proofs.lemmas.Result.{on_ok_weaker}
+use Rattle.std.proofs.lemmas.Result.{IfOk-weaker}
 use Rattle.cli_show_salvage.specs.Lost.{made_text}
-use Rattle.cli_show_salvage.specs.Scripts.{AreTreesEnded}
+use Rattle.cli_show_salvage.specs.Scripts.{AreOthersCounted, AreRowsSalvaged, AreTreesEnded}
 use Rattle.cli_show_salvage.proofs.salvage.print_rows.Goals as goal
 
 pub returns-in-Ok-print_trees-clause-ok : goal.returns-in-Ok-print_trees-clause-ok
@@ -12,7 +12,9 @@ returns-in-Ok-print_trees-clause-ok g c = λ gives over.
     let made = g.W.Write.contents c.write_made.new.out in
     let committed = g.W.Write.contents c.print_trees.new.out in
     let begun = c.new-book.result in
-    on_ok_weaker c.print_others.result (λ others. record {
+    let after = g.W.Write.contents c.print_behind.new.out in
+    IfOk-weaker c.print_behind.result (λ left. AreOthersCounted c.args.how.encoding c.args.objects.now left committed after)
+    (λ left. AreRowsSalvaged d c.args.how.encoding c.args.how.places c.args.objects.now c.args.salvage.now.marks.items left before after) (λ left others. record {
       lost = c.in-Ok.lost.items;
       named = c.in-Ok.ensures.ok;
       made = made;
@@ -23,4 +25,4 @@ returns-in-Ok-print_trees-clause-ok g c = λ gives over.
       trees = subst (λ (name : List ℕ). AreTreesEnded d c.args.how.encoding name c.args.how.places c.args.objects.now c.args.salvage.now.marks.items begun made committed) c.deref-2.ensures.value
           (c.in-Ok-print_trees.ensures.ok gives over);
       others = others;
-    }) c.print_others.ensures.ok
+    }) c.print_behind.ensures.ok

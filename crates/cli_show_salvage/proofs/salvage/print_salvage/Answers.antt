@@ -20,6 +20,6 @@ returns-in-Ok-None-clause-err g c = λ gives.
     let after = g.W.Write.contents c.print_whole.new.out in
     let keeps = c.in-Ok-None.ensures.keeps in
     let sound = subst (λ (o : Option (Vec CheckError Global)). IsJudged d size o) c.in-Ok-None.field-0-is (c.in-Ok-None.ensures.ok gives) in
-    on_err c.print_whole.result (λ stop. AreTablesStopped (g.S.PageSource.pages c.faults_of.new.source) Sql stop before after) (λ stop. IsScriptStopped d size stop before after)
+    on_err c.print_whole.result (λ stop. AreTablesStopped (g.S.PageSource.pages c.faults_of.new.source) Sql stop before after) (λ stop. IsScriptStopped d size c.args.places stop before after)
     (λ stop stopped. inr (inr (sound, subst (λ (x : Database). AreTablesStopped x Sql stop before after) keeps.same_pages stopped)))
     (c.print_whole.ensures.err (keeps.still_gives gives))

@@ -12,5 +12,5 @@ loop-object-preserved g c =
     let at = g.W.Write.contents c.loop-object.out in
     let after = g.W.Write.contents c.print_other.new.out in
     let o = c.object-item.result in
-    others_more (g.W.Write.contents c.args.out.now) c.args.objects.now c.loop-object.object-index o at after c.loop-object-test.true c.loop-object.invariant
-    (subst (λ (x : Object). IsOtherWritten x at after) c.object-item.is c.in-Ok.ensures.ok)
+    others_more c.args.only_virtual c.args.encoding (g.W.Write.contents c.args.out.now) c.args.objects.now c.loop-object.object-index o at after c.loop-object-test.true c.loop-object.invariant
+    (subst (λ (x : Object). IsOtherWritten c.args.only_virtual c.args.encoding x at after) c.object-item.is c.in-Ok.ensures.ok)

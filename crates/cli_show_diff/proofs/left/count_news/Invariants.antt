@@ -1,0 +1,7 @@
+use Rattle.std.proofs.Common.{◌≤◌, take}
+use Rattle.cli_show_diff.specs.Changes.{texts_of}
+use Rattle.cli_show_diff.specs.LeftOut.{HasCount, IsNewLeft}
+use Rattle.cli_show_diff.proofs.left.count_news.Given as goal
+
+abbrev pub invariant-loop-object : goal.invariant-loop-object
+invariant-loop-object l = record { few : l.count ≤ l.object-index; counted : HasCount (IsNewLeft (texts_of l.names) l.olds) (take l.object-index l.news) l.count }
