@@ -11,7 +11,7 @@ use crate::hints::{next_step, step_after_damage, step_after_rows};
 use crate::readings::{Read, Reading, Task, task_of};
 use cli_args::{LineError, request};
 use cli_facts::{NoteWriter, Notes, Refusal, Status, SystemFile};
-use cli_files::Progress;
+use cli_files::{Progress, tell_lock};
 use cli_held::Locks;
 use cli_job::{Answer, Begun, Job, Source, Until, Watch, alone, source_of};
 use cli_recover::{recover, recover_to};
@@ -308,8 +308,14 @@ where
         (O.contents out.old) (O.contents out.new) }
 {
     match task {
-        Task::Read(asked) => read_under(rt, &asked, under, out, notes),
-        Task::Recover(file, force, options) => recover(rt, (file, force, options), out, notes),
+        Task::Read(asked) => {
+            tell_lock(rt, asked.file, notes);
+            read_under(rt, &asked, under, out, notes)
+        }
+        Task::Recover(file, force, options) => {
+            tell_lock(rt, file, notes);
+            recover(rt, (file, force, options), out, notes)
+        }
         Task::Version => {
             line(out, &VERSION)?;
             Ok(Answer::Done)
