@@ -243,19 +243,26 @@ static void synced_write(void) {
     int file = open_new("file", 0);
     write(file, bytes, 512), write(open("file", O_WRONLY | O_SYNC | O_APPEND), bytes, 512);
 }
+/* Stores in a map, and each call before which they have to be recorded. The letters say in which order. */
 static void map(void) {
-    int file = open_new("file", 0);
-    ftruncate(file, 4096), mmap(NULL, 4096, PROT_READ | PROT_WRITE, MAP_SHARED, file, 0);
+    int file = open_new("file", 0), other = open_new("other", 0);
+    ftruncate(file, 8192), fsync(file), fsync(folder);
+    char *map = mmap(NULL, 8192, PROT_READ, MAP_SHARED, file, 0);
+    mprotect(map, 8192, PROT_READ | PROT_WRITE);
+    memset(map, 'a', 10), msync(map, 8192, MS_SYNC);
+    memset(map, 'b', 10), mark("commit");
+    memset(map, 'c', 10), fsync(other);
+    memset(map, 'd', 10), fsync(file);
+    memset(map, 'e', 10), rename("other", "moved");
+    memset(map, 'f', 10), pwrite(file, "g", 1, 0);
+    memset(map + 5000, 'h', 10), ftruncate(file, 4096);
+    memset(map + 4000, 'i', 96), ftruncate(file, 8192);
+    memset(map + 4000, 'j', 192), munmap(map, 8192), close(file);
 }
-static void protect(void) {
+static void sync_map(void) { /* of one page of two */
     int file = open_new("file", 0);
-    ftruncate(file, 4096);
-    mprotect(mmap(NULL, 4096, PROT_READ, MAP_SHARED, file, 0), 4096, PROT_READ | PROT_WRITE);
-}
-static void sync_map(void) {
-    int file = open_new("file", 0);
-    ftruncate(file, 4096);
-    msync(mmap(NULL, 4096, PROT_READ, MAP_SHARED, file, 0), 4096, MS_SYNC);
+    ftruncate(file, 8192);
+    msync(mmap(NULL, 8192, PROT_READ, MAP_SHARED, file, 0), 4096, MS_SYNC);
 }
 static void collapse(void) {
     int file = open_new("file", 0);
@@ -292,7 +299,7 @@ static const struct { const char *name; void (*run)(void); } ALL[] = {
     ONE(bad_buffer), ONE(stale), ONE(waits), ONE(goes_on), ONE(signalled), ONE(make_folder), ONE(below),
     ONE(change_below), ONE(unlink_below), ONE(rename_below), ONE(make_link), ONE(make_symlink), ONE(comes),
     ONE(leaves), ONE(set_ring), ONE(be_traced), ONE(mounts), ONE(take_away), ONE(undumpable), ONE(exchange),
-    ONE(synced_write), ONE(map), ONE(protect), ONE(sync_map), ONE(collapse), ONE(submit), ONE(old_call),
+    ONE(synced_write), ONE(map), ONE(sync_map), ONE(collapse), ONE(submit), ONE(old_call),
     ONE(listen_to_calls), ONE(twice),
 };
 

@@ -48,8 +48,6 @@ const struct kind KINDS[] = {
     { SYS_mknod, "mknod", ask_new, PATH, ALL },
     { SYS_mknodat, "mknod", ask_new, PATH, ALL },
     { SYS_mmap, "mmap", ask_mmap, DESCRIPTOR, 3, MAP_SHARED },
-    { SYS_mprotect, "mprotect", ask_mprotect, DESCRIPTOR, 2, PROT_WRITE },
-    { SYS_pkey_mprotect, "mprotect", ask_mprotect, DESCRIPTOR, 2, PROT_WRITE },
     { SYS_msync, "msync", ask_msync, DESCRIPTOR, 2, MS_SYNC },
     { SYS_ioctl, "ioctl", ask_ioctl, DESCRIPTOR, ALL }, /* of COMMANDS */
     { SYS_io_uring_setup, "io_uring_setup", ask_uring, DESCRIPTOR, ALL },

@@ -79,6 +79,7 @@ static void drop_file(struct file *file) { /* no name leads to it, and nobody ha
     while (*at != file) at = &(*at)->next;
     *at = file->next;
     table_count--;
+    unwatch(file);
     files[file->number] = NULL;
     close(file->pin);
     pin_count--;

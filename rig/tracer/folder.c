@@ -117,6 +117,7 @@ static void put_end(int name) {
 void walk_end(void) {
     struct stat state;
     acting = getpid();
+    compare(NULL);
     if (fstat(top, &state) || state.st_nlink == 0) {
         refuse(UNSEEN, NULL, "rmdir", top_path, "the folder itself was taken away");
     }

@@ -81,6 +81,12 @@ static void enter(struct call *call) {
     resume(thread, PTRACE_SYSCALL, 0);
 }
 
+static int changes_bytes(const struct call *call) { /* of a file that is known */
+    enum answer (*ask)(struct call *call) = call->kind->ask;
+    return call->file && (ask == ask_write || ask == ask_ftruncate || ask == ask_truncate || ask == ask_room
+        || ask == ask_ioctl);
+}
+
 /* A thread stops at the entry of a call. What a path leads to may be changing while another call is inside, so it is
    looked at after that. */
 static void entered(struct thread *thread) {
@@ -100,6 +106,7 @@ static void entered(struct thread *thread) {
         hold(thread);
         return;
     }
+    if (answer == ENTER || answer == RECORD) compare(changes_bytes(call) ? call->file : NULL);
     if (answer == ENTER) {
         enter(call);
         return;
@@ -139,7 +146,7 @@ static void leave(struct thread *thread, int64_t answer) {
 
 static int is_sync(const struct call *call) {
     return call->number == SYS_fsync || call->number == SYS_fdatasync || call->number == SYS_sync
-        || call->number == SYS_syncfs;
+        || call->number == SYS_syncfs || call->number == SYS_msync;
 }
 
 /* Whether it waits for something that another thread may have to do: a lease that is broken, an empty pipe. One that

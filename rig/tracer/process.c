@@ -236,29 +236,35 @@ void side_close(struct side *side) {
 
 /* ---- Who uses which file. */
 
-/* The shared maps of a process in a range of its memory, those of files of the folder. */
-int maps_of(struct thread *thread, uint64_t from, uint64_t count, void (*each)(struct file *file)) {
+/* The maps of a process in a range of its memory, those of files of the folder, and which range of the file each has
+   there; of all its memory also the private ones. */
+int maps_of(struct thread *thread, uint64_t from, uint64_t count,
+            void (*each)(struct file *file, off_t from, off_t to)) {
     char path[64], line[LINE_ROOM], rights[8];
-    unsigned long begin, end, inode;
+    unsigned long begin, end, offset, inode;
     unsigned major, minor;
     int found = 0;
     snprintf(path, sizeof path, "/proc/%d/maps", thread->id);
     FILE *maps = fopen(path, "re");
     while (maps && fgets(line, sizeof line, maps)) {
         struct stat state;
-        if (sscanf(line, "%lx-%lx %7s %*x %x:%x %lu", &begin, &end, rights, &major, &minor, &inode) != 6) continue;
+        if (sscanf(line, "%lx-%lx %7s %lx %x:%x %lu", &begin, &end, rights, &offset, &major, &minor, &inode) != 7) continue;
         state.st_dev = makedev(major, minor);
         state.st_ino = inode;
         struct file *file = inode && begin < from + count && from < end ? find_file(&state) : NULL;
         if (!file || (rights[3] != 's' && count != UINT64_MAX)) continue;
-        each(file);
+        unsigned long first = begin > from ? begin : from, last = end - from < count ? end : from + count;
+        each(file, (off_t)(offset + (first - begin)), (off_t)(offset + (last - begin)));
         found++;
     }
     if (maps) fclose(maps);
     return found;
 }
 
-static void use(struct file *file) { file->is_used = 1; }
+static void use(struct file *file, off_t from, off_t to) {
+    (void)from, (void)to;
+    file->is_used = 1;
+}
 
 static void find_used_by(struct thread *thread) {
     char path[320];
@@ -270,7 +276,7 @@ static void find_used_by(struct thread *thread) {
         if (*entry->d_name == '.') continue;
         snprintf(path, sizeof path, "/proc/%d/fd/%s", thread->id, entry->d_name);
         struct file *file = stat(path, &state) ? NULL : find_file(&state);
-        if (file) use(file);
+        if (file) file->is_used = 1;
     }
     if (all) closedir(all);
     maps_of(thread, 0, UINT64_MAX, use);

@@ -39,13 +39,36 @@ void put_more(const void *bytes, size_t count) {
     if (count && fwrite(bytes, count, 1, trace) != 1) die("the trace can't be written");
 }
 
+static void note_dirty(struct file *file, off_t from, off_t to) {
+    if (!file->is_dirty || from < file->dirty_from) file->dirty_from = from;
+    if (!file->is_dirty || to > file->dirty_to) file->dirty_to = to;
+    file->is_dirty = 1;
+}
+
+static void note_write(struct file *file, int64_t answer, off_t place, off_t length, const void *bytes) {
+    note_dirty(file, place, place + length);
+    if (answer < 0) return;
+    if (place + length > file->length) file->length = place + length;
+    if (bytes) copy_bytes(file, place, bytes, (size_t)length);
+}
+
+static void note_cut(struct file *file, int64_t answer, off_t length) {
+    off_t former = file->length;
+    note_dirty(file, length < former ? length : former, length < former ? former : length);
+    if (answer < 0) return;
+    file->length = length;
+    copy_length(file, length, former);
+}
+
 /* A record. If bytes is NULL and the action carries some, the caller writes them by put_more. */
 void put(enum action action, int file, int name, int64_t answer, uint64_t place, uint64_t length, const void *bytes) {
     struct head head = { action, (uint32_t)file, (uint32_t)name, (uint32_t)acting, answer, place, length };
     int is_change = action == MAKE || action == WRITE || action == CUT || action == UNLINK || action == RENAME;
     record_count++;
     if (is_change && answer >= 0) change_count++;
-    if (action == WRITE || action == CUT) files[file]->is_dirty = 1;
+    if (action == BASE) files[file]->length = (off_t)length;
+    if (action == WRITE) note_write(files[file], answer, (off_t)place, (off_t)length, bytes);
+    if (action == CUT) note_cut(files[file], answer, (off_t)place);
     if (action == SYNC && answer >= 0) files[file]->is_dirty = 0;
     put_more(&head, sizeof head);
     if (bytes) put_more(bytes, length);

@@ -31,7 +31,11 @@ struct file {
     int name;          /* the number of the name that leads to it, or NONE */
     int pin;           /* a descriptor that keeps its inode from being used again, or NONE */
     int is_dirty;      /* written since its last sync */
-    int is_mapped;     /* a process may make a shared map of it writable */
+    off_t dirty_from, dirty_to; /* where, if it is */
+    off_t length;      /* as the trace has it */
+    char *copy;        /* of what the trace has of it, if a program may store in it; otherwise NULL */
+    size_t room;       /* of the copy */
+    int reader;        /* our descriptor of it, if it has a copy */
     int is_used;       /* by a traced process; find_used sets it */
     char *below;       /* the path below the folder of what has no number, otherwise NULL */
     struct file *next; /* with the same hash */
@@ -158,7 +162,15 @@ int path_here(struct thread *thread, int at, uint64_t path, char *to, size_t roo
 int side_open(struct thread *thread, int at, uint64_t path, struct side *side);
 void side_close(struct side *side);
 void find_used(void);
-int maps_of(struct thread *thread, uint64_t from, uint64_t count, void (*each)(struct file *file));
+int maps_of(struct thread *thread, uint64_t from, uint64_t count,
+            void (*each)(struct file *file, off_t from, off_t to));
+
+/* maps.c: what the program stores in files that it maps. */
+int watch(struct file *file, struct thread *thread, int descriptor);
+void unwatch(struct file *file);
+void copy_bytes(struct file *file, off_t place, const void *bytes, size_t count);
+void copy_length(struct file *file, off_t length, off_t former);
+void compare(struct file *file);
 
 /* marks.c: what the program writes to $SQCRASH_MARKS. */
 extern const char *marks_path;
@@ -168,7 +180,7 @@ int meet_marks(const struct stat *state);
 enum answer ask_mark(struct call *call, const struct seen *seen);
 void record_mark(struct call *call);
 
-/* The calls: writes.c, syncs.c, opens.c, changes.c and refused.c. calls.c has their table. */
+/* The calls: writes.c, syncs.c, opens.c, changes.c, maps.c and refused.c. calls.c has their table. */
 extern int no_uring;
 struct file *file_to_change(struct call *call, const struct stat *state);
 char *bytes_of_call(struct call *call, size_t *count);
@@ -180,7 +192,7 @@ enum answer ask_fsync(struct call *call), ask_sync(struct call *call), ask_msync
 enum answer ask_open(struct call *call), ask_handle(struct call *call);
 enum answer ask_unlink(struct call *call), ask_rename(struct call *call), ask_link(struct call *call);
 enum answer ask_new(struct call *call);
-enum answer ask_mmap(struct call *call), ask_mprotect(struct call *call);
+enum answer ask_mmap(struct call *call);
 enum answer ask_uring(struct call *call), ask_submit(struct call *call), ask_unseen(struct call *call);
 
 /* calls.c: their table, and the filter that makes them stop. */

@@ -69,6 +69,7 @@ void put_read(struct call *call, off_t place, uint64_t count) {
             return;
         }
         put_more(buffer, (size_t)more);
+        copy_bytes(call->file, place + (off_t)done, buffer, (size_t)more);
         done += (uint64_t)more;
     }
 }
