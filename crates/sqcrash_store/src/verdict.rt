@@ -1,7 +1,7 @@
 //! What a command says of files, and what that means (own).
 ghost use Rattle.std.specs.Prelude.{◌≡◌, ◌↔◌, IsTrue, true, MatchOption};
 ghost use Rattle.std.specs.String.{string_bytes};
-ghost use Rattle.sqcrash_store.specs.Verdicts.{IsLastNamed, NoneNamed, IsVerdict, is_wrong};
+ghost use Rattle.sqcrash_store.specs.Verdicts.{AreAlike, IsLastNamed, NoneNamed, NoOther, IsVerdict, is_wrong};
 
 /// What a command said of files.
 #[derive(Debug, Drop, PartialEq, Eq)]
@@ -33,7 +33,7 @@ fn is_named(state: &Answer, line: &str) -> bool
 }
 
 /// The last of some states that has this name.
-fn last_named(states: &[Answer], line: &str) -> Option<usize>
+pub fn last_named(states: &[Answer], line: &str) -> Option<usize>
     ensures { MatchOption result (NoneNamed states.now line.now) (IsLastNamed states.now line.now) }
 {
     let mut k = states.len();
@@ -44,6 +44,31 @@ fn last_named(states: &[Answer], line: &str) -> Option<usize>
         }
     }
     None
+}
+
+/// Whether each of some states that is sound has this name.
+fn have_no_other(states: &[Answer], line: &str) -> bool
+    ensures { IsTrue result ↔ NoOther states.now line.now }
+{
+    for state in states {
+        if state.is_sound && state.line.as_str() != line {
+            return false;
+        }
+    }
+    true
+}
+
+/// Whether the last state is sound, one before it has its name, and no sound one before it has another.
+pub fn are_alike(states: &[Answer]) -> bool
+    ensures { IsTrue result ↔ AreAlike states.now }
+{
+    if states.is_empty() {
+        return false;
+    }
+    let end = states.len() - 1;
+    let (before, last) = (&states[..end], &states[end]);
+    let line = last.line.as_str();
+    last.is_sound && last_named(before, line).is_some() && have_no_other(before, line)
 }
 
 /// What is to be said of an image of which the command gave an answer, where the state of number `known` is known to be
