@@ -4,6 +4,7 @@ use Rattle.std.specs.Io.KnownBytes.{Appends}
 use Rattle.sqcrash_store.specs.Judged.{Judged}
 use Rattle.sqcrash_store.specs.Refused.{IsOfFiles, TraceRefused}
 use Rattle.sqcrash_store.specs.Rigs.{IsJudgment}
+use Rattle.sqcrash_store.specs.States.{SaysAny}
 use Rattle.sqcrash_store.specs.Tallies.{IsClean}
 use Rattle.sqcrash_store.specs.Words.{Asks}
 use Rattle.sqcrash_store.specs.declared.commands.LineError.{LineError}
@@ -12,11 +13,6 @@ use Rattle.sqcrash_store.specs.declared.commands.Request.{Request}
 use Rattle.sqcrash_store.specs.declared.outcome.Refusal.{Refusal}
 use Rattle.sqcrash_store.specs.declared.plan.Plan.{Plan}
 use Rattle.sqcrash_store.specs.declared.tally.Tally.{Tally}
-use Rattle.sqcrash_store.specs.declared.verdict.Answer.{Answer}
-
--- a command may say anything of an image
-abbrev pub SaysAny : (image : List (Option (List ℕ))) → Answer → Type 0
-SaysAny image answer = Unit {0}
 
 -- What comes of the trace that is asked for: of what its file gives this is counted, which is one point or more, and all
 -- lines of its judgment are written; or its file isn't read, or it is refused.

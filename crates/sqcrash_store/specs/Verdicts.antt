@@ -1,5 +1,5 @@
 -- What is to be said of files, by what a command said of them (own).
-use Rattle.std.specs.Prelude.{◌≡◌, ℕ, ◌<◌, ◌≤◌, ◌+◌, true, false, Bool, List, slice_get, Some}
+use Rattle.std.specs.Prelude.{◌≡◌, ℕ, ◌<◌, ◌≤◌, ◌+◌, ◌-◌, true, false, Bool, List, length, take, slice_get, Some}
 use Rattle.std.specs.String.{string_bytes}
 use Rattle.sqcrash_store.specs.declared.verdict.Answer.{Answer}
 use Rattle.sqcrash_store.specs.declared.verdict.Verdict.{Verdict}
@@ -36,3 +36,20 @@ IsVerdict states known answer (Lost k) = (answer.is_sound ≡ true) × IsLastNam
 abbrev pub is_wrong : Verdict → Bool
 is_wrong (Kept k) = false
 is_wrong _ = true
+
+-- each of these states that is sound has this name
+abbrev pub NoOther : List Answer → (line : List ℕ) → Type 0
+NoOther states line = (k : ℕ) (name : List ℕ) → IsNamed states name k → name ≡ line
+
+-- A state is sound, one of those before it has its name, and no sound one of these has another.
+pub record IsRepeated (before : List Answer) (last : Answer) : Type 0 where
+  pub sound : last.is_sound ≡ true
+  pub other : ℕ
+  pub same : IsNamed before (string_bytes last.line) other
+  pub none : NoOther before (string_bytes last.line)
+
+-- The last state is such a one: by such names nothing lost would be found.
+pub record AreAlike (states : List Answer) : Type 0 where
+  pub last : Answer
+  pub there : slice_get states (length states - 1) ≡ Some last
+  pub repeated : IsRepeated (take (length states - 1) states) last

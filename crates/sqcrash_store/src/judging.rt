@@ -13,14 +13,15 @@ use crate::rig::Rig;
 use crate::states::{take_names, take_states};
 use crate::survey::Bench;
 use crate::tally::Tally;
+use crate::verdict::are_alike;
 use rig_store::Trace;
 use std::alloc::Global;
 use std::io::Write;
 
 /// Judges a trace by a command, writes lines for each image with something wrong, and at the end what there was, and
-/// hands over those images that are kept. Answers what there was, which is one point or more. Refused by NoPoints where
-/// there is none, by Trace, Record, Name and TooMany, where the command is asked by FileFailed, NoAnswer and Unwritten,
-/// and by NoMemory.
+/// hands over those images that are kept. Answers what there was, which is one point or more. Refused by NoPoints if
+/// there is none, by Alike, Trace, Record, Name and TooMany, by FileFailed, NoAnswer and Unwritten once the command is
+/// asked, and by NoMemory.
 pub fn judge_trace<J: Judge, O: Write>(
     alloc: Global,
     plan: Plan,
@@ -38,6 +39,9 @@ pub fn judge_trace<J: Judge, O: Write>(
     let trace = Trace::read(alloc, bytes)?;
     let names = take_names(alloc, bytes, &trace.calls)?;
     let states = take_states(alloc, plan, bytes, &trace.calls, &names, judge)?;
+    if are_alike(&states) {
+        return Err(Refusal::Alike);
+    }
     let bench = Bench {
         alloc,
         plan,

@@ -4,6 +4,7 @@ ghost use Rattle.sqcrash_store.specs.Points.{is_point, is_judged, IsKnown};
 
 use crate::asked::{is_asked, is_of_part};
 use crate::asking::Judge;
+use crate::claim::judge_claim;
 use crate::crash::Crash;
 use crate::outcome::{Refusal, more};
 use crate::plan::Plan;
@@ -103,8 +104,8 @@ impl Rig {
         }
     }
 
-    /// Counts the next point, behind a record that was played last, and where that is asked for judges what a crash may
-    /// leave there.
+    /// Counts the next point, behind a record that was played last, and where that is asked for judges what its mark
+    /// claims, and what a crash may leave there.
     fn judge<J: Judge, O: Write>(
         &mut self,
         bench: &Bench<'_>,
@@ -134,7 +135,8 @@ impl Rig {
                 call: *call,
             },
         };
-        self.tally = survey(judge, bench, &point, tally, out)?;
+        let claimed = judge_claim(bench, call, self.marks, tally, out)?;
+        self.tally = survey(judge, bench, &point, claimed, out)?;
         Ok(())
     }
 

@@ -1,7 +1,8 @@
 //! What a command says of files, and what that means (own).
-ghost use Rattle.std.specs.Prelude.{◌≡◌, ◌↔◌, IsTrue, true, MatchOption};
+ghost use Rattle.std.specs.Prelude.{◌≡◌, ◌≢◌, ◌↔◌, IsTrue, true, false, MatchOption};
 ghost use Rattle.std.specs.String.{string_bytes};
-ghost use Rattle.sqcrash_store.specs.Verdicts.{IsLastNamed, NoneNamed, IsVerdict, is_wrong};
+ghost use Rattle.sqcrash_store.specs.Verdicts.{AreAlike, IsLastNamed, IsRepeated, IsVerdict};
+ghost use Rattle.sqcrash_store.specs.Verdicts.{NoneNamed, NoOther, is_wrong};
 
 /// What a command said of files.
 #[derive(Debug, Drop, PartialEq, Eq)]
@@ -33,7 +34,7 @@ fn is_named(state: &Answer, line: &str) -> bool
 }
 
 /// The last of some states that has this name.
-fn last_named(states: &[Answer], line: &str) -> Option<usize>
+pub fn last_named(states: &[Answer], line: &str) -> Option<usize>
     ensures { MatchOption result (NoneNamed states.now line.now) (IsLastNamed states.now line.now) }
 {
     let mut k = states.len();
@@ -44,6 +45,52 @@ fn last_named(states: &[Answer], line: &str) -> Option<usize>
         }
     }
     None
+}
+
+/// Whether a state is sound and has another name.
+fn is_other(state: &Answer, line: &str) -> bool
+    ensures other { result ≡ true → (state.now.is_sound ≡ true) × (string_bytes state.now.line ≢ line.now) }
+    ensures same { result ≡ false → state.now.is_sound ≡ true → string_bytes state.now.line ≡ line.now }
+{
+    state.is_sound && state.line.as_str() != line
+}
+
+/// Whether each of some states that is sound has this name.
+fn have_no_other(states: &[Answer], line: &str) -> bool
+    ensures { IsTrue result ↔ NoOther states.now line.now }
+{
+    let mut k = states.len();
+    while k > 0 {
+        k -= 1;
+        if is_other(&states[k], line) {
+            return false;
+        }
+    }
+    true
+}
+
+/// Whether a state is sound, one of those before it has its name, and no sound one of these has another.
+fn is_repeated(before: &[Answer], last: &Answer) -> bool
+    ensures { IsTrue result ↔ IsRepeated before.now last.now }
+{
+    if !last.is_sound {
+        return false;
+    }
+    match last_named(before, last.line.as_str()) {
+        Some(_) => have_no_other(before, last.line.as_str()),
+        None => false,
+    }
+}
+
+/// Whether the last state is sound, one before it has its name, and no sound one before it has another.
+pub fn are_alike(states: &[Answer]) -> bool
+    ensures { IsTrue result ↔ AreAlike states.now }
+{
+    if states.is_empty() {
+        return false;
+    }
+    let end = states.len() - 1;
+    is_repeated(&states[..end], &states[end])
 }
 
 /// What is to be said of an image of which the command gave an answer, where the state of number `known` is known to be

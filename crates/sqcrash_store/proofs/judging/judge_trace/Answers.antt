@@ -1,4 +1,4 @@
-use Rattle.std.proofs.Common.{◌≡◌, ℕ, ◌+◌, ◌<◌, Option, arith, List, [], ◌∷◌, ◌++◌, map, take, drop, get_or, refl, sym, ◌∙◌, ap, subst}
+use Rattle.std.proofs.Common.{◌≡◌, ℕ, ◌+◌, ◌<◌, true, false, Option, arith, List, [], ◌∷◌, ◌++◌, map, take, drop, get_or, refl, sym, ◌∙◌, ap, subst}
 use Rattle.std.specs.String.{string_bytes}
 use Rattle.std.proofs.lemmas.List.{take_more, take_all}
 use Rattle.rig_store.specs.declared.call.Action.TheVariants.{Base}
@@ -9,10 +9,11 @@ use Rattle.sqcrash_store.specs.Refused.{IsOfWriter, NamesRefused, StatesRefused,
 use Rattle.sqcrash_store.specs.Rigs.{RigState, PlaysAll, rig_of, no_rig}
 use Rattle.sqcrash_store.specs.Printed.{last_lines}
 use Rattle.sqcrash_store.specs.States.{AreStates, names_told}
+use Rattle.sqcrash_store.specs.Verdicts.{AreAlike}
 use Rattle.sqcrash_store.specs.declared.tally.Tally.{Tally}
 use Rattle.sqcrash_store.specs.declared.verdict.Answer.{Answer}
 use Rattle.sqcrash_store.proofs.AppendedBytes.{appends_none, appends_more}
-use Rattle.sqcrash_store.proofs.CountedRecords.{counts_all, points_few}
+use Rattle.sqcrash_store.proofs.CountedRecords.{counts_all, points_few, states_said}
 use Rattle.sqcrash_store.proofs.KeptImages.{keeps_none, keeps_more}
 use Rattle.sqcrash_store.proofs.PassedRefusals.{made, passed}
 use Rattle.sqcrash_store.proofs.PlayedRecords.{plays_more}
@@ -31,7 +32,7 @@ unfolding behind
 loop-call-preserved g c =
     let says = g.J.Judge.says in
     let kept = g.J.Judge.kept in
-    let j : Judging = record { plan = c.args.plan; trace = c.args.bytes.now; names = map (λ n. string_bytes n) c.deref-4.result.now; states = c.deref-5.result.now } in
+    let j : Judging = record { plan = c.args.plan; trace = c.args.bytes.now; names = map (λ n. string_bytes n) c.deref-5.result.now; states = c.deref-6.result.now } in
     let first = no_rig c.args.plan in
     let records = c.deref-call-items.result.now in
     let i = c.loop-call.call-index in
@@ -61,8 +62,8 @@ returns-clause-judged g c =
     let states = c.in_ok-states.states.items in
     let tally = c.tally-tally.result in
     let names = names_told bytes trace.calls.items in
-    let given = map (λ n. string_bytes n) c.deref-4.result.now in
-    let names_are : given ≡ names = ap (λ l. map (λ n. string_bytes n) l) c.deref-4.ensures.value ∙ c.in_ok-names.ensures ∙ ap (λ (l : List Call). names_told bytes l) c.deref.ensures.value in
+    let given = map (λ n. string_bytes n) c.deref-5.result.now in
+    let names_are : given ≡ names = ap (λ l. map (λ n. string_bytes n) l) c.deref-5.ensures.value ∙ c.in_ok-names.ensures ∙ ap (λ (l : List Call). names_told bytes l) c.deref.ensures.value in
     let j : List (List ℕ) → List Answer → Judging = λ n s. record { plan = plan; trace = bytes; names = n; states = s } in
     let last = rig_of c.loop-call.rig in
     let so_far = c.loop-call.invariant in
@@ -76,17 +77,30 @@ returns-clause-judged g c =
         is_trace = c.in_ok-trace.ensures;
         states = states;
         are_states = subst (λ (l : List Call). AreStates says plan bytes l states) c.deref-2.ensures.value c.in_ok-states.ensures.says;
+        differ = λ alike. let e : false ≡ true = c.if-are_alike.ensures.1 (subst (λ (s : List Answer). AreAlike s) (sym c.deref-4.ensures.value) alike) in absurd (cc e);
         last = last;
         told = lines;
         judged = subst (λ (n : List (List ℕ)). PlaysAll says (j n states) trace.calls.items (no_rig plan) last lines more) names_are
-            (subst (λ (s : List Answer). PlaysAll says (j given s) trace.calls.items (no_rig plan) last lines more) c.deref-5.ensures.value
-            (subst (λ (l : List Call). PlaysAll says (j given c.deref-5.result.now) l (no_rig plan) last lines more) whole so_far.2));
+            (subst (λ (s : List Answer). PlaysAll says (j given s) trace.calls.items (no_rig plan) last lines more) c.deref-6.ensures.value
+            (subst (λ (l : List Call). PlaysAll says (j given c.deref-6.result.now) l (no_rig plan) last lines more) whole so_far.2));
         counted = c.tally-tally.ensures;
         all = refl;
       },
       appends_more (out c.args.out.now) (out c.loop-call.out) (out c.write_last.new.out) lines (last_lines plan tally) so_far.3 c.in_ok-write_last.ensures,
       keeps_more (kept c.args.judge.now) (kept c.take_states.new.judge) (kept c.loop-call.judge) [] more c.in_ok-states.ensures.kept so_far.4,
     )
+
+pub returns-then-are_alike-clause-refused : goal.returns-then-are_alike-clause-refused
+returns-then-are_alike-clause-refused g c =
+    let says = g.J.Judge.says in
+    let plan = c.args.plan in
+    let bytes = c.args.bytes.now in
+    let trace = c.in_ok-trace.trace in
+    let states = c.in_ok-states.states.items in
+    let are : AreStates says plan bytes trace.calls.items states =
+    subst (λ (l : List Call). AreStates says plan bytes l states) c.deref-2.ensures.value c.in_ok-states.ensures.says in
+    let alike : AreAlike states = subst (λ (s : List Answer). AreAlike s) c.deref-4.ensures.value (c.if-are_alike.ensures.0 refl) in
+    (trace, c.in_ok-trace.ensures, (states, states_said says plan bytes trace.calls.items states are, alike))
 
 pub returns-in_err-names-clause-refused : goal.returns-in_err-names-clause-refused
 returns-in_err-names-clause-refused g c =
@@ -118,10 +132,10 @@ returns-in_err-play-clause-refused g c =
     let bytes = c.args.bytes.now in
     let trace = c.in_ok-trace.trace in
     let refusal = c.in_err-play.field-0.0 in
-    let given = map (λ n. string_bytes n) c.deref-4.result.now in
+    let given = map (λ n. string_bytes n) c.deref-5.result.now in
     let names_are : given ≡ names_told bytes trace.calls.items =
-    ap (λ l. map (λ n. string_bytes n) l) c.deref-4.ensures.value ∙ c.in_ok-names.ensures ∙ ap (λ (l : List Call). names_told bytes l) c.deref.ensures.value in
-    let j : Judging = record { plan = plan; trace = bytes; names = given; states = c.deref-5.result.now } in
+    ap (λ l. map (λ n. string_bytes n) l) c.deref-5.ensures.value ∙ c.in_ok-names.ensures ∙ ap (λ (l : List Call). names_told bytes l) c.deref.ensures.value in
+    let j : Judging = record { plan = plan; trace = bytes; names = given; states = c.deref-6.result.now } in
     let records = c.deref-call-items.result.now in
     let i = c.loop-call.call-index in
     let r = get_or records i behind in
@@ -144,7 +158,7 @@ points_of says j calls played last lines kept whole is =
 pub returns-then-tally-eq0-clause-refused : goal.returns-then-tally-eq0-clause-refused
 returns-then-tally-eq0-clause-refused g c =
     let plan = c.args.plan in
-    let j : Judging = record { plan = plan; trace = c.args.bytes.now; names = map (λ n. string_bytes n) c.deref-4.result.now; states = c.deref-5.result.now } in
+    let j : Judging = record { plan = plan; trace = c.args.bytes.now; names = map (λ n. string_bytes n) c.deref-5.result.now; states = c.deref-6.result.now } in
     let records = c.deref-call-items.result.now in
     let calls = c.in_ok-trace.trace.calls.items in
     let so_far = c.loop-call.invariant in
@@ -158,7 +172,7 @@ returns-in_err-write_last-clause-refused g c =
     let plan = c.args.plan in
     let bytes = c.args.bytes.now in
     let trace = c.in_ok-trace.trace in
-    let j : Judging = record { plan = plan; trace = bytes; names = map (λ n. string_bytes n) c.deref-4.result.now; states = c.deref-5.result.now } in
+    let j : Judging = record { plan = plan; trace = bytes; names = map (λ n. string_bytes n) c.deref-5.result.now; states = c.deref-6.result.now } in
     let records = c.deref-call-items.result.now in
     let calls = trace.calls.items in
     let so_far = c.loop-call.invariant in

@@ -1,6 +1,7 @@
 use Rattle.std.proofs.Common.{inr, Result, sym, subst}
-use Rattle.sqcrash_store.specs.Ends.{Comes, SaysAny}
+use Rattle.sqcrash_store.specs.Ends.{Comes}
 use Rattle.sqcrash_store.specs.Refused.{IsOfWriter, TraceRefused}
+use Rattle.sqcrash_store.specs.States.{SaysAny}
 use Rattle.sqcrash_store.specs.declared.outcome.Refusal.{Refusal}
 use Rattle.sqcrash_store.specs.declared.tally.Tally.{Tally}
 use Rattle.sqcrash_store.proofs.AppendedBytes.{appends_kept}
