@@ -67,6 +67,12 @@ class Held:
         self.said = self.child.stdout.readline().strip()
         self.is_held = self.said.startswith("held ")
 
+    def begins(self):
+        """Lets it go on, and answers the first character that it prints; the rest waits in a pipe that is full."""
+        self.child.stdin.write("\n")
+        self.child.stdin.flush()
+        return os.read(self.child.stdout.fileno(), 1).decode()
+
     def goes_on(self):
         out, err = self.child.communicate("\n", timeout=SECONDS)
         return Answer(self.child.returncode, out, err)
