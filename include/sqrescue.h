@@ -338,7 +338,8 @@ uint32_t sqr_check(const struct sqr_files *files, struct sqr_report *report);
    any. */
 uint32_t sqr_check_at(const struct sqr_files *files, uint32_t frame, struct sqr_report *report);
 
-/* What is asked for, all bits of it; each call says which it takes. A bit that a call doesn't take is refused. */
+/* What is asked for, all bits of it; each call says which it takes. A bit that a call doesn't take is refused, unless
+   it is in SQR_ANY. */
 enum sqr_flag {
     SQR_FILES_ONLY = 1,   /* sqr_open_path: no view, so that files which show no database can be handed to the checks
                              and the scans */
@@ -352,8 +353,13 @@ enum sqr_flag {
     SQR_POINTER_MAPS = 16, /* sqr_check_with, sqr_page_roles: a database of auto-vacuum too, with its pointer maps
                              (fileformat2, 1.8), which otherwise is refused by SQR_AUTO_VACUUM; sqr_check_deep judges
                              them with it or without */
-    SQR_COMPLETE = 32     /* sqr_check_deep, sqr_check_deep_all: SQR_NOT_JUDGED in place of SQR_OK if anything isn't
+    SQR_COMPLETE = 32,    /* sqr_check_deep, sqr_check_deep_all: SQR_NOT_JUDGED in place of SQR_OK if anything isn't
                              judged but the bodies of views and triggers; the report and the rows are as with SQR_OK */
+    SQR_SUPER_JOURNAL_LOOK = 64, /* sqr_open_path, sqr_recover, sqr_recover_to, of a FILE in its place: a hot journal
+                             that names a super-journal is current exactly if that file exists and isn't empty, as for
+                             SQLite. SQR_SUPER_JOURNAL then only if the name is relative or can't be looked at */
+    SQR_ANY = 88          /* SQR_LARGE, SQR_POINTER_MAPS and SQR_SUPER_JOURNAL_LOOK: accept any database. Each call that
+                             takes flags accepts it, and ignores those of the three that are of other calls */
 };
 
 /* The same with what is asked for: SQR_AT, at the commit that `frame` ends, which isn't looked at otherwise; SQR_LARGE;

@@ -757,7 +757,7 @@ static void run_none(void) {
     check(sqr_check_deep(&files, 0, 0, &place, 0, &deep) == SQR_DAMAGED && deep.fault == SQR_FAULT_MAGIC, "a fault");
     check(deep.places == SQR_DEEP_PAGE && deep.page == 1 && !deep.cell && !deep.row, "the place of a fault");
     check(sqr_check_deep(&files, 1, 0, &place, 0, &deep) == SQR_UNKNOWN_OPTIONS, "a flag that isn't known");
-    check(sqr_check_deep(&files, 64, 0, &place, 0, &deep) == SQR_UNKNOWN_OPTIONS, "nor is the next one");
+    check(sqr_check_deep(&files, 128, 0, &place, 0, &deep) == SQR_UNKNOWN_OPTIONS, "nor is the next one");
     check(sqr_check_deep(&files, SQR_COMPLETE, 0, &place, 0, &deep) == SQR_DAMAGED, "damage where all is to be judged");
     check(sqr_check_with(&files, SQR_COMPLETE, 0, &report) == SQR_UNKNOWN_OPTIONS, "a flag of deep checks alone");
     check(sqr_version() == SQR_VERSION_NUMBER, "the version of the header is that of the library");

@@ -204,7 +204,8 @@ class _Survey(ctypes.Structure):
     _fields_ = [("pages", Word), ("fault", Word), ("page", Word)]
 
 
-FILES_ONLY, NO_LOCK, AT, LARGE, POINTER_MAPS, COMPLETE = 1, 2, 4, 8, 16, 32
+FILES_ONLY, NO_LOCK, AT, LARGE, POINTER_MAPS, COMPLETE, SUPER_JOURNAL_LOOK = 1, 2, 4, 8, 16, 32, 64
+ANY = LARGE | POINTER_MAPS | SUPER_JOURNAL_LOOK
 
 
 def _found(name="libsqrescue.so.1"):
@@ -458,21 +459,26 @@ class _Path(_Source):
             self._give_up()
 
 
-def _source(database, wal, journal, flags, wait, lock):
+def _path_flags(lock, look):
+    return (0 if lock else NO_LOCK) | (SUPER_JOURNAL_LOOK if look else 0)
+
+
+def _source(database, wal, journal, flags, wait, lock, look):
     """The files of a path, or the bytes of each."""
     if isinstance(database, (str, os.PathLike)):
-        return _Path(database, flags | (0 if lock else NO_LOCK), wait)
+        return _Path(database, flags | _path_flags(lock, look), wait)
     return _Bytes(database, wal, journal)
 
 
 class View:
     """The database that a file and its logs show: of a path, whose logs lie beside what it leads to, or of the bytes of
     each. It is a sequence of pages, counted from 1. Locks are waited for up to `wait` seconds; without `lock` none are
-    taken, and nobody may write to the files meanwhile."""
+    taken, and nobody may write to the files meanwhile. If the hot journal of a path names a super-journal, the file
+    system decides whether it counts, as for SQLite; without `look` it is refused by SuperJournal."""
 
-    def __init__(self, database, wal=b"", journal=b"", *, wait=5.0, lock=True):
+    def __init__(self, database, wal=b"", journal=b"", *, wait=5.0, lock=True, look=True):
         self._is_part, self._commits, self._at = False, None, None
-        self._source = _source(database, wal, journal, 0, wait, lock)
+        self._source = _source(database, wal, journal, 0, wait, lock, look)
         self._files, self._view = self._source.files, self._source.view
         if self._view is None:
             page_size, pages = Word(), Word()
@@ -538,13 +544,13 @@ class View:
     def __reversed__(self):
         return (self[number] for number in range(len(self), 0, -1))
 
-    def check(self, *, large=False, pointer_maps=False):
-        """The Report of a database that is well formed; otherwise Damaged. With pointer_maps one of auto-vacuum too,
-        which otherwise is AutoVacuum; with large up to 2**40 bytes."""
+    def check(self, *, large=True, pointer_maps=True):
+        """The Report of a database that is well formed; otherwise Damaged. Without pointer_maps one of auto-vacuum is
+        AutoVacuum; without large one above 2**30 bytes is TooLarge."""
         with self._source:
             return _checked(self._opened()[1], *self._asked(large, pointer_maps))
 
-    def check_deep(self, *, large=False, complete=False):
+    def check_deep(self, *, large=True, complete=False):
         """The DeepReport of a database that is well formed, and whose records, schema, indexes and rows are sound, but
         for the indexes and the tables in the rows `indexes` and `tables` of the schema, from 0, which aren't judged;
         otherwise Damaged. Pointer maps are judged, too. With complete NotJudged if anything isn't judged but the
@@ -553,7 +559,7 @@ class View:
         with self._source:
             return _deeply_checked(self._opened()[1], _deep_flags(flags, complete), frame)
 
-    def roles(self, *, large=False, pointer_maps=False):
+    def roles(self, *, large=True, pointer_maps=True):
         """The Roles of the pages, page 1 first: the use of each, one of USES, and the page that goes with it, the root
         of its tree or the page whose payload it holds; and the fault that `check` finds, with its page, or None."""
         with self._source:
@@ -591,10 +597,10 @@ class View:
         return view
 
 
-def check(database, wal=b"", journal=b"", *, large=False, pointer_maps=False, wait=5.0, lock=True):
+def check(database, wal=b"", journal=b"", *, large=True, pointer_maps=True, wait=5.0, lock=True, look=True):
     """The Report of a database that is well formed; otherwise Damaged, also where the files show none, and so have no
     View. Else as View.check."""
-    source = _source(database, wal, journal, FILES_ONLY, wait, lock)
+    source = _source(database, wal, journal, FILES_ONLY, wait, lock, look)
     try:
         with source:
             return _checked(source.files, _flags(large, pointer_maps))
@@ -602,9 +608,9 @@ def check(database, wal=b"", journal=b"", *, large=False, pointer_maps=False, wa
         source.close()
 
 
-def check_deep(database, wal=b"", journal=b"", *, large=False, complete=False, wait=5.0, lock=True):
+def check_deep(database, wal=b"", journal=b"", *, large=True, complete=False, wait=5.0, lock=True, look=True):
     """As `check`, and whether what the database holds is sound: the DeepReport, as View.check_deep gives it."""
-    source = _source(database, wal, journal, FILES_ONLY, wait, lock)
+    source = _source(database, wal, journal, FILES_ONLY, wait, lock, look)
     try:
         with source:
             return _deeply_checked(source.files, _deep_flags(_flags(large, False), complete))
@@ -612,23 +618,23 @@ def check_deep(database, wal=b"", journal=b"", *, large=False, complete=False, w
         source.close()
 
 
-def recover(path, *, wait=5.0, lock=True):
+def recover(path, *, wait=5.0, lock=True, look=True):
     """Recovers a database in its place: folds its write-ahead log into it and empties that, or rolls it back by a hot
     journal. The Recovered says which of RECOVERIES it was. InUse where somebody has it open still, once `wait` seconds
     are over; without `lock` that nobody has is the caller's care. After an error of the disk it may be called again."""
     found = _Recovered()
-    _by_path(_library.sqr_recover, path, None, 0 if lock else NO_LOCK, _options(wait), found)
+    _by_path(_library.sqr_recover, path, None, _path_flags(lock, look), _options(wait), found)
     return Recovered(RECOVERIES[found.recovery], found.page_size, found.pages)
 
 
-def recover_to(path, out, *, at=None, wait=5.0, lock=True):
+def recover_to(path, out, *, at=None, wait=5.0, lock=True, look=True):
     """Makes `out`, a new file with what a recovery would leave, or with the database as it was at the commit that ends
     at the frame `at`, or at 0 before the first; the database is only read, beside any writer. `out` is whole and
     durable, or not there; AlreadyThere where something is."""
     frame = 0 if at is None else operator.index(at)
     if not 0 <= frame < 2**32:
         raise NoSuchCommit(f"frame {frame}")
-    flags, found = (0 if lock else NO_LOCK) | (0 if at is None else AT), _Recovered()
+    flags, found = _path_flags(lock, look) | (0 if at is None else AT), _Recovered()
     _by_path(_library.sqr_recover_to, path, out, flags, _options(wait, frame), found)
     return Recovered(RECOVERIES[found.recovery], found.page_size, found.pages)
 
@@ -652,12 +658,12 @@ def uri(path, *, at=None, wait=None, copy=None, flags=()):
     return f"file:{quote(path)}?vfs=sqrescue{asked}" + (f"&flags={','.join(words)}" if words else "")
 
 
-def plan(database, wal=b"", journal=b"", *, wait=5.0, lock=True):
+def plan(database, wal=b"", journal=b"", *, wait=5.0, lock=True, look=True):
     """The Steps of what a recovery would do, one after another, for storage of a caller's own: the `content` of a page
     or of zeros at `at`, a new length, what was done before made durable (`sync`); in the database file, or where
     is_of_log is 1 in the log that counts. Carried out in their order they leave what `recover` leaves. `database` is
     bytes, or a path, which is open until the last step was taken."""
-    source = _source(database, wal, journal, FILES_ONLY, wait, lock)
+    source = _source(database, wal, journal, FILES_ONLY, wait, lock, look)
     page_size, pages, made = Word(), Word(), _Plan()
     try:
         if _library.sqr_size(source.files, page_size, pages) == NoMemory.status:

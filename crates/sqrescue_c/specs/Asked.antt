@@ -26,17 +26,18 @@ limits_of flags = cond (is_set flags 8) greatest usual
 abbrev pub maps_of : ℕ → Bool
 maps_of flags = is_set flags 16
 
--- none but these
+-- none but these, and 64, which calls by path have
 pub record AreAskedFlags (flags : ℕ) : Type 0 where
-  pub low : flags < 32
+  pub low : flags < 128
   pub no_others : flags % 4 ≡ 0
+  pub not_complete : flags / 32 % 2 ≡ 0
 
 -- the same and, of a deep check, that all is to be judged, 32
 abbrev pub is_complete : ℕ → Bool
 is_complete flags = is_set flags 32
 
 pub record AreDeepFlags (flags : ℕ) : Type 0 where
-  pub low : flags < 64
+  pub low : flags < 128
   pub no_others : flags % 4 ≡ 0
 
 -- the database that the files show, or the one at commit frame m, or at 0, if that is asked for

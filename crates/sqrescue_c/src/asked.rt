@@ -23,14 +23,11 @@ const LARGE: u32 = 8;
 /// With pointer maps, where there are some.
 const POINTER_MAPS: u32 = 16;
 
-/// The flags are the bits below this one, but for two that are another call's.
-const FLAGS_END: u32 = 32;
+/// The flags are the bits below this one, except two of another call and the next one.
+const FLAGS_END: u32 = 128;
 
 /// All is to be judged: a flag of deep checks alone.
 const COMPLETE: u32 = 32;
-
-/// The flags of a deep check are the bits below this one, but for those two.
-const DEEP_FLAGS_END: u32 = 64;
 
 /// What is answered where a flag isn't known.
 pub(crate) const UNKNOWN_OPTIONS: u32 = 24;
@@ -43,18 +40,18 @@ fn is_set(flags: u32, flag: u32) -> bool
     flags / flag % 2 == 1
 }
 
-/// Whether there are no flags but those three.
+/// Whether all flags are known: those three, and one that is for calls by path and means nothing here.
 pub(crate) fn are_known(flags: u32) -> bool
     ensures { IsTrue result ↔ AreAskedFlags flags }
 {
-    flags < FLAGS_END && flags % AT == 0
+    flags < FLAGS_END && flags % AT == 0 && flags / COMPLETE % 2 == 0
 }
 
 /// Whether there are no flags but those and the one of deep checks.
 pub(crate) fn are_known_deep(flags: u32) -> bool
     ensures { IsTrue result ↔ AreDeepFlags flags }
 {
-    flags < DEEP_FLAGS_END && flags % AT == 0
+    flags < FLAGS_END && flags % AT == 0
 }
 
 /// Whether all is to be judged.
