@@ -64,7 +64,10 @@ fn views_at_commits(rt: HostRuntime) -> Result<(), Fail> {
     same(&rt, (view.front(), view.count()), (2, 2));
     same(&rt, *view.file(), db);
     same(&rt, *view.log(), wal);
-    same(&rt, view.places(), [56u64, 592].as_slice());
+    let mut places = [1u64; 2];
+    view.copy_places(&mut places);
+    same(&rt, places.as_slice(), [56u64, 592].as_slice());
+    same(&rt, (view.place_count(), view.place(2), view.place(3)), (2, 592, 0));
     let out = copied(alloc, &mut view, b"")?;
     same(&rt, out.as_slice(), [b'b'; 1024].as_slice());
     Ok(())
