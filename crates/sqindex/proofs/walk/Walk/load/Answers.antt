@@ -12,7 +12,7 @@ pub returns-in-Err-clause-read : goal.returns-in-Err-clause-read
 returns-in-Err-clause-read g c = λ gives. let outside = c.in-Err.ensures.err.0 in λ is. cc
 
 pub returns-in-Err-payload_into-clause-read : goal.returns-in-Err-payload_into-clause-read
-returns-in-Err-payload_into-clause-read g c = λ gives. not_source (g.S.PageSource.pages c.args.source.now) c.in-Ok.cell c.args.self.now.limit c.in-Err-payload_into.refusal (c.in-Err-payload_into.ensures.err gives)
+returns-in-Err-payload_into-clause-read g c = λ gives. not_source (g.S.PageSource.pages c.args.source.now) c.in-Ok.cell c.args.self.now.limit c.in-Err-payload_into.refusal (let u = c.in-Err-payload_into.ensures.err (g.met.S.PageSource.right c.args.source.now gives) in u.1 (λ is. u.0 is gives))
 
 pub returns-in-Ok-payload_into-clause-ok : goal.returns-in-Ok-payload_into-clause-ok
 returns-in-Ok-payload_into-clause-ok g c = λ gives.
@@ -24,7 +24,7 @@ returns-in-Ok-payload_into-clause-ok g c = λ gives.
         page = refl;
         cell = c.index.ensures;
         rowid = refl;
-        payload = record { cell = cell; is = refl; payload = c.in-Ok-payload_into.ensures.ok gives };
+        payload = record { cell = cell; is = refl; payload = c.in-Ok-payload_into.ensures.ok (g.met.S.PageSource.right c.args.source.now gives) };
       },
     )
 
@@ -32,4 +32,4 @@ pub returns-in-Err-payload_into-clause-err : goal.returns-in-Err-payload_into-cl
 returns-in-Err-payload_into-clause-err g c = λ gives e at.
     let d = g.S.PageSource.pages c.args.source.now in
     let is = (c.in-Ok.ensures.ok.1 e).0 at in
-    subst (λ (e : Entry). LoadRefused d c.args.self.now.limit e (Payload c.in-Err-payload_into.refusal)) (sym is) (refused_load d c.args.self.now.cells.at c.in-Ok.cell c.args.self.now.limit c.in-Err-payload_into.refusal (c.in-Err-payload_into.ensures.err gives))
+    subst (λ (e : Entry). LoadRefused d c.args.self.now.limit e (Payload c.in-Err-payload_into.refusal)) (sym is) (refused_load d c.args.self.now.cells.at c.in-Ok.cell c.args.self.now.limit c.in-Err-payload_into.refusal (let u = c.in-Err-payload_into.ensures.err (g.met.S.PageSource.right c.args.source.now gives) in u.1 (λ is. u.0 is gives)))

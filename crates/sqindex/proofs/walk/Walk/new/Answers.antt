@@ -8,4 +8,4 @@ pub returns-in_err-new-clause-err : goal.returns-in_err-new-clause-err
 returns-in_err-new-clause-err g c = λ gives.
     let d = g.S.PageSource.pages c.args.source.now in
     exits (λ e. (e.fault ≢ faults.Source) × (e.fault ≢ faults.NoMemory → (xs : List Entry) → ¬ IsTree d c.args.root xs)) c.in_err-new.field-0.0 c.from_residual.result c.from_residual.ensures.1
-    (c.in_err-new.ensures.err gives)
+    (let u = c.in_err-new.ensures.err (g.met.S.PageSource.right c.args.source.now gives) in (λ is. u.0 is gives, (u.1 (λ is. u.0 is gives)).0))
