@@ -16,7 +16,7 @@ use Rattle.cli_text.specs.Facts.{number_text, object_text, word_text}
 use Rattle.cli_text.specs.Verdicts.{fault_text, report_text}
 use Rattle.sqschema.specs.declared.check.Schema.{Schema as OwnSchema}
 use Rattle.sqdeepjudge.specs.declared.not_judged.NotJudged.{NotJudged}
-use Rattle.sqdeepjudge.specs.declared.verdict.Damage.TheVariants.{Check, Inner, Schema, Content, Row}
+use Rattle.sqdeepjudge.specs.declared.verdict.Damage.TheVariants.{Cut, Check, Inner, Schema, Content, Row}
 use Rattle.sqdeepjudge.specs.declared.verdict.DeepVerdict.{DeepVerdict}
 use Rattle.sqdeepjudge.specs.declared.verdict.DeepVerdict.TheVariants.{Clean, Sound, Damaged}
 use Rattle.cli_show_deep.specs.Parts.{part_line, part_object}
@@ -52,6 +52,11 @@ cell_text (Some i) = codes " cell " ++ decimal i
 abbrev pub place_texts : (p : ℕ) → (cell : Option ℕ) → (texts : List (List ℕ)) → List (List ℕ)
 place_texts p None texts = number_text Json (codes "page") p ∷ texts
 place_texts p (Some i) texts = number_text Json (codes "page") p ∷ number_text Json (codes "cell") i ∷ texts
+
+-- a page that is missing: fault 36
+abbrev pub cut_text : Style → (p : ℕ) → List ℕ
+cut_text Lines p = codes "page " ++ (decimal p ++ codes ": fault 36 FileCut\n")
+cut_text Json p = codes "{\"page\":" ++ (decimal p ++ codes ",\"fault\":36,\"name\":\"FileCut\"}\n")
 
 -- a fault inside, at a page, or at a cell of it
 abbrev pub inner_text : Style → InnerError → List ℕ
@@ -93,6 +98,7 @@ table_row_text style e = place_text style e.row e.error.page e.error.cell (rows.
 abbrev pub found_text : Style → DeepVerdict → List ℕ
 found_text style (Clean report) = report_text style report
 found_text style (Sound report schema unjudged) = whole_or_part style report schema unjudged.all.items
+found_text style (Damaged (Cut p)) = cut_text style p
 found_text style (Damaged (Check e)) = fault_text style e
 found_text style (Damaged (Inner e)) = inner_text style e
 found_text style (Damaged (Schema e)) = schema_text style e

@@ -1,7 +1,7 @@
 //! How it is printed what a deep check finds.
 ghost use Rattle.std.specs.Prelude.{OnOk};
 ghost use Rattle.std.specs.Io.KnownBytes.{Appends};
-ghost use Rattle.cli_show_deep.specs.Lines.{content_text, found_text, inner_text, schema_text, sound_text};
+ghost use Rattle.cli_show_deep.specs.Lines.{content_text, cut_text, found_text, inner_text, schema_text, sound_text};
 ghost use Rattle.cli_show_deep.specs.Lines.{place_text, table_row_text, whole_or_part};
 
 use crate::parts::{write_part_line, write_part_object};
@@ -65,6 +65,16 @@ fn write_whole_or_part<W: Write>(
     match style {
         Style::Lines => write_part_line(out, report, schema, all),
         Style::Json => write_part_object(out, report, schema, all),
+    }
+}
+
+/// A page that is missing.
+fn write_cut<W: Write>(out: &mut W, style: Style, page: u32) -> io::Result<()>
+    ensures { OnOk result (Appends (W.contents out.old) (W.contents out.new) (cut_text style page)) }
+{
+    match style {
+        Style::Lines => writeln!(out, "page {page}: fault 36 FileCut"),
+        Style::Json => writeln!(out, "{{\"page\":{page},\"fault\":36,\"name\":\"FileCut\"}}"),
     }
 }
 
@@ -181,6 +191,7 @@ pub fn write_found<W: Write>(out: &mut W, style: Style, verdict: &DeepVerdict) -
         DeepVerdict::Sound(report, schema, unjudged) => {
             write_whole_or_part(out, style, report, schema, &unjudged.all)
         }
+        DeepVerdict::Damaged(Damage::Cut(page)) => write_cut(out, style, *page),
         DeepVerdict::Damaged(Damage::Check(error)) => write_fault(out, style, error),
         DeepVerdict::Damaged(Damage::Inner(error)) => write_inner(out, style, error),
         DeepVerdict::Damaged(Damage::Schema(error)) => write_schema(out, style, error),

@@ -76,7 +76,7 @@ of_states plan b t names refusal trace same is = elim is [
 many_records : (d n x : ℕ) → 2 ^ 64 ≤ x → x ≤ n → 2 ^ 64 ≤ n * (d + 1)
 many_records d n x many less = omega (arith, many, less)
 
-fits_behind : (d k n : ℕ) → k + 1 ≤ n → n * (d + 1) < 2 ^ 64 → k * d + d < 2 ^ 64
+fits_behind : (d k n : ℕ) → k + 1 ≤ n → n * d < 2 ^ 64 → k * d + d < 2 ^ 64
 fits_behind d k n less fits =
     let more : (k + 1) * d ≤ n * d = mul-le-mul_right d less in
     omega (arith, fits, more)
@@ -103,15 +103,15 @@ module _ (Says : List (Option (List ℕ)) → Answer → Type 0) (j : Judging) (
         subst (λ (r : Refusal). TraceRefused j.plan j.trace r) (sym is) (t, to.trace, all)
 
     -- or one of images
-    room_behind : length t.calls.items * (drawn_count j.plan + 1) < 2 ^ 64 → HasRoom (drawn_count j.plan) mid.tally
+    room_behind : length t.calls.items * (drawn_count j.plan + 1) < 2 ^ 64 → HasRoom (drawn_count j.plan + 1) mid.tally
     room_behind fits =
-        let d = drawn_count j.plan in
+        let d = drawn_count j.plan + 1 in
         let k = length before in
         let room : k * d + d < 2 ^ 64 = fits_behind d k (length t.calls.items) long fits in
-        let first : HasRoom (k * d + d) no_tally = record { images = omega (arith, room); wrong = omega (arith, room); lost = omega (arith, room); mixed = omega (arith, room); faults = omega (arith, room) } in
+        let first : HasRoom (k * d + d) no_tally = record { images = omega (arith, room); wrong = omega (arith, room); lost = omega (arith, room); mixed = omega (arith, room); faults = omega (arith, room); unwritten = omega (arith, room) } in
         counted.room d (k * d + d) (fits_itself (k * d + d)) first
 
-    no_room : ¬ HasRoom (drawn_count j.plan) mid.tally → refusal ≡ refusals.TooMany → TraceRefused j.plan j.trace refusal
+    no_room : ¬ HasRoom (drawn_count j.plan + 1) mid.tally → refusal ≡ refusals.TooMany → TraceRefused j.plan j.trace refusal
     no_room none is =
         let n = length t.calls.items in
         let all : 2 ^ 64 ≤ n * (drawn_count j.plan + 1) = elim (cases_lt (n * (drawn_count j.plan + 1)) (2 ^ 64)) [
@@ -121,7 +121,7 @@ module _ (Says : List (Option (List ℕ)) → Answer → Type 0) (j : Judging) (
         subst (λ (r : Refusal). TraceRefused j.plan j.trace r) (sym is) (t, to.trace, all)
 
     -- what refuses its images
-    of_images : IsTrue (is_point j.plan.every c.action) → ImagesRefused (drawn_count j.plan) j.names mid.tally refusal → TraceRefused j.plan j.trace refusal
+    of_images : IsTrue (is_point j.plan.every c.action) → ImagesRefused (drawn_count j.plan + 1) j.names mid.tally refusal → TraceRefused j.plan j.trace refusal
     of_images point is = elim is [
       | inl judge ↦ of_judge j.plan j.trace t j.names refusal to.trace to.names (some_call t.calls.items before behind c to.split (point_is_call j.plan.every c.action point)) judge
       | inr many ↦ no_room many.1 many.0

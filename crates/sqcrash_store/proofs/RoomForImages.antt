@@ -1,5 +1,5 @@
 -- Counts of images that have room for more.
-use Rattle.std.proofs.Common.{◌≡◌, inl, inr, ℕ, ◌+◌, ◌≤◌, Bool, not, nat_eq, Option, List, [], ◌∷◌, length, map, refl, ◌∙◌, ap, arith}
+use Rattle.std.proofs.Common.{◌≡◌, inl, inr, ℕ, ◌+◌, ◌≤◌, Bool, not, nat_eq, Option, Some, None, List, [], ◌∷◌, length, map, refl, ◌∙◌, ap, arith}
 use Rattle.std.specs.List.{filter}
 use Rattle.std.proofs.lemmas.List.{length-map}
 use Rattle.std.proofs.lemmas.List.Sums.{length-filter, count_by-le-length}
@@ -8,11 +8,11 @@ use Rattle.sqcrash_store.specs.Keys.{key_of}
 use Rattle.sqcrash_store.specs.Points.{is_asked}
 use Rattle.sqcrash_store.specs.Refused.{HasRoom, ImagesRefused}
 use Rattle.sqcrash_store.specs.Surveys.{firsts, numbered, asked_among, with_images, with_number}
-use Rattle.sqcrash_store.specs.Tallies.{with_image, with_point}
+use Rattle.sqcrash_store.specs.Tallies.{with_claim, with_image, with_point}
 use Rattle.sqcrash_store.specs.declared.outcome.Refusal.{Refusal}
 use Rattle.sqcrash_store.specs.declared.tally.Tally.{Tally}
 use Rattle.sqcrash_store.specs.declared.verdict.Verdict.{Verdict}
-use Rattle.sqcrash_store.specs.declared.verdict.Verdict.TheVariants.{Kept, Lost, Mixed, Fault}
+use Rattle.sqcrash_store.specs.declared.verdict.Verdict.TheVariants.{Kept, Lost, Allowed, Mixed, Fault}
 
 -- there is room for fewer
 pub room_fewer : (m n : ℕ) (t : Tally) → m ≤ n → HasRoom n t → HasRoom m t
@@ -22,11 +22,28 @@ room_fewer m n t less room = record {
   lost = omega (arith, less, room.lost);
   mixed = omega (arith, less, room.mixed);
   faults = omega (arith, less, room.faults);
+  unwritten = omega (arith, less, room.unwritten);
 }
 
 -- a point takes none
 pub room_point : (n : ℕ) (t : Tally) → HasRoom n t → HasRoom n (with_point t)
-room_point n t room = record { images = room.images; wrong = room.wrong; lost = room.lost; mixed = room.mixed; faults = room.faults }
+room_point n t room = record { images = room.images; wrong = room.wrong; lost = room.lost; mixed = room.mixed; faults = room.faults; unwritten = room.unwritten }
+
+-- a mark takes one at most, and is no point
+pub room_claim : (m n : ℕ) (t : Tally) (found : Option (List ℕ)) → m + 1 ≤ n → HasRoom n t → HasRoom m (with_claim t found)
+room_claim m n t None less room = room_fewer m n t (omega (arith, less)) room
+room_claim m n t (Some shown) less room = record {
+  images = omega (arith, less, room.images);
+  wrong = omega (arith, less, room.wrong);
+  lost = omega (arith, less, room.lost);
+  mixed = omega (arith, less, room.mixed);
+  faults = omega (arith, less, room.faults);
+  unwritten = omega (arith, less, room.unwritten);
+}
+
+pub points_claim : (t : Tally) (found : Option (List ℕ)) → (with_claim t found).points ≡ t.points
+points_claim t None = refl
+points_claim t (Some shown) = refl
 
 -- an image takes one
 room_image : (m n : ℕ) (t : Tally) (v : Verdict) → m + 1 ≤ n → HasRoom n t → HasRoom m (with_image t v)
@@ -36,6 +53,7 @@ room_image m n t (Kept k) less room = record {
   lost = omega (arith, less, room.lost);
   mixed = omega (arith, less, room.mixed);
   faults = omega (arith, less, room.faults);
+  unwritten = omega (arith, less, room.unwritten);
 }
 room_image m n t (Lost k) less room = record {
   images = omega (arith, less, room.images);
@@ -43,6 +61,15 @@ room_image m n t (Lost k) less room = record {
   lost = omega (arith, less, room.lost);
   mixed = omega (arith, less, room.mixed);
   faults = omega (arith, less, room.faults);
+  unwritten = omega (arith, less, room.unwritten);
+}
+room_image m n t Allowed less room = record {
+  images = omega (arith, less, room.images);
+  wrong = omega (arith, less, room.wrong);
+  lost = omega (arith, less, room.lost);
+  mixed = omega (arith, less, room.mixed);
+  faults = omega (arith, less, room.faults);
+  unwritten = omega (arith, less, room.unwritten);
 }
 room_image m n t Mixed less room = record {
   images = omega (arith, less, room.images);
@@ -50,6 +77,7 @@ room_image m n t Mixed less room = record {
   lost = omega (arith, less, room.lost);
   mixed = omega (arith, less, room.mixed);
   faults = omega (arith, less, room.faults);
+  unwritten = omega (arith, less, room.unwritten);
 }
 room_image m n t Fault less room = record {
   images = omega (arith, less, room.images);
@@ -57,6 +85,7 @@ room_image m n t Fault less room = record {
   lost = omega (arith, less, room.lost);
   mixed = omega (arith, less, room.mixed);
   faults = omega (arith, less, room.faults);
+  unwritten = omega (arith, less, room.unwritten);
 }
 
 -- and so each of some
@@ -69,6 +98,7 @@ room_images m n t (x ∷ judged) less room =
 points_image : (t : Tally) (v : Verdict) → (with_image t v).points ≡ t.points
 points_image t (Kept k) = refl
 points_image t (Lost k) = refl
+points_image t Allowed = refl
 points_image t Mixed = refl
 points_image t Fault = refl
 
@@ -111,4 +141,18 @@ pub images_at_point : (n : ℕ) (names : List (List ℕ)) (t : Tally) (refusal :
 images_at_point n names t refusal is = elim is [
   | inl judge ↦ inl judge
   | inr many ↦ inr (many.0, λ room. many.1 (room_point n t room))
+]
+
+-- what refuses fewer refuses more
+pub images_fewer : (m n : ℕ) (names : List (List ℕ)) (t : Tally) (refusal : Refusal) → m ≤ n → ImagesRefused m names t refusal → ImagesRefused n names t refusal
+images_fewer m n names t refusal less is = elim is [
+  | inl judge ↦ inl judge
+  | inr many ↦ inr (many.0, λ room. many.1 (room_fewer m n t less room))
+]
+
+-- and behind a mark refuses one more
+pub images_at_mark : (n : ℕ) (names : List (List ℕ)) (t : Tally) (found : Option (List ℕ)) (refusal : Refusal) → ImagesRefused n names (with_claim t found) refusal → ImagesRefused (n + 1) names t refusal
+images_at_mark n names t found refusal is = elim is [
+  | inl judge ↦ inl judge
+  | inr many ↦ inr (many.0, λ room. many.1 (room_claim n (n + 1) t found (omega arith) room))
 ]

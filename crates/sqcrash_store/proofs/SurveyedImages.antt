@@ -150,7 +150,7 @@ module _ (Says : List (Option (List ℕ)) → Answer → Type 0) (j : Judging) (
     torn = subst (λ l. All (IsTornIfAny s) l) (sym (drop_all j.plan.images [] (omega arith))) (all_none (IsTornIfAny s));
     next_is = refl;
     once = refl;
-    each = all_none (IsJudged Says j.states s crash);
+    each = all_none (IsJudged Says j s crash);
     keyed = none;
   }
 
@@ -173,7 +173,7 @@ module _ (Says : List (Option (List ℕ)) → Answer → Type 0) (j : Judging) (
         both false false = refl
 
     surveyed_with : (all : List Judged) → map with_number all ≡ map with_number judged ++ if_asked (is_asked j.plan.image next) (next, image)
-        → All (IsJudged Says j.states s crash) all → IsSurveyed Says j s crash (n + 1) (next + 1) has_then all
+        → All (IsJudged Says j s crash) all → IsSurveyed Says j s crash (n + 1) (next + 1) has_then all
     surveyed_with all once each =
         let drawn = so_far.drawn in
         record {
@@ -195,7 +195,7 @@ module _ (Says : List (Option (List ℕ)) → Answer → Type 0) (j : Judging) (
               ∙ ap (λ (l : List (List (Option (List ℕ)))). has_key q l) (sym more);
         }
 
-    pub surveyed_new : (x : Judged) → is_asked j.plan.image next ≡ true → x.image ≡ image → x.found.number ≡ next → IsJudged Says j.states s crash x
+    pub surveyed_new : (x : Judged) → is_asked j.plan.image next ≡ true → x.image ≡ image → x.found.number ≡ next → IsJudged Says j s crash x
         → IsSurveyed Says j s crash (n + 1) (next + 1) has_then (judged ++ x ∷ [])
     surveyed_new x asked is number one =
         surveyed_with (judged ++ x ∷ [])
@@ -203,7 +203,7 @@ module _ (Says : List (Option (List ℕ)) → Answer → Type 0) (j : Judging) (
         ∙ ap (λ (k : ℕ). map with_number judged ++ (k, x.image) ∷ []) number
         ∙ ap (λ (y : List (Option (List ℕ))). map with_number judged ++ (next, y) ∷ []) is
         ∙ ap (λ (b : Bool). map with_number judged ++ if_asked b (next, image)) (sym asked))
-        (All-append (IsJudged Says j.states s crash) judged (x ∷ []) so_far.each (all_one (IsJudged Says j.states s crash) x one))
+        (All-append (IsJudged Says j s crash) judged (x ∷ []) so_far.each (all_one (IsJudged Says j s crash) x one))
 
     pub surveyed_unasked : is_asked j.plan.image next ≡ false → IsSurveyed Says j s crash (n + 1) (next + 1) has_then judged
     surveyed_unasked asked =

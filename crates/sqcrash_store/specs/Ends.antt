@@ -1,9 +1,11 @@
 -- How a run of the program ends, and what it writes (own).
-use Rattle.std.specs.Prelude.{◌≡◌, ◌⊎◌, ℕ, ◌<◌, List, Option, Result, Ok, Err}
+use Rattle.std.specs.Prelude.{◌≡◌, ◌⊎◌, ℕ, ◌<◌, List, [], Option, Some, None, Result, Ok, Err}
+use Rattle.std.specs.Borrow.{Bor}
 use Rattle.std.specs.Io.KnownBytes.{Appends}
 use Rattle.sqcrash_store.specs.Judged.{Judged}
 use Rattle.sqcrash_store.specs.Refused.{IsOfFiles, TraceRefused}
 use Rattle.sqcrash_store.specs.Rigs.{IsJudgment}
+use Rattle.sqcrash_store.specs.States.{SaysAny}
 use Rattle.sqcrash_store.specs.Tallies.{IsClean}
 use Rattle.sqcrash_store.specs.Words.{Asks}
 use Rattle.sqcrash_store.specs.declared.commands.LineError.{LineError}
@@ -12,11 +14,6 @@ use Rattle.sqcrash_store.specs.declared.commands.Request.{Request}
 use Rattle.sqcrash_store.specs.declared.outcome.Refusal.{Refusal}
 use Rattle.sqcrash_store.specs.declared.plan.Plan.{Plan}
 use Rattle.sqcrash_store.specs.declared.tally.Tally.{Tally}
-use Rattle.sqcrash_store.specs.declared.verdict.Answer.{Answer}
-
--- a command may say anything of an image
-abbrev pub SaysAny : (image : List (Option (List ℕ))) → Answer → Type 0
-SaysAny image answer = Unit {0}
 
 -- What comes of the trace that is asked for: of what its file gives this is counted, which is one point or more, and all
 -- lines of its judgment are written; or its file isn't read, or it is refused.
@@ -24,6 +21,16 @@ abbrev pub Comes : Plan → (before after : Option (List ℕ)) → Result Tally 
 Comes plan before after (Ok tally) =
     (b : List ℕ) × (lines : List ℕ) × (kept : List Judged) × IsJudgment SaysAny plan b tally lines kept × (0 < tally.points) × Appends before after lines
 Comes plan before after (Err refusal) = IsOfFiles refusal ⊎ ((b : List ℕ) × TraceRefused plan b refusal)
+
+-- a text names the states that are right besides those of the run: none where no file is given for them
+abbrev pub AllowsBy : Option (Bor (List ℕ)) → (text : List ℕ) → Type 0
+AllowsBy None text = text ≡ []
+AllowsBy (Some path) text = Unit {0}
+
+-- what comes of the trace of a request, where such states are right
+abbrev pub ComesOf : Request → (before after : Option (List ℕ)) → Result Tally Refusal → Type 0
+ComesOf request before after answer =
+    (allowed : Bor (List ℕ)) × AllowsBy request.allow allowed.now × Comes (record request.plan { allowed = allowed }) before after answer
 
 -- the status of what was counted: 0 where nothing is wrong, 1 where something is
 abbrev pub IsStatusOf : Tally → (status : ℕ) → Type 0
@@ -41,7 +48,7 @@ IsTold told status = (status ≡ told) ⊎ (status ≡ 3)
 -- How the program ends whose words ask for this: with what came of the trace. Where they ask for nothing, help alone is
 -- written on standard output.
 abbrev pub EndsAs : Result Request LineError → (before after : Option (List ℕ)) → (status : ℕ) → Type 0
-EndsAs (Ok request) before after status = (answer : Result Tally Refusal) × Comes request.plan before after answer × EndsWith answer status
+EndsAs (Ok request) before after status = (answer : Result Tally Refusal) × ComesOf request before after answer × EndsWith answer status
 EndsAs (Err (Help text)) before after status = IsTold 0 status
 EndsAs (Err (NotUnderstood text)) before after status = IsTold 2 status × (after ≡ before)
 EndsAs (Err NoMemory) before after status = (status ≡ 3) × (after ≡ before)

@@ -12,6 +12,7 @@ pub mod Words
 pub mod Refusals
 pub mod Surveys
 pub mod States
+pub mod Claims
 pub mod Rigs
 pub mod Refused
 pub mod Ends

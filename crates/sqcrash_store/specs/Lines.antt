@@ -9,7 +9,7 @@ use Rattle.sqcrash_store.specs.declared.crash.Crash.{Crash}
 use Rattle.sqcrash_store.specs.declared.found.Found.{Found}
 use Rattle.sqcrash_store.specs.declared.tally.Tally.{Tally}
 use Rattle.sqcrash_store.specs.declared.verdict.Verdict.{Verdict}
-use Rattle.sqcrash_store.specs.declared.verdict.Verdict.TheVariants.{Kept, Lost, Mixed, Fault}
+use Rattle.sqcrash_store.specs.declared.verdict.Verdict.TheVariants.{Kept, Lost, Allowed, Mixed, Fault}
 
 -- which state an image shows, and which one is known to be durable
 abbrev pub states_text : (shown known : ℕ) → List ℕ
@@ -19,6 +19,7 @@ states_text shown known = codes " (state " ++ (decimal shown ++ (codes " shown, 
 abbrev pub verdict_text : Verdict → (known : ℕ) → (line : List ℕ) → List ℕ
 verdict_text (Kept k) known line = codes "kept" ++ states_text k known
 verdict_text (Lost k) known line = codes "lost" ++ states_text k known
+verdict_text Allowed known line = codes "allowed: " ++ line
 verdict_text Mixed known line = codes "mixed: " ++ line
 verdict_text Fault known line = codes "fault: " ++ line
 
@@ -63,10 +64,14 @@ why_text names f = (stopped_text names f.crash ++ 10 ∷ []) ++ differences_text
 abbrev pub found_text : (why : Bool) → (names : List (List ℕ)) → Found → List ℕ
 found_text why names f = (head_text f ++ 10 ∷ []) ++ cond why (why_text names f) []
 
+-- the line of a mark that claims a commit that the files don't show, without its end: they show a state of this name
+abbrev pub unwritten_text : (point mark : ℕ) → (shown : List ℕ) → List ℕ
+unwritten_text point mark shown = codes "point " ++ (decimal point ++ (codes ": unwritten (mark " ++ (decimal mark ++ (codes "): " ++ shown))))
+
 -- the last line, without its end
 abbrev pub tally_text : Tally → List ℕ
 tally_text t =
-    decimal t.points ++ (codes " points, " ++ (decimal t.images ++ (codes " images, " ++ (decimal t.lost ++ (codes " lost, " ++ (decimal t.mixed ++ (codes " mixed, " ++ (decimal t.faults ++ codes " faults"))))))))
+    decimal t.points ++ (codes " points, " ++ (decimal t.images ++ (codes " images, " ++ (decimal t.lost ++ (codes " lost, " ++ (decimal t.mixed ++ (codes " mixed, " ++ (decimal t.faults ++ (codes " faults, " ++ (decimal t.unwritten ++ codes " unwritten"))))))))))
 
 -- how many images more have something wrong, without the line's end
 abbrev pub more_text : ℕ → List ℕ

@@ -9,7 +9,7 @@ use Rattle.sqcrash_store.specs.declared.crash.Crash.{Crash}
 use Rattle.sqcrash_store.specs.declared.found.Found.{Found}
 use Rattle.sqcrash_store.specs.declared.tally.Tally.{Tally}
 use Rattle.sqcrash_store.specs.declared.verdict.Verdict.{Verdict}
-use Rattle.sqcrash_store.specs.declared.verdict.Verdict.TheVariants.{Kept, Lost, Mixed, Fault}
+use Rattle.sqcrash_store.specs.declared.verdict.Verdict.TheVariants.{Kept, Lost, Allowed, Mixed, Fault}
 
 -- a digit of a hexadecimal number
 abbrev pub hex_digit : ℕ → ℕ
@@ -30,6 +30,7 @@ states_object shown known = codes ",\"shown\":" ++ (decimal shown ++ (codes ",\"
 abbrev pub verdict_object : Verdict → (known : ℕ) → (line : List ℕ) → List ℕ
 verdict_object (Kept k) known line = codes "\"kept\"" ++ states_object k known
 verdict_object (Lost k) known line = codes "\"lost\"" ++ states_object k known
+verdict_object Allowed known line = codes "\"allowed\",\"line\":" ++ string line
 verdict_object Mixed known line = codes "\"mixed\",\"line\":" ++ string line
 verdict_object Fault known line = codes "\"fault\",\"line\":" ++ string line
 
@@ -90,10 +91,18 @@ why_object names f = stopped_object names f.crash ++ (codes ",\"names\":[" ++ (m
 abbrev pub found_object : (why : Bool) → (names : List (List ℕ)) → Found → List ℕ
 found_object why names f = head_object f ++ (cond why (why_object names f) [] ++ (codes "}" ++ 10 ∷ []))
 
+-- the first members of the object of a mark that claims a commit that the files don't show, and its line: they show a state of
+-- this name
+abbrev pub mark_object : (point mark : ℕ) → List ℕ
+mark_object point mark = codes "{\"point\":" ++ (decimal point ++ (codes ",\"mark\":" ++ (decimal mark ++ codes ",\"verdict\":\"unwritten\",\"line\":")))
+
+abbrev pub unwritten_object : (point mark : ℕ) → (shown : List ℕ) → List ℕ
+unwritten_object point mark shown = mark_object point mark ++ (string shown ++ (codes "}" ++ 10 ∷ []))
+
 -- the last line, without its end
 abbrev pub tally_object : Tally → List ℕ
 tally_object t =
-    codes "{\"points\":" ++ (decimal t.points ++ (codes ",\"images\":" ++ (decimal t.images ++ (codes ",\"lost\":" ++ (decimal t.lost ++ (codes ",\"mixed\":" ++ (decimal t.mixed ++ (codes ",\"faults\":" ++ (decimal t.faults ++ codes "}")))))))))
+    codes "{\"points\":" ++ (decimal t.points ++ (codes ",\"images\":" ++ (decimal t.images ++ (codes ",\"lost\":" ++ (decimal t.lost ++ (codes ",\"mixed\":" ++ (decimal t.mixed ++ (codes ",\"faults\":" ++ (decimal t.faults ++ (codes ",\"unwritten\":" ++ (decimal t.unwritten ++ codes "}")))))))))))
 
 -- how many images more have something wrong, without the line's end
 abbrev pub more_object : ℕ → List ℕ

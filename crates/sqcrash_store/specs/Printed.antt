@@ -1,7 +1,7 @@
 -- What is printed of images, as lines of text or of JSON (own).
 use Rattle.std.specs.Prelude.{ℕ, ◌-◌, Bool, true, ◌&&◌, nat_eq, nat_lt, cond, List, [], ◌∷◌, ◌++◌, Option, Some, None}
-use Rattle.sqcrash_store.specs.Lines.{found_text, more_text, tally_text}
-use Rattle.sqcrash_store.specs.Objects.{found_object, more_object, tally_object}
+use Rattle.sqcrash_store.specs.Lines.{found_text, more_text, tally_text, unwritten_text}
+use Rattle.sqcrash_store.specs.Objects.{found_object, more_object, tally_object, unwritten_object}
 use Rattle.sqcrash_store.specs.Verdicts.{is_wrong}
 use Rattle.sqcrash_store.specs.declared.found.Found.{Found}
 use Rattle.sqcrash_store.specs.declared.plan.Plan.{Plan}
@@ -20,7 +20,16 @@ found_lines plan names f = cond plan.json (found_object plan.why names f) (found
 abbrev pub lines_of : Plan → (names : List (List ℕ)) → (told : ℕ) → Found → List ℕ
 lines_of plan names told f = cond (is_wrong f.verdict && is_within plan.lines told) (found_lines plan names f) []
 
--- how many images with something wrong have no lines
+-- the line of a mark that claims a commit that the files don't show, which show a state of this name
+abbrev pub claim_line : Plan → (point mark : ℕ) → (shown : List ℕ) → List ℕ
+claim_line plan point mark shown = cond plan.json (unwritten_object point mark shown) (unwritten_text point mark shown ++ 10 ∷ [])
+
+-- the same if there is such a claim, as long as one more may have lines
+abbrev pub claim_lines : Plan → Tally → (mark : ℕ) → (found : Option (List ℕ)) → List ℕ
+claim_lines plan t mark None = []
+claim_lines plan t mark (Some shown) = cond (is_within plan.lines t.wrong) (claim_line plan t.points mark shown) []
+
+-- how many images and marks with something wrong have no lines
 abbrev pub left_out : Option ℕ → (wrong : ℕ) → ℕ
 left_out None wrong = 0
 left_out (Some most) wrong = wrong - most

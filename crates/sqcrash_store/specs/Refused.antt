@@ -9,12 +9,14 @@ use Rattle.rig_store.specs.declared.call.Trace.{Trace}
 use Rattle.rig_store.specs.declared.error.StoreError.{StoreError}
 use Rattle.sqcrash_store.specs.Points.{is_point}
 use Rattle.sqcrash_store.specs.Rigs.{RigState}
-use Rattle.sqcrash_store.specs.States.{is_call, names_told}
+use Rattle.sqcrash_store.specs.States.{AreStates, SaysAny, is_call, names_told}
 use Rattle.sqcrash_store.specs.Surveys.{Judging, drawn_count}
+use Rattle.sqcrash_store.specs.Verdicts.{AreAlike}
 use Rattle.sqcrash_store.specs.declared.outcome.Refusal.{Refusal}
 use Rattle.sqcrash_store.specs.declared.outcome.Refusal.TheVariants as refusals
 use Rattle.sqcrash_store.specs.declared.plan.Plan.{Plan}
 use Rattle.sqcrash_store.specs.declared.tally.Tally.{Tally}
+use Rattle.sqcrash_store.specs.declared.verdict.Answer.{Answer}
 
 -- memory alone
 abbrev pub IsOfMemory : Refusal → Type 0
@@ -105,14 +107,15 @@ pub record HasRoom (n : ℕ) (t : Tally) : Type 0 where
   pub lost : t.lost + n < 2 ^ 64
   pub mixed : t.mixed + n < 2 ^ 64
   pub faults : t.faults + n < 2 ^ 64
+  pub unwritten : t.unwritten + n < 2 ^ 64
 
 -- what refuses so many images more, at most
 abbrev pub ImagesRefused : (n : ℕ) → (names : List (List ℕ)) → Tally → Refusal → Type 0
 ImagesRefused n names t refusal = JudgeRefused names refusal ⊎ ((refusal ≡ refusals.TooMany) × ¬ HasRoom n t)
 
--- what refuses one point more, and what refuses one record more
+-- what refuses one point more with its mark, and what refuses one record more
 abbrev pub PointRefused : Judging → Tally → Refusal → Type 0
-PointRefused j t refusal = IsTooMany t.points refusal ⊎ ImagesRefused (drawn_count j.plan) j.names t refusal
+PointRefused j t refusal = IsTooMany t.points refusal ⊎ ImagesRefused (drawn_count j.plan + 1) j.names t refusal
 
 abbrev pub RigRefused : Judging → Call → RigState → Refusal → Type 0
 RigRefused j c rig refusal =
@@ -125,12 +128,18 @@ RigRefused j c rig refusal =
 abbrev pub IsTraceOf : List ℕ → (List Call → Type 0) → Type 0
 IsTraceOf b P = (t : Trace) × IsTrace b t × P t.calls.items
 
--- Why a trace is refused: it is none; a record can't be played; a name can't be that of a file; it has no point; it has
+-- the command may have said of a run what is alike
+abbrev pub MayBeAlike : Plan → List ℕ → List Call → Type 0
+MayBeAlike plan b calls = (states : List Answer) × AreStates SaysAny plan b calls states × AreAlike states
+
+-- Why a trace is refused: it is none; a record can't be played; a name can't be that of a file; the command names its states alike;
+-- it has no point; it has
 -- so many records that a count may pass 2 ^ 64 - 1; or, where the command is asked, a file, an answer or a writer failed.
 abbrev pub TraceRefused : Plan → List ℕ → Refusal → Type 0
 TraceRefused plan b (refusals.Trace e) = TraceAnswer b (Err e)
 TraceRefused plan b (refusals.Record at e) = IsTraceOf b (λ calls. IsUnplayedAt plan b calls at e)
 TraceRefused plan b refusals.Name = IsTraceOf b (λ calls. HasNoFileName (names_told b calls))
+TraceRefused plan b refusals.Alike = IsTraceOf b (λ calls. MayBeAlike plan b calls)
 TraceRefused plan b refusals.NoPoints = IsTraceOf b (λ calls. point_count plan calls ≡ 0)
 TraceRefused plan b refusals.TooMany = IsTraceOf b (λ calls. 2 ^ 64 ≤ length calls * (drawn_count plan + 1))
 TraceRefused plan b refusals.FileFailed = IsTraceOf b (λ calls. 0 < call_count calls)

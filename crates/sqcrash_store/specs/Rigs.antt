@@ -7,11 +7,13 @@ use Rattle.rig_store.specs.declared.call.Action.TheVariants as actions
 use Rattle.rig_store.specs.declared.call.Call.{Call}
 use Rattle.rig_store.specs.declared.call.Trace.{Trace}
 use Rattle.sqcrash_store.specs.Judged.{Judged, kept_among}
+use Rattle.sqcrash_store.specs.Claims.{IsFalseClaim}
 use Rattle.sqcrash_store.specs.Points.{is_point, is_judged, IsKnown}
-use Rattle.sqcrash_store.specs.Printed.{last_lines}
+use Rattle.sqcrash_store.specs.Printed.{claim_lines, last_lines}
 use Rattle.sqcrash_store.specs.States.{AreStates, names_told}
 use Rattle.sqcrash_store.specs.Surveys.{Judging, IsSurvey, with_images, lines_from}
-use Rattle.sqcrash_store.specs.Tallies.{no_tally, with_point}
+use Rattle.sqcrash_store.specs.Tallies.{no_tally, with_claim, with_point}
+use Rattle.sqcrash_store.specs.Verdicts.{AreAlike}
 use Rattle.sqcrash_store.specs.declared.crash.Crash.{Crash}
 use Rattle.sqcrash_store.specs.declared.plan.Plan.{Plan}
 use Rattle.sqcrash_store.specs.declared.rig.Rig.{Rig}
@@ -44,12 +46,15 @@ NotesBy _ plan line old new = new ≡ old
 abbrev pub crash_of : RigState → Call → Crash
 crash_of rig c = record { point = rig.tally.points + 1; known = rig.known; played = rig.played; call = c }
 
--- the next point is counted, and its images are judged, counted, told and kept where it is asked for
+-- The next point is counted. Where it is asked for a false claim of its mark is counted and told, and then its images are judged,
+-- counted, told and kept.
 abbrev pub JudgesAsked : (Says : List (Option (List ℕ)) → Answer → Type 0) → (asked : Bool) → Judging → Call → RigState → Tally → (lines : List ℕ) (kept : List Judged) → Type 0
 JudgesAsked Says false j c rig tally lines kept = (tally ≡ with_point rig.tally) × (lines ≡ []) × (kept ≡ [])
 JudgesAsked Says true j c rig tally lines kept =
-    (judged : List Judged) × IsSurvey Says j rig.store (crash_of rig c) judged × (tally ≡ with_images (with_point rig.tally) judged)
-    × (lines ≡ lines_from j (with_point rig.tally) judged) × (kept ≡ kept_among j.plan judged)
+    (found : Option (List ℕ)) × IsFalseClaim j c rig.marks found × (judged : List Judged) × IsSurvey Says j rig.store (crash_of rig c) judged
+    × (tally ≡ with_images (with_claim (with_point rig.tally) found) judged)
+    × (lines ≡ claim_lines j.plan (with_point rig.tally) rig.marks found ++ lines_from j (with_claim (with_point rig.tally) found) judged)
+    × (kept ≡ kept_among j.plan judged)
 
 -- the same where a crash may come; otherwise nothing is counted, told or kept
 abbrev pub JudgesWhere : (Says : List (Option (List ℕ)) → Answer → Type 0) → (point : Bool) → Judging → Call → RigState → Tally → (lines : List ℕ) (kept : List Judged) → Type 0
@@ -74,12 +79,13 @@ PlaysAll Says j (c ∷ calls) old new lines kept =
     × PlaysOne Says j c old mid first first_kept × PlaysAll Says j calls mid new rest rest_kept × (lines ≡ first ++ rest) × (kept ≡ first_kept ++ rest_kept)
 
 -- What is counted of a trace, written of it, and kept: the command says which states the run had, and by these all its records are
--- judged, from no files on.
+-- judged, from no files on. These states aren't all alike.
 pub record IsJudgment (Says : List (Option (List ℕ)) → Answer → Type 0) (plan : Plan) (b : List ℕ) (tally : Tally) (lines : List ℕ) (kept : List Judged) : Type 0 where
   pub trace : Trace
   pub is_trace : IsTrace b trace
   pub states : List Answer
   pub are_states : AreStates Says plan b trace.calls.items states
+  pub differ : ¬ AreAlike states
   pub last : RigState
   pub told : List ℕ
   pub judged : PlaysAll Says (record { plan = plan; trace = b; names = names_told b trace.calls.items; states = states }) trace.calls.items (no_rig plan) last told kept

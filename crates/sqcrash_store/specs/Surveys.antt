@@ -34,13 +34,13 @@ judging_of b = record { plan = b.plan; trace = b.trace.now; names = map (λ n. s
 abbrev pub Differs : StoreState → (image : List (Option (List ℕ))) → List Difference → Type 0
 Differs s image found = (now : List (Option (List ℕ))) × IsPresent s now × AreDifferences s.sector s.names image now found
 
--- The image that a crash left is judged as the command may say, by the states of a run of which one is known to be durable, and it
--- is found what isn't down in it.
-pub record IsJudged (Says : List (Option (List ℕ)) → Answer → Type 0) (states : List Answer) (s : StoreState) (crash : Crash) (x : Judged) : Type 0 where
+-- The image that a crash left is judged as the command may say, by the states of a run of which one is known to be durable, and by
+-- those that are allowed; and it is found what isn't down in it.
+pub record IsJudged (Says : List (Option (List ℕ)) → Answer → Type 0) (j : Judging) (s : StoreState) (crash : Crash) (x : Judged) : Type 0 where
   pub answer : Answer
   pub says : Says x.image answer
   pub line : x.found.line ≡ answer.line
-  pub verdict : IsVerdict states crash.known answer x.found.verdict
+  pub verdict : IsVerdict j.states crash.known j.plan.allowed.now answer x.found.verdict
   pub crash_is : x.found.crash ≡ crash
   pub differs : Differs s x.image x.found.differences.items
 
@@ -87,4 +87,4 @@ pub record IsSurvey (Says : List (Option (List ℕ)) → Answer → Type 0) (j :
   pub left : All (MayLeave s) drawn
   pub torn : All (IsTornIfAny s) (drop j.plan.images drawn)
   pub once : map with_number judged ≡ asked_among j.plan.image (numbered 0 (firsts drawn))
-  pub each : All (IsJudged Says j.states s crash) judged
+  pub each : All (IsJudged Says j s crash) judged

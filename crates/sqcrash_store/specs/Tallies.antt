@@ -1,17 +1,18 @@
 -- What is counted of images (own).
-use Rattle.std.specs.Prelude.{◌≡◌, ◌+◌}
+use Rattle.std.specs.Prelude.{◌≡◌, ℕ, ◌+◌, List, Option, Some, None}
 use Rattle.sqcrash_store.specs.declared.tally.Tally.{Tally}
 use Rattle.sqcrash_store.specs.declared.verdict.Verdict.{Verdict}
-use Rattle.sqcrash_store.specs.declared.verdict.Verdict.TheVariants.{Kept, Lost, Mixed, Fault}
+use Rattle.sqcrash_store.specs.declared.verdict.Verdict.TheVariants.{Kept, Lost, Allowed, Mixed, Fault}
 
 abbrev pub no_tally : Tally
-no_tally = record { points = 0; images = 0; wrong = 0; lost = 0; mixed = 0; faults = 0 }
+no_tally = record { points = 0; images = 0; wrong = 0; lost = 0; mixed = 0; faults = 0; unwritten = 0 }
 
 -- nothing is wrong
 pub record IsClean (t : Tally) : Type 0 where
   pub lost : t.lost ≡ 0
   pub mixed : t.mixed ≡ 0
   pub faults : t.faults ≡ 0
+  pub written : t.unwritten ≡ 0
 
 abbrev pub with_point : Tally → Tally
 with_point t = record t { points = t.points + 1 }
@@ -20,5 +21,14 @@ with_point t = record t { points = t.points + 1 }
 abbrev pub with_image : Tally → Verdict → Tally
 with_image t (Kept k) = record t { images = t.images + 1 }
 with_image t (Lost k) = record t { images = t.images + 1; wrong = t.wrong + 1; lost = t.lost + 1 }
+with_image t Allowed = record t { images = t.images + 1 }
 with_image t Mixed = record t { images = t.images + 1; wrong = t.wrong + 1; mixed = t.mixed + 1 }
 with_image t Fault = record t { images = t.images + 1; wrong = t.wrong + 1; faults = t.faults + 1 }
+
+-- with one more mark that claims a commit that the files don't show; the same if there is such a claim
+abbrev pub with_unwritten : Tally → Tally
+with_unwritten t = record t { wrong = t.wrong + 1; unwritten = t.unwritten + 1 }
+
+abbrev pub with_claim : Tally → (found : Option (List ℕ)) → Tally
+with_claim t None = t
+with_claim t (Some shown) = with_unwritten t

@@ -50,7 +50,7 @@ with_draws a = with_rule (with_rule a (option (codes "images") (Unsigned 1 18446
 
 abbrev pub with_points : (promises : ValueParser) → App → App
 with_points promises a =
-    with_rule (with_rule a (flag (codes "every"))) (option (codes "promise") promises)
+    with_rule (with_rule (with_rule a (flag (codes "every"))) (option (codes "promise") promises)) (text (codes "allow"))
 
 abbrev pub with_chosen : App → App
 with_chosen a = with_rule (with_rule (with_rule a (text (codes "part"))) (number (codes "point"))) (number (codes "image"))
@@ -139,6 +139,7 @@ pub record IsRequest (rows : List Row) (request : Request) : Type 0 where
   pub images : first_of (codes "IMAGES") rows ≡ Some request.images.now
   pub asks : first_of (codes "ASKS") rows ≡ Some request.asks.now
   pub keep : option_map (λ path. path.now) request.keep ≡ first_of (codes "keep") rows
+  pub allow : option_map (λ path. path.now) request.allow ≡ first_of (codes "allow") rows
   pub plan : IsPlan rows request.plan
 
 -- What words ask for of a command line: a request exactly where clap takes them and the part is one; otherwise help, or why they ask

@@ -26,13 +26,15 @@ pub struct Request<'a> {
     /// The path of the trace.
     pub trace: &'a str,
     /// How it is to be judged.
-    pub plan: Plan,
+    pub plan: Plan<'a>,
     /// The folder in which images are made.
     pub images: &'a str,
     /// Where it is written which image is made.
     pub asks: &'a str,
     /// The folder in which images are made that are kept.
     pub keep: Option<&'a str>,
+    /// The file whose lines name further states that are right.
+    pub allow: Option<&'a str>,
 }
 
 /// Why a line asks for nothing.
@@ -220,8 +222,15 @@ fn with_points<'a>(
         "What is known at a mark: all, or nothing; full if left out",
         promises,
     );
+    let allow = text(
+        alloc,
+        "allow",
+        "FILE",
+        "The lines of FILE name further states that are right",
+    );
     let command = with(command, every)?;
-    with(command, promise)
+    let command = with(command, promise)?;
+    with(command, allow)
 }
 
 /// Which points and images are judged.
@@ -393,7 +402,7 @@ fn part_of(text: &str) -> Option<Part>
 }
 
 /// How a trace is to be judged, where this part is.
-fn plan_of(matches: &ArgMatches<'_>, part: Option<Part>) -> Plan
+fn plan_of<'a>(matches: &ArgMatches<'a>, part: Option<Part>) -> Plan<'a>
     requires { GivesPart (first_of (codes "part") (rows_of (found_of matches.now))) part }
     ensures { IsPlan (rows_of (found_of matches.now)) result }
 {
@@ -405,6 +414,7 @@ fn plan_of(matches: &ArgMatches<'_>, part: Option<Part>) -> Plan
         seed: number_or(matches, "seed", 1),
         every: gives(matches, "every", "true"),
         is_promised: !gives(matches, "promise", "none"),
+        allowed: b"",
         why: gives(matches, "why", "true"),
         json: gives(matches, "json", "true"),
         lines: number(matches, "lines"),
@@ -425,6 +435,7 @@ fn matched<'a>(matches: &ArgMatches<'a>, part: Option<Part>) -> Option<Request<'
         images: value(matches, "IMAGES")?,
         asks: value(matches, "ASKS")?,
         keep: value(matches, "keep"),
+        allow: value(matches, "allow"),
     })
 }
 

@@ -13,31 +13,35 @@ use crate::rig::Rig;
 use crate::states::{take_names, take_states};
 use crate::survey::Bench;
 use crate::tally::Tally;
+use crate::verdict::are_alike;
 use rig_store::Trace;
 use std::alloc::Global;
 use std::io::Write;
 
 /// Judges a trace by a command, writes lines for each image with something wrong, and at the end what there was, and
 /// hands over those images that are kept. Answers what there was, which is one point or more. Refused by NoPoints where
-/// there is none, by Trace, Record, Name and TooMany, where the command is asked by FileFailed, NoAnswer and Unwritten,
+/// there is none, by Alike, Trace, Record, Name and TooMany, where the command is asked by FileFailed, NoAnswer and Unwritten,
 /// and by NoMemory.
 pub fn judge_trace<J: Judge, O: Write>(
     alloc: Global,
-    plan: Plan,
+    plan: Plan<'_>,
     bytes: &[u8],
     judge: &mut J,
     out: &mut O,
 ) -> Result<Tally, Refusal>
     ensures judged { IfOk result (λ tally. (lines : List ℕ) × (kept : List Judged)
-        × IsJudgment J.says plan bytes.now tally lines kept
+        × IsJudgment J.says plan.entry bytes.now tally lines kept
         × Appends (O.contents out.old) (O.contents out.new) lines
         × Keeps (J.kept judge.old) (J.kept judge.new) kept) }
     ensures some { IfOk result (λ tally. 0 < tally.points) }
-    ensures refused { IfErr result (TraceRefused plan bytes.now) }
+    ensures refused { IfErr result (TraceRefused plan.entry bytes.now) }
 {
     let trace = Trace::read(alloc, bytes)?;
     let names = take_names(alloc, bytes, &trace.calls)?;
     let states = take_states(alloc, plan, bytes, &trace.calls, &names, judge)?;
+    if are_alike(&states) {
+        return Err(Refusal::Alike);
+    }
     let bench = Bench {
         alloc,
         plan,

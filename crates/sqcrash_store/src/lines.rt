@@ -3,7 +3,7 @@ ghost use Rattle.std.specs.Prelude.{◌++◌, ◌∷◌, [], OnOk, map};
 ghost use Rattle.std.specs.Io.KnownBytes.{Appends};
 ghost use Rattle.std.specs.String.{string_bytes};
 ghost use Rattle.sqcrash_store.specs.Lines.{difference_text, differences_text, found_text, head_text};
-ghost use Rattle.sqcrash_store.specs.Lines.{ranges_text, why_text};
+ghost use Rattle.sqcrash_store.specs.Lines.{ranges_text, unwritten_text, why_text};
 
 use crate::calls::{CallText, name_of};
 use crate::found::Found;
@@ -31,6 +31,7 @@ impl fmt::Display for VerdictText<'_> {
         match self.verdict {
             Verdict::Kept(shown) => write!(f, "kept (state {shown} shown, {known} known)"),
             Verdict::Lost(shown) => write!(f, "lost (state {shown} shown, {known} known)"),
+            Verdict::Allowed => write!(f, "allowed: {line}"),
             Verdict::Mixed => write!(f, "mixed: {line}"),
             Verdict::Fault => write!(f, "fault: {line}"),
         }
@@ -145,6 +146,14 @@ fn write_why<O: Write>(out: &mut O, names: &[String], found: &Found) -> io::Resu
     writeln!(out, "  stopped behind record {number}: {call}")?;
     write_differences(out, names, &found.differences)?;
     Ok(())
+}
+
+/// Writes the line of a mark that claims a commit that the files don't show, which show a state of this name.
+pub fn write_unwritten<O: Write>(out: &mut O, point: u64, mark: u64, shown: &str) -> io::Result<()>
+    ensures { OnOk result (Appends (O.contents out.old) (O.contents out.new)
+        (unwritten_text point mark shown.now ++ 10 ∷ [])) }
+{
+    writeln!(out, "point {point}: unwritten (mark {mark}): {shown}")
 }
 
 /// Writes the lines of an image, and where that is asked for, why it is so.

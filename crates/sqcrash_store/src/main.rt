@@ -7,6 +7,7 @@ ghost use Rattle.sqcrash_store.specs.Ends.{Ends};
 mod asked;
 mod asking;
 mod calls;
+mod claim;
 mod commands;
 mod crash;
 mod found;

@@ -5,7 +5,7 @@ ghost use Rattle.std.specs.List.{flat_map};
 ghost use Rattle.std.specs.String.{string_bytes};
 ghost use Rattle.sqcrash_store.specs.Objects.{comma, difference_object, escaped, found_object, head_object};
 ghost use Rattle.sqcrash_store.specs.Objects.{hex_digit, members, range_object, stopped_object, string};
-ghost use Rattle.sqcrash_store.specs.Objects.{verdict_object, why_object};
+ghost use Rattle.sqcrash_store.specs.Objects.{unwritten_object, verdict_object, why_object};
 ghost use Rattle.sqcrash_store.specs.Calls.{call_text_by};
 
 use crate::calls::{CallText, name_of};
@@ -161,6 +161,10 @@ fn write_verdict<O: Write>(out: &mut O, verdict: Verdict, known: u64, line: &str
     match verdict {
         Verdict::Kept(shown) => write!(out, "\"kept\"{}", StatesObject { shown, known }),
         Verdict::Lost(shown) => write!(out, "\"lost\"{}", StatesObject { shown, known }),
+        Verdict::Allowed => {
+            out.write_all(b"\"allowed\",\"line\":")?;
+            write_string(out, line)
+        }
         Verdict::Mixed => {
             out.write_all(b"\"mixed\",\"line\":")?;
             write_string(out, line)
@@ -313,6 +317,37 @@ fn write_why_if<O: Write>(
         return Ok(());
     }
     write_why(out, alloc, names, found)
+}
+
+/// The members of the object of a mark that claims a commit in front of what the files show.
+#[derive(Clone, Copy)]
+struct MarkObject {
+    point: u64,
+    mark: u64,
+}
+
+impl fmt::Display for MarkObject {
+    ghost use Rattle.std.specs.Prelude.{Some};
+    ghost use Rattle.sqcrash_store.specs.Objects.{mark_object};
+
+    ghost output = { λ x. Some (mark_object x.point x.mark) };
+
+    fn fmt<W: fmt::Write>(&self, f: &mut fmt::Formatter<W>) -> fmt::Result {
+        let (point, mark) = (self.point, self.mark);
+        write!(
+            f,
+            "{{\"point\":{point},\"mark\":{mark},\"verdict\":\"unwritten\",\"line\":"
+        )
+    }
+}
+
+/// Writes the object of such a mark, at which the files show a state of this name.
+pub fn write_unwritten<O: Write>(out: &mut O, point: u64, mark: u64, shown: &str) -> io::Result<()>
+    ensures { OnOk result (Appends (O.contents out.old) (O.contents out.new) (unwritten_object point mark shown.now)) }
+{
+    write!(out, "{}", MarkObject { point, mark })?;
+    write_string(out, shown)?;
+    out.write_all(b"}\n")
 }
 
 /// Writes the object of an image, and where that is asked for, why it is so.

@@ -16,7 +16,7 @@ pub struct Part {
 
 /// How a trace is to be judged.
 #[derive(Clone, Copy, Debug, PartialEq, Eq)]
-pub struct Plan {
+pub struct Plan<'a> {
     /// The size of a disk's sectors in bytes, a power of two from 512 to 65536.
     pub sector: usize,
     /// Whether a sector that is being written may hold anything after a crash.
@@ -31,6 +31,8 @@ pub struct Plan {
     pub every: bool,
     /// Whether what the files show at a mark is promised to stay.
     pub is_promised: bool,
+    /// The lines of this text name further states that are right.
+    pub allowed: &'a [u8],
     /// Whether it is told why something is wrong: where the crash came, and what isn't down.
     pub why: bool,
     /// Whether lines are objects of JSON.
@@ -44,4 +46,30 @@ pub struct Plan {
     /// The image of a point that is judged alone, counted from 0; all where there is none.
     pub image: Option<u64>,
     ghost is_size: { IsTrue (is_sector_size sector) },
+}
+
+impl Plan<'_> {
+    ghost use Rattle.std.specs.Prelude.{◌≡◌};
+
+    /// The same, where the lines of this text name further states that are right.
+    pub fn with_allowed<'b>(&self, allowed: &'b [u8]) -> Plan<'b>
+        ensures { result ≡ record self.now { allowed = allowed.entry } }
+    {
+        Plan {
+            sector: self.sector,
+            tears: self.tears,
+            meta: self.meta,
+            images: self.images,
+            seed: self.seed,
+            every: self.every,
+            is_promised: self.is_promised,
+            allowed,
+            why: self.why,
+            json: self.json,
+            lines: self.lines,
+            part: self.part,
+            point: self.point,
+            image: self.image,
+        }
+    }
 }

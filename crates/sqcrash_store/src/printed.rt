@@ -1,10 +1,11 @@
 //! What is printed of images, as lines of text or of JSON (own).
-ghost use Rattle.std.specs.Prelude.{◌≡◌, ◌&&◌, ◌++◌, ◌∷◌, [], OnOk, cond, map};
+ghost use Rattle.std.specs.Prelude.{◌≡◌, ◌&&◌, ◌++◌, ◌∷◌, [], Some, OnOk, cond, map};
 ghost use Rattle.std.specs.Io.KnownBytes.{Appends};
 ghost use Rattle.std.specs.String.{string_bytes};
 ghost use Rattle.sqcrash_store.specs.Lines.{tally_text};
 ghost use Rattle.sqcrash_store.specs.Objects.{tally_object};
-ghost use Rattle.sqcrash_store.specs.Printed.{found_lines, is_within, last_lines, left_lines, left_out, lines_of};
+ghost use Rattle.sqcrash_store.specs.Printed.{claim_line, claim_lines, found_lines, is_within, last_lines};
+ghost use Rattle.sqcrash_store.specs.Printed.{left_lines, left_out, lines_of};
 ghost use Rattle.sqcrash_store.specs.Verdicts.{is_wrong};
 
 use crate::found::Found;
@@ -20,12 +21,12 @@ use std::io::{self, Write};
 pub fn write_lines<O: Write>(
     out: &mut O,
     alloc: Global,
-    plan: Plan,
+    plan: Plan<'_>,
     names: &[String],
     found: &Found,
 ) -> io::Result<()>
     ensures { OnOk result (Appends (O.contents out.old) (O.contents out.new)
-        (found_lines plan (map (λ n. string_bytes n) names.now) found.now)) }
+        (found_lines plan.entry (map (λ n. string_bytes n) names.now) found.now)) }
 {
     if plan.json {
         return objects::write_found(out, alloc, plan.why, names, found);
@@ -44,8 +45,8 @@ fn is_within(lines: Option<u64>, told: u64) -> bool
 }
 
 /// Whether an image has lines, behind so many.
-fn has_lines(plan: Plan, told: u64, verdict: Verdict) -> bool
-    ensures { result ≡ (is_wrong verdict && is_within plan.lines told) }
+fn has_lines(plan: Plan<'_>, told: u64, verdict: Verdict) -> bool
+    ensures { result ≡ (is_wrong verdict && is_within plan.entry.lines told) }
 {
     is_wrong(verdict) && is_within(plan.lines, told)
 }
@@ -54,13 +55,13 @@ fn has_lines(plan: Plan, told: u64, verdict: Verdict) -> bool
 pub fn write_wrong<O: Write>(
     out: &mut O,
     alloc: Global,
-    plan: Plan,
+    plan: Plan<'_>,
     names: &[String],
     told: u64,
     found: &Found,
 ) -> io::Result<()>
     ensures { OnOk result (Appends (O.contents out.old) (O.contents out.new)
-        (lines_of plan (map (λ n. string_bytes n) names.now) told found.now)) }
+        (lines_of plan.entry (map (λ n. string_bytes n) names.now) told found.now)) }
 {
     if !has_lines(plan, told, found.verdict) {
         return Ok(());
@@ -68,7 +69,41 @@ pub fn write_wrong<O: Write>(
     write_lines(out, alloc, plan, names, found)
 }
 
-/// How many images with something wrong have no lines.
+/// Writes the line of a mark that claims a commit that the files don't show, which show a state of this name.
+fn write_claim_line<O: Write>(
+    out: &mut O,
+    plan: Plan<'_>,
+    point: u64,
+    mark: u64,
+    shown: &str,
+) -> io::Result<()>
+    ensures { OnOk result (Appends (O.contents out.old) (O.contents out.new)
+        (claim_line plan.entry point mark shown.now)) }
+{
+    if plan.json {
+        return objects::write_unwritten(out, point, mark, shown);
+    }
+    lines::write_unwritten(out, point, mark, shown)
+}
+
+/// Writes it as long as one more may have lines.
+pub fn write_claim<O: Write>(
+    out: &mut O,
+    plan: Plan<'_>,
+    before: Tally,
+    mark: u64,
+    shown: &str,
+) -> io::Result<()>
+    ensures { OnOk result (Appends (O.contents out.old) (O.contents out.new)
+        (claim_lines plan.entry before mark (Some shown.now))) }
+{
+    if !is_within(plan.lines, before.wrong) {
+        return Ok(());
+    }
+    write_claim_line(out, plan, before.points, mark, shown)
+}
+
+/// How many images and marks with something wrong have no lines.
 fn left_out(lines: Option<u64>, wrong: u64) -> u64
     ensures { result ≡ left_out lines wrong }
 {
@@ -125,11 +160,12 @@ impl fmt::Display for TallyObject {
             lost,
             mixed,
             faults,
+            unwritten,
             ..
         } = self.0;
         write!(
             f,
-            "{{\"points\":{points},\"images\":{images},\"lost\":{lost},\"mixed\":{mixed},\"faults\":{faults}}}"
+            "{{\"points\":{points},\"images\":{images},\"lost\":{lost},\"mixed\":{mixed},\"faults\":{faults},\"unwritten\":{unwritten}}}"
         )
     }
 }
@@ -159,8 +195,8 @@ fn write_tally<O: Write>(out: &mut O, json: bool, tally: Tally) -> io::Result<()
 }
 
 /// Writes the lines at the end.
-pub fn write_last<O: Write>(out: &mut O, plan: Plan, tally: Tally) -> io::Result<()>
-    ensures { OnOk result (Appends (O.contents out.old) (O.contents out.new) (last_lines plan tally)) }
+pub fn write_last<O: Write>(out: &mut O, plan: Plan<'_>, tally: Tally) -> io::Result<()>
+    ensures { OnOk result (Appends (O.contents out.old) (O.contents out.new) (last_lines plan.entry tally)) }
 {
     write_left(out, plan.json, left_out(plan.lines, tally.wrong))?;
     write_tally(out, plan.json, tally)

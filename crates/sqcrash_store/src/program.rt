@@ -1,14 +1,15 @@
 //! The program over a runtime's files, a reader of answers and two writers.
-ghost use Rattle.std.specs.Prelude.{◌≡◌, ◌⊎◌, ◌≤◌, map};
+ghost use Rattle.std.specs.Prelude.{◌≡◌, ◌⊎◌, ◌≤◌, MatchResult, map};
 ghost use Rattle.std.specs.IoError.{error_kind};
 ghost use Rattle.std.specs.declared.io.ErrorKind.TheVariants.{OutOfMemory};
-ghost use Rattle.sqcrash_store.specs.Ends.{Comes, Ends, IsStatusOf};
+ghost use Rattle.sqcrash_store.specs.Ends.{AllowsBy, Comes, ComesOf, Ends, IsStatusOf};
 ghost use Rattle.sqcrash_store.specs.Refused.{IsOfFiles};
 
 use crate::asking::Asking;
 use crate::commands::{LineError, Request, request_of};
 use crate::judging::judge_trace;
 use crate::outcome::Refusal;
+use crate::plan::Plan;
 use crate::tally::Tally;
 use std::fmt::Display;
 use std::fs;
@@ -66,14 +67,25 @@ fn failed(error: io::Error) -> Refusal
     }
 }
 
-/// Judges the trace that is asked for.
-fn carried_out<R: Files + AllocGlobal, I: BufRead, O: Write>(
+/// The text whose lines name further states that are right: that of this file, or none.
+fn allowed_by<R: Files + AllocGlobal>(rt: &R, path: Option<&str>) -> Result<Vec<u8>, Refusal>
+    ensures { MatchResult result (λ text. AllowsBy path text.items) IsOfFiles }
+{
+    match path {
+        Some(path) => fs::read(rt, path).map_err(failed),
+        None => Ok(Vec::new(rt.alloc())),
+    }
+}
+
+/// Judges the trace that is asked for by a plan.
+fn judged<R: Files + AllocGlobal, I: BufRead, O: Write>(
     rt: &R,
     request: &Request<'_>,
+    plan: Plan<'_>,
     answers: &mut I,
     out: &mut O,
 ) -> Result<Tally, Refusal>
-    ensures { Comes request.now.plan (O.contents out.old) (O.contents out.new) result }
+    ensures { Comes plan.entry (O.contents out.old) (O.contents out.new) result }
 {
     let bytes = fs::read(rt, request.trace).map_err(failed)?;
     let asks = OpenOptions::new()
@@ -89,9 +101,26 @@ fn carried_out<R: Files + AllocGlobal, I: BufRead, O: Write>(
         keep: request.keep,
         kept: 0,
     };
-    let tally = judge_trace(rt.alloc(), request.plan, &bytes, &mut judge, out)?;
+    let tally = judge_trace(rt.alloc(), plan, &bytes, &mut judge, out)?;
     out.flush()?;
     Ok(tally)
+}
+
+/// Judges the trace that is asked for.
+fn carried_out<R: Files + AllocGlobal, I: BufRead, O: Write>(
+    rt: &R,
+    request: &Request<'_>,
+    answers: &mut I,
+    out: &mut O,
+) -> Result<Tally, Refusal>
+    ensures { ComesOf request.now (O.contents out.old) (O.contents out.new) result }
+{
+    let allowed = match allowed_by(rt, request.allow) {
+        Ok(text) => text,
+        Err(refusal) => return Err(refusal),
+    };
+    let plan = request.plan.with_allowed(allowed.as_slice());
+    judged(rt, request, plan, answers, out)
 }
 
 /// The status where the words can't be read: 3 for want of memory, 2 where they aren't text.

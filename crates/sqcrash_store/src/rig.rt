@@ -4,6 +4,7 @@ ghost use Rattle.sqcrash_store.specs.Points.{is_point, is_judged, IsKnown};
 
 use crate::asked::{is_asked, is_of_part};
 use crate::asking::Judge;
+use crate::claim::judge_claim;
 use crate::crash::Crash;
 use crate::outcome::{Refusal, more};
 use crate::plan::Plan;
@@ -39,8 +40,8 @@ fn is_point(every: bool, call: &Call) -> bool
 
 /// The number of the last state that is known to be durable behind a mark with this line, where that is state number
 /// `mark`.
-fn known_by(plan: Plan, line: &[u8], mark: u64, known: u64) -> u64
-    ensures { IsKnown plan line.now mark known result }
+fn known_by(plan: Plan<'_>, line: &[u8], mark: u64, known: u64) -> u64
+    ensures { IsKnown plan.entry line.now mark known result }
 {
     if plan.is_promised && line != b"mode".as_slice() {
         mark
@@ -50,8 +51,8 @@ fn known_by(plan: Plan, line: &[u8], mark: u64, known: u64) -> u64
 }
 
 /// Whether the images of a point are judged.
-fn is_judged(plan: Plan, point: u64) -> bool
-    ensures { result ≡ is_judged plan point }
+fn is_judged(plan: Plan<'_>, point: u64) -> bool
+    ensures { result ≡ is_judged plan.entry point }
 {
     is_asked(plan.point, point) && is_of_part(plan.part, point)
 }
@@ -103,8 +104,8 @@ impl Rig {
         }
     }
 
-    /// Counts the next point, behind a record that was played last, and where that is asked for judges what a crash may
-    /// leave there.
+    /// Counts the next point, behind a record that was played last, and where that is asked for judges what its mark
+    /// claims, and what a crash may leave there.
     fn judge<J: Judge, O: Write>(
         &mut self,
         bench: &Bench<'_>,
@@ -134,7 +135,8 @@ impl Rig {
                 call: *call,
             },
         };
-        self.tally = survey(judge, bench, &point, tally, out)?;
+        let claimed = judge_claim(bench, call, self.marks, tally, out)?;
+        self.tally = survey(judge, bench, &point, claimed, out)?;
         Ok(())
     }
 

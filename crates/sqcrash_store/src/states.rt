@@ -116,16 +116,16 @@ fn is_mark(call: &Call) -> bool
 /// to ask it.
 pub fn take_states<J: Judge>(
     alloc: Global,
-    plan: Plan,
+    plan: Plan<'_>,
     trace: &[u8],
     calls: &[Call],
     names: &[String],
     judge: &mut J,
 ) -> Result<Vec<Answer>, Refusal>
-    ensures says { IfOk result (λ states. AreStates J.says plan trace.now calls.now states.items) }
+    ensures says { IfOk result (λ states. AreStates J.says plan.entry trace.now calls.now states.items) }
     ensures kept { OnOk result (Keeps (J.kept judge.old) (J.kept judge.new) []) }
     ensures refused { IfErr result
-        (StatesRefused plan trace.now calls.now (map (λ name. string_bytes name) names.now)) }
+        (StatesRefused plan.entry trace.now calls.now (map (λ name. string_bytes name) names.now)) }
 {
     let mut store = Store::new(alloc, plan.sector, plan.tears, plan.meta);
     let mut states = Vec::new(alloc);

@@ -39,7 +39,7 @@ use std::io::Write;
 pub struct Bench<'a> {
     pub alloc: Global,
     /// How it is to be judged.
-    pub plan: Plan,
+    pub plan: Plan<'a>,
     /// The trace of the run.
     pub trace: &'a [u8],
     /// The texts of the names.
@@ -88,14 +88,14 @@ fn found_of<J: Judge>(
     point: &Point<'_>,
     drawn: Drawn<'_>,
 ) -> Result<Found, Refusal>
-    ensures judged { IfOk result (λ found. IsJudged J.says bench.now.states.now (store_of point.now.store.now)
+    ensures judged { IfOk result (λ found. IsJudged J.says (judging_of bench.now) (store_of point.now.store.now)
         point.now.crash (record { image = image_of drawn.entry.image.now; found = found })) }
     ensures number { IfOk result (λ found. found.number ≡ drawn.entry.number) }
     ensures kept { OnOk result (Keeps (J.kept judge.old) (J.kept judge.new) []) }
     ensures refused { IfErr result (JudgeRefused (judging_of bench.now).names) }
 {
     let answer = judge.judge(drawn.image, bench.names)?;
-    let verdict = verdict_of(bench.states, point.crash.known, &answer);
+    let verdict = verdict_of(bench.states, point.crash.known, bench.plan.allowed, &answer);
     let differences = differences(bench.alloc, point.store, drawn.image)?;
     Ok(Found {
         crash: point.crash,
@@ -107,8 +107,8 @@ fn found_of<J: Judge>(
 }
 
 /// Whether an image is kept.
-fn is_kept(plan: Plan, verdict: Verdict) -> bool
-    ensures { result ≡ (is_wrong verdict || is_some plan.image) }
+fn is_kept(plan: Plan<'_>, verdict: Verdict) -> bool
+    ensures { result ≡ (is_wrong verdict || is_some plan.entry.image) }
 {
     is_wrong(verdict) || plan.image.is_some()
 }
@@ -142,7 +142,7 @@ fn judge_one<J: Judge, O: Write>(
 ) -> Result<Tally, Refusal>
     ensures judged { IfOk result (λ tally. (x : Judged) × (x.image ≡ image_of drawn.entry.image.now)
         × (x.found.number ≡ drawn.entry.number)
-        × IsJudged J.says bench.now.states.now (store_of point.now.store.now) point.now.crash x
+        × IsJudged J.says (judging_of bench.now) (store_of point.now.store.now) point.now.crash x
         × (tally ≡ with_image before x.found.verdict)
         × Appends (O.contents out.old) (O.contents out.new) (lines_of bench.now.plan (judging_of bench.now).names
         before.wrong x.found)
@@ -171,9 +171,9 @@ fn third_of(images: u64) -> u64
 }
 
 /// How many images are drawn at a point: where sectors tear, a third more.
-fn drawn_count(plan: Plan) -> Result<u64, Refusal>
-    ensures { MatchResult result (λ n. n ≡ drawn_count plan)
-        (λ refusal. (refusal ≡ TooMany) × (2 ^ 64 ≤ drawn_count plan)) }
+fn drawn_count(plan: Plan<'_>) -> Result<u64, Refusal>
+    ensures { MatchResult result (λ n. n ≡ drawn_count plan.entry)
+        (λ refusal. (refusal ≡ TooMany) × (2 ^ 64 ≤ drawn_count plan.entry)) }
 {
     if !plan.tears {
         return Ok(plan.images);
@@ -203,8 +203,8 @@ fn draw_one<R: Rng>(
 }
 
 /// The draws of a point, which begin with the seed and the point's number, and so are the same whatever else is judged.
-fn draws_of(plan: Plan, point: u64) -> Pcg32
-    ensures { result ≡ started 64 multiplier_64 plan.seed (increment_of 64 point) }
+fn draws_of(plan: Plan<'_>, point: u64) -> Pcg32
+    ensures { result ≡ started 64 multiplier_64 plan.entry.seed (increment_of 64 point) }
 {
     Pcg32::new(plan.seed, point)
 }

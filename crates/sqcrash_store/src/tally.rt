@@ -3,12 +3,12 @@ use crate::outcome::{Refusal, more};
 use crate::verdict::Verdict;
 use std::fmt;
 
-/// How many points and images there were, and of these how many with something wrong.
+/// How many points, images and marks with something wrong there were, and how many points and images in all.
 #[derive(Clone, Copy, Debug, PartialEq, Eq)]
 pub struct Tally {
     pub points: u64,
     pub images: u64,
-    /// Those with something wrong.
+    /// Images and marks with something wrong.
     pub wrong: u64,
     /// A state that was known to be durable is gone.
     pub lost: u64,
@@ -16,12 +16,14 @@ pub struct Tally {
     pub mixed: u64,
     /// Files that aren't sound.
     pub faults: u64,
+    /// Marks that claim a commit that the files don't show.
+    pub unwritten: u64,
 }
 
 impl Tally {
     ghost use Rattle.std.specs.Prelude.{◌≡◌, ◌↔◌, IsTrue, MatchResult};
     ghost use Rattle.sqcrash_store.specs.Refused.{HasRoom, IsTooMany};
-    ghost use Rattle.sqcrash_store.specs.Tallies.{no_tally, with_point, with_image, IsClean};
+    ghost use Rattle.sqcrash_store.specs.Tallies.{no_tally, with_point, with_image, with_unwritten, IsClean};
     ghost use Rattle.sqcrash_store.specs.declared.outcome.Refusal.TheVariants.{TooMany};
 
     /// None.
@@ -35,6 +37,7 @@ impl Tally {
             lost: 0,
             mixed: 0,
             faults: 0,
+            unwritten: 0,
         }
     }
 
@@ -42,7 +45,7 @@ impl Tally {
     pub fn is_clean(&self) -> bool
         ensures { IsTrue result ↔ IsClean self.now }
     {
-        self.lost == 0 && self.mixed == 0 && self.faults == 0
+        self.lost == 0 && self.mixed == 0 && self.faults == 0 && self.unwritten == 0
     }
 
     /// With one more point. TooMany where there is no next number.
@@ -60,11 +63,21 @@ impl Tally {
     {
         self.images = more(self.images)?;
         match verdict {
-            Verdict::Kept(_) => return Ok(self),
+            Verdict::Kept(_) | Verdict::Allowed => return Ok(self),
             Verdict::Lost(_) => self.lost = more(self.lost)?,
             Verdict::Mixed => self.mixed = more(self.mixed)?,
             Verdict::Fault => self.faults = more(self.faults)?,
         }
+        self.wrong = more(self.wrong)?;
+        Ok(self)
+    }
+
+    /// With one more mark that claims a commit that the files don't show. TooMany where a count has no next number.
+    pub fn with_unwritten(mut self) -> Result<Tally, Refusal>
+        ensures { MatchResult result (λ t. t ≡ with_unwritten self)
+            (λ refusal. (refusal ≡ TooMany) × ¬ HasRoom 1 self) }
+    {
+        self.unwritten = more(self.unwritten)?;
         self.wrong = more(self.wrong)?;
         Ok(self)
     }
@@ -79,8 +92,8 @@ impl fmt::Display for Tally {
     fn fmt<W: fmt::Write>(&self, f: &mut fmt::Formatter<W>) -> fmt::Result {
         write!(
             f,
-            "{} points, {} images, {} lost, {} mixed, {} faults",
-            self.points, self.images, self.lost, self.mixed, self.faults
+            "{} points, {} images, {} lost, {} mixed, {} faults, {} unwritten",
+            self.points, self.images, self.lost, self.mixed, self.faults, self.unwritten
         )
     }
 }

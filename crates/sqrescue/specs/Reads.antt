@@ -1,5 +1,5 @@
 -- What a reading of a database file comes to (own).
-use Rattle.std.specs.Prelude.{◌≡◌, ◌⊎◌, ℕ, Bool, true, false, ◌||◌, List, Option, Result, IsErrAnd}
+use Rattle.std.specs.Prelude.{◌≡◌, ◌⊎◌, ℕ, Bool, true, false, ◌||◌, List, Option, is_some, Result, IsErrAnd}
 use Rattle.cli_words.specs.Commits.{commit_named}
 use Rattle.cli_words.specs.declared.requests.Options.{Options}
 use Rattle.cli_words.specs.declared.requests.Part.TheVariants as parts
@@ -35,7 +35,7 @@ asked_named options deep = record { limits = limits_named options.large; at = co
 abbrev pub command_of : Look → Options → Command
 command_of (looks.Part parts.Pages) options = Pages (asked_named options false)
 command_of (looks.Part part) options = Show part
-command_of (looks.Damage deep) options = Check (asked_named options deep) deep
+command_of (looks.Damage deep) options = Check (asked_named options (is_some deep)) deep
 command_of (looks.Rows wanted) options = Rows wanted
 command_of (looks.Places table) options = Places table
 command_of (looks.Deleted all) options = Deleted all

@@ -7,15 +7,15 @@ ghost use Rattle.sqrescue.specs.Reads.{IsRead, ReadsTo};
 ghost use Rattle.sqrescue.specs.Runs.{AsksHelp, ComesBy, ComesUnder, Ends, EndsUnasked, MayAskHelp};
 
 use crate::answers::answered;
-use crate::hints::{next_step, step_after_damage, step_after_rows};
+use crate::hints::{next_step, step_after_damage, step_after_untold};
 use crate::readings::{Read, Reading, Task, task_of};
 use cli_args::{LineError, request};
 use cli_facts::{NoteWriter, Notes, Refusal, Status, SystemFile};
-use cli_files::Progress;
+use cli_files::{Count, Progress, tell_lock};
 use cli_held::Locks;
 use cli_job::{Answer, Begun, Job, Source, Until, Watch, alone, source_of};
 use cli_recover::{recover, recover_to};
-use cli_report::{VERSION, print_diff, report_to, salvage_to};
+use cli_report::{VERSION, print_diff, report_to, salvage_to, tell_overwritten};
 use cli_show::ShowError;
 use cli_words::{Options, Request, Style};
 use std::fmt::Display;
@@ -146,7 +146,7 @@ where
             let step = next_step(refusal, notes.cause(), is_large);
             notes.explain(&step);
         }
-        Ok(Answer::Refused(why)) => notes.explain(&step_after_rows(why)),
+        Ok(Answer::Refused(why)) => notes.explain(&step_after_untold(why)),
         Ok(Answer::Damaged) => {
             if let Some(step) = after_damage {
                 notes.explain(&step);
@@ -187,7 +187,28 @@ fn tell_locks<E: Write>(locks: Locks, notes: &Notes<'_, E>) {
     }
 }
 
-/// What a reading of these files comes to.
+/// What a reading of the files of a job comes to.
+fn read_by<R: Files + AllocGlobal + Clock, M: Count, O: Write, E: Write>(
+    job: &Job<'_, R, M>,
+    reading: Reading<'_>,
+    out: &mut O,
+    notes: &mut Notes<'_, E>,
+) -> Result<Answer, ShowError>
+where
+    R::File: SystemFile,
+    ensures { ReadsTo (opened_bytes R.File.bytes)
+        (GivesBytes R.File.bytes R.File.keeps_word R.File.never_fails) reading.entry job.entry.now.source.now result }
+{
+    match reading {
+        Reading::Look(look) => answered(job, &look.command(job.source.options), out, notes),
+        Reading::Diff(difference) => print_diff(job, difference, out, notes),
+        Reading::Copy(to) => recover_to(job, to, out, notes),
+        Reading::Report { to, changes } => report_to(job, (to, changes), out, notes),
+        Reading::Salvage { to, places } => salvage_to(job, (to, places), out, notes),
+    }
+}
+
+/// What a reading of these files comes to. If it isn't known which database was there at a commit, a note says why.
 fn read_from<R: Files + AllocGlobal + Clock, O: Write, E: Write>(
     rt: &R,
     reading: Reading<'_>,
@@ -206,13 +227,11 @@ where
         source,
         meter: &meter,
     };
-    match reading {
-        Reading::Look(look) => answered(&job, &look.command(source.options), out, notes),
-        Reading::Diff(difference) => print_diff(&job, difference, out, notes),
-        Reading::Copy(to) => recover_to(&job, to, out, notes),
-        Reading::Report { to, changes } => report_to(&job, (to, changes), out, notes),
-        Reading::Salvage { to, places } => salvage_to(&job, (to, places), out, notes),
+    let answer = read_by(&job, reading, out, notes);
+    if matches!(answer, Err(ShowError::Refused(Refusal::CommitOverwritten))) {
+        tell_overwritten(&job, reading.commits(source.options.at), notes);
     }
+    answer
 }
 
 /// What a reading comes to under these locks. Where they keep the database file as it is, but its journal was changed,
@@ -308,8 +327,14 @@ where
         (O.contents out.old) (O.contents out.new) }
 {
     match task {
-        Task::Read(asked) => read_under(rt, &asked, under, out, notes),
-        Task::Recover(file, force, options) => recover(rt, (file, force, options), out, notes),
+        Task::Read(asked) => {
+            tell_lock(rt, asked.file, notes);
+            read_under(rt, &asked, under, out, notes)
+        }
+        Task::Recover(file, force, options) => {
+            tell_lock(rt, file, notes);
+            recover(rt, (file, force, options), out, notes)
+        }
         Task::Version => {
             line(out, &VERSION)?;
             Ok(Answer::Done)

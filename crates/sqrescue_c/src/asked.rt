@@ -1,7 +1,9 @@
 //! What is asked for by flags.
 ghost use Rattle.std.specs.Prelude.{◌≡◌, ◌≤◌, ◌↔◌, IsTrue, IfOk, IfErr};
 ghost use Rattle.sqview.specs.LogView.{pages_of};
-ghost use Rattle.sqrescue_c.specs.Asked.{is_set, is_at, limits_of, maps_of, AreAskedFlags, ShowsAsked, AskedRefused};
+ghost use Rattle.sqrescue_c.specs.Asked.{is_set, is_at, is_complete, limits_of, maps_of, AreAskedFlags, AreDeepFlags};
+ghost use Rattle.sqrescue_c.specs.Asked.{ShowsAsked, AskedRefused};
+ghost use Rattle.sqrescue_c.specs.internal.Missing.{AreMissing};
 
 use crate::view::Files;
 use sqcheck::Options;
@@ -22,6 +24,12 @@ const POINTER_MAPS: u32 = 16;
 /// The flags are the bits below this one, but for two that are another call's.
 const FLAGS_END: u32 = 32;
 
+/// All is to be judged: a flag of deep checks alone.
+const COMPLETE: u32 = 32;
+
+/// The flags of a deep check are the bits below this one, but for those two.
+const DEEP_FLAGS_END: u32 = 64;
+
 /// What is answered where a flag isn't known.
 pub(crate) const UNKNOWN_OPTIONS: u32 = 24;
 
@@ -38,6 +46,20 @@ pub(crate) fn are_known(flags: u32) -> bool
     ensures { IsTrue result ↔ AreAskedFlags flags }
 {
     flags < FLAGS_END && flags % AT == 0
+}
+
+/// Whether there are no flags but those and the one of deep checks.
+pub(crate) fn are_known_deep(flags: u32) -> bool
+    ensures { IsTrue result ↔ AreDeepFlags flags }
+{
+    flags < DEEP_FLAGS_END && flags % AT == 0
+}
+
+/// Whether all is to be judged.
+pub(crate) fn is_complete(flags: u32) -> bool
+    ensures { result ≡ is_complete flags }
+{
+    is_set(flags, COMPLETE)
 }
 
 /// The limits that are asked for.
@@ -69,6 +91,7 @@ pub(crate) fn view_asked<'a>(
 ) -> Result<View<&'a [u8]>, PastError>
     ensures shown { IfOk result (λ view. ShowsAsked flags frame view.page_size
         files.now.db.now files.now.wal.now files.now.journal.now (pages_of (λ file. file.now) view)) }
+    ensures missing { IfOk result (AreMissing flags frame files.now.wal.now files.now.journal.now) }
     ensures refused { IfErr result (AskedRefused flags frame files.now.db.now files.now.wal.now files.now.journal.now) }
 {
     let limits = limits_of(flags);

@@ -51,7 +51,7 @@ fn is_line(line: Option<Vec<u8>>, wanted: &[u8]) -> bool {
 fn viewed(alloc: Global, file: &[u8]) -> Result<DeepVerdict, JudgeError> {
     let none = [].as_slice();
     match View::new(alloc, file, none, none) {
-        Ok(mut view) => judge_deep(alloc, &mut view, Maps::PLAIN),
+        Ok(mut view) => judge_deep(alloc, &mut view, file.len() as u64, Maps::PLAIN),
         Err(_) => Err(JudgeError::Unread),
     }
 }

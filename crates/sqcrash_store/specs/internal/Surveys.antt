@@ -22,5 +22,5 @@ pub record IsSurveyed (Says : List (Option (List ℕ)) → Answer → Type 0) (j
   pub torn : All (IsTornIfAny s) (drop j.plan.images drawn)
   pub next_is : next ≡ length (firsts drawn)
   pub once : map with_number judged ≡ asked_among j.plan.image (numbered 0 (firsts drawn))
-  pub each : All (IsJudged Says j.states s crash) judged
+  pub each : All (IsJudged Says j s crash) judged
   pub keyed : (q : ℕ) → has q ≡ has_key q (firsts drawn)

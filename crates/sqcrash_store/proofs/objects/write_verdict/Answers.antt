@@ -6,16 +6,27 @@ use Rattle.sqcrash_store.specs.declared.verdict.Verdict.{Verdict}
 use Rattle.sqcrash_store.proofs.AppendedBytes.{appends_more}
 use Rattle.sqcrash_store.proofs.objects.write_verdict.Goals as goal
 
-pub returns-in_ok-write_all-in-Mixed : goal.returns-in_ok-write_all-in-Mixed
-returns-in_ok-write_all-in-Mixed g c =
+pub returns-in_ok-write_all-in-Allowed : goal.returns-in_ok-write_all-in-Allowed
+returns-in_ok-write_all-in-Allowed g c =
     let line = c.args.line.now in
     let old = g.O.Write.contents c.args.out.now in
     let begun = g.O.Write.contents c.write_all.new.self in
     let new = g.O.Write.contents c.write_string.new.out in
     on_ok_weaker c.write_string.result
+    (λ last. subst (λ (v : Verdict). Appends old new (verdict_object v c.args.known line)) (sym c.in-Allowed.is)
+    (appends_more old begun new (codes "\"allowed\",\"line\":") (string line) c.in_ok-write_all-in-Allowed.ensures.bytes last))
+    c.write_string.ensures
+
+pub returns-in_ok-write_all-in-Mixed : goal.returns-in_ok-write_all-in-Mixed
+returns-in_ok-write_all-in-Mixed g c =
+    let line = c.args.line.now in
+    let old = g.O.Write.contents c.args.out.now in
+    let begun = g.O.Write.contents c.write_all-in-Mixed.new.self in
+    let new = g.O.Write.contents c.write_string-in-Mixed.new.out in
+    on_ok_weaker c.write_string-in-Mixed.result
     (λ last. subst (λ (v : Verdict). Appends old new (verdict_object v c.args.known line)) (sym c.in-Mixed.is)
     (appends_more old begun new (codes "\"mixed\",\"line\":") (string line) c.in_ok-write_all-in-Mixed.ensures.bytes last))
-    c.write_string.ensures
+    c.write_string-in-Mixed.ensures
 
 pub returns-in_ok-write_all-in-Fault : goal.returns-in_ok-write_all-in-Fault
 returns-in_ok-write_all-in-Fault g c =
