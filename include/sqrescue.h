@@ -47,7 +47,8 @@
    - sqr_check, sqr_check_at, sqr_check_with: `clean`, the database is well formed and has these counts; `damaged`, the
      fault stands at its page; `unjudged`, each refusal stands for its reason; `known`, which flags there are; `kept`.
    - sqr_check_deep: `found`, also its records, its schema and each index but those that are named are sound, or the
-     fault stands where it says; sqr_check_deep_all: the same, and how much isn't judged.
+     fault stands where it says; `in_part`, SQR_NOT_JUDGED only of such a sound database; sqr_check_deep_all: the same,
+     and how much isn't judged.
    - sqr_page_roles: `roles`, the array has the role of each page, and the fault is the one that a check finds;
      `crowded`, SQR_NO_ROOM only for want of room, which is told; `refused`, `known`, `roles_kept`, `out_kept`.
    - sqr_plan: `planned`, which recovery it is, and over which view; `refused`, `recovery`, `room`, `kept`.
@@ -69,10 +70,10 @@
    locks); that it is done, and how a new file gets its name, is C (library/recover.c, library/copy.c).
 
    Each call returns a status. Where it isn't SQR_OK, all that the call could write is as it was, but for what is said
-   of SQR_DAMAGED and SQR_NO_ROOM. A page is one of a database, from 1; a frame one of a write-ahead log, from 1; a
-   place is in bytes, from 0. The front is the last valid frame that ends a commit. A write-ahead log counts where it
-   isn't empty, a rollback journal where it is hot: where it begins with a valid header (fileformat2, 3 and 4.5; which
-   log counts is our own choice). */
+   of SQR_DAMAGED, SQR_NOT_JUDGED and SQR_NO_ROOM. A page is one of a database, from 1; a frame one of a write-ahead
+   log, from 1; a place is in bytes, from 0. The front is the last valid frame that ends a commit. A write-ahead log
+   counts where it isn't empty, a rollback journal where it is hot: where it begins with a valid header (fileformat2, 3
+   and 4.5; which log counts is our own choice). */
 #ifndef SQRESCUE_H
 #define SQRESCUE_H
 #include <stddef.h>
@@ -130,8 +131,9 @@ enum sqr_status
                                process that doesn't ignore it only if the call has no task */
     SQR_SHARED_PROCESS = 29, /* the system gives the call no task, and the process may have FILE open; see 'A process
                                that has FILE open' */
-    SQR_COMMIT_OVERWRITTEN = 30 /* sqr_open_at, sqr_check_at, SQR_AT: a later checkpoint may have changed the database
+    SQR_COMMIT_OVERWRITTEN = 30, /* sqr_open_at, sqr_check_at, SQR_AT: a later checkpoint may have changed the database
                                at the commit; see sqr_open_at */
+    SQR_NOT_JUDGED = 31     /* sqr_check_deep with SQR_COMPLETE: the database is sound, but not all of it was judged */
 };
 
 /* The name that it had up to version 0.1.0; not to be used any more. */
@@ -173,10 +175,11 @@ enum sqr_fault {
     SQR_FAULT_EMPTY_PAGE = 33,
     SQR_FAULT_FREEBLOCK_GAP = 34,
     SQR_FAULT_ROOT_BEHIND = 35,
+    SQR_FAULT_FILE_CUT = 36,   /* looked for before all others */
     SQR_FAULT_SHORT_CELL = 40, /* of a cell, */
     SQR_FAULT_TOO_LONG = 41,
     SQR_FAULT_NOT_RECORD = 42,
-    SQR_FAULT_TEXT_FORM = 43,
+    SQR_FAULT_TEXT_FORM = 43, /* not given any more: such texts are counted (struct sqr_deep_answer) */
     SQR_FAULT_ROW_FORM = 50, /* of a row of the schema, */
     SQR_FAULT_OBJECT_TYPE = 51,
     SQR_FAULT_CREATE_TEXT = 52,
@@ -320,9 +323,11 @@ struct sqr_report {
     uint32_t btree, overflow, free; /* pages of trees, of overflow chains, of the freelist: all pages together */
 };
 
-/* Whether the database that the files show is well formed: SQR_OK, or SQR_DAMAGED with a fault that stands. Files that
-   show no database are damaged, by SQR_FAULT_MAGIC or SQR_FAULT_PAGE_SIZE at page 1. Refused, in this order, by
-   SQR_TWO_LOGS, SQR_TOO_LARGE, SQR_AUTO_VACUUM; SQR_NO_MEMORY in place of any. As `sqrescue check` it judges what the
+/* Whether the database that the files show is well formed: SQR_OK, or SQR_DAMAGED with a fault that stands. It has the
+   pages that SQLite uses: as many as its header counts, if that count is valid and no larger than the log says. The
+   other checks and sqr_page_roles judge the same pages. Files that show no database are damaged, by SQR_FAULT_MAGIC or
+   SQR_FAULT_PAGE_SIZE at page 1. Refused, in this order, by SQR_TWO_LOGS, SQR_TOO_LARGE, SQR_AUTO_VACUUM; SQR_NO_MEMORY
+   in place of any. As `sqrescue check` it judges what the
    files show also where a recovery is refused by SQR_LOG_VERSION, SQR_PAGE_SIZES_DIFFER or SQR_SUPER_JOURNAL, which
    sqr_size says: a log of another version has no front, and a journal counts. Memory: as of sqr_size, and some bytes
    for each page. */
@@ -344,9 +349,11 @@ enum sqr_flag {
     SQR_LARGE = 8,        /* sqr_check_with, sqr_check_deep, sqr_page_roles: a database of up to 2^40 bytes, and a log
                              of up to 2^32 - 2 valid frames, where otherwise 2^30 and 2^21 are too large. Memory is then
                              for as many pages as the log says, even if it has few: 2^28 pages take over 2 GiB */
-    SQR_POINTER_MAPS = 16 /* sqr_check_with, sqr_page_roles: a database of auto-vacuum too, with its pointer maps
+    SQR_POINTER_MAPS = 16, /* sqr_check_with, sqr_page_roles: a database of auto-vacuum too, with its pointer maps
                              (fileformat2, 1.8), which otherwise is refused by SQR_AUTO_VACUUM; sqr_check_deep judges
                              them with it or without */
+    SQR_COMPLETE = 32     /* sqr_check_deep, sqr_check_deep_all: SQR_NOT_JUDGED in place of SQR_OK if anything isn't
+                             judged but the bodies of views and triggers; the report and the rows are as with SQR_OK */
 };
 
 /* The same with what is asked for: SQR_AT, at the commit that `frame` ends, which isn't looked at otherwise; SQR_LARGE;
@@ -374,9 +381,11 @@ struct sqr_deep_report {
 
 /* The same as sqr_check_with, and whether what the pages hold is sound, too, as `sqrescue check --deep`: each payload
    is a record, each row of the schema one of an object, each index has its table's keys and rowids, each row keeps to
-   its table's columns. Pointer maps are judged where there are any. SQR_OK, or SQR_DAMAGED with a fault that stands:
+   its table's columns; and the file has each page whole that the current log doesn't have. Pointer maps are judged
+   where there are any. SQR_OK, or SQR_DAMAGED with a fault that stands:
    one of sqr_check_with, or one from 30 on (docs/OUTPUT.md). With SQR_OK the rows of the schema of the indexes and then
-   of the tables that aren't judged are in unjudged[0], unjudged[1] and so on, as many as there is room for. Refused as
+   of the tables that aren't judged are in unjudged[0], unjudged[1] and so on, as many as there is room for. With
+   SQR_COMPLETE it is SQR_NOT_JUDGED, and the same is written, if anything isn't judged that counts. Refused as
    sqr_check_with is, but never by SQR_AUTO_VACUUM. Memory: as of sqr_check, the schema, and the payloads of the largest
    index with 64 bytes for each of its entries, at most 2^30 bytes, above which it isn't judged. */
 uint32_t sqr_check_deep(const struct sqr_files *files, uint32_t flags, uint32_t frame, uint64_t *unjudged, size_t room,
@@ -384,12 +393,13 @@ uint32_t sqr_check_deep(const struct sqr_files *files, uint32_t flags, uint32_t 
 
 struct sqr_deep_answer {
     struct sqr_deep_report report;
-    uint64_t left;
+    uint64_t left, ill_formed;
 };
 
 /* The same, and in `left` how many things aren't judged, as the program's line counts them: indexes, also partial ones,
    tables, CHECKs, foreign keys, views, triggers and virtual tables. With SQR_OK it is 0 only if all is judged, and
-   sound; with SQR_DAMAGED it is 0; otherwise the answer is as it was. */
+   sound; with SQR_DAMAGED it is 0; with SQR_NOT_JUDGED at least 1. `ill_formed`: how many records of a sound database
+   have a text that isn't valid in the database's encoding, which SQLite stores. Otherwise the answer is as it was. */
 uint32_t sqr_check_deep_all(const struct sqr_files *files, uint32_t flags, uint32_t frame, uint64_t *unjudged,
                             size_t room, struct sqr_deep_answer *answer);
 

@@ -3,6 +3,7 @@
 #define _GNU_SOURCE
 #include "files.h"
 #include "../locks/raw.h"
+#include "../locks/sqlocks.h"
 #include <errno.h>
 #include <limits.h>
 #include <stdlib.h>
@@ -128,19 +129,10 @@ static uint32_t read_all(int fd, uint8_t *out, size_t *len) {
     return SQR_OK;
 }
 
-uint32_t sqr_file_is_hot(int journal, uint64_t len, int *is_hot) {
-    const size_t largest_sector = 65536, known = len < largest_sector ? (size_t)len : largest_sector;
-    uint32_t which = SQR_NO_LOG, status;
-    *is_hot = 0;
-    if (!len) return SQR_OK;
-    uint8_t *front = calloc(1, largest_sector); /* a header is valid if its sector is whole, whatever that has */
-    if (!front) return SQR_NO_MEMORY;
-    const struct sqr_files files = SQR_FILES(NULL, 0, NULL, 0, front, known);
-    size_t has = known < SQR_JOURNAL_HEADER ? known : SQR_JOURNAL_HEADER;
-    status = read_all(journal, front, &has);
-    if (!status) status = sqr_log(&files, &which);
-    free(front);
-    *is_hot = !status && which == SQR_JOURNAL;
+uint32_t sqr_file_is_hot(int journal, uint64_t len, uint8_t *header, int *is_hot) {
+    size_t has = SQR_JOURNAL_HEADER;
+    uint32_t status = read_all(journal, header, &has);
+    *is_hot = !status && sqr_journal_is_hot(header, has, len);
     return status;
 }
 

@@ -61,9 +61,9 @@ uint32_t sqr_file_again(int file, const char *path, int *fd, struct stat *found)
 /* Opens a log beside the FILE that is open: -1 in `fd` where there is none. `how` is O_RDONLY or O_RDWR. */
 uint32_t sqr_file_log(int file, const char *path, const char *end, int how, int *fd, struct stat *found);
 
-/* Whether a rollback journal of this length counts by its header, 28 bytes, as sqr_log has it; no more is read. */
+/* Whether a rollback journal of this length is hot, by its header (sqr_journal_is_hot): 28 bytes; no more is read. */
 #define SQR_JOURNAL_HEADER 28
-uint32_t sqr_file_is_hot(int journal, uint64_t len, int *is_hot);
+uint32_t sqr_file_is_hot(int journal, uint64_t len, uint8_t *header, int *is_hot);
 
 /* The first `len` bytes of a file, mapped or copied. */
 #define SQR_COPIED 4194304 /* bytes: the copy of a longer file takes no memory, but a file without a name */

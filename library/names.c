@@ -36,6 +36,7 @@ const char *sqr_status_name(uint32_t status) {
     case SQR_DISK_FULL: return "disk full";
     case SQR_SHARED_PROCESS: return "shared process";
     case SQR_COMMIT_OVERWRITTEN: return "commit overwritten";
+    case SQR_NOT_JUDGED: return "not judged";
     default: return "?";
     }
 }
@@ -70,6 +71,7 @@ const char *sqr_fault_name(uint32_t fault) {
     case SQR_FAULT_EMPTY_PAGE: return "EmptyPage";
     case SQR_FAULT_FREEBLOCK_GAP: return "FreeblockGap";
     case SQR_FAULT_ROOT_BEHIND: return "RootBehind";
+    case SQR_FAULT_FILE_CUT: return "FileCut";
     case SQR_FAULT_SHORT_CELL: return "ShortCell";
     case SQR_FAULT_TOO_LONG: return "TooLong";
     case SQR_FAULT_NOT_RECORD: return "NotRecord";

@@ -11,7 +11,8 @@
 #include <stdlib.h>
 #include <string.h>
 
-enum how { UNLOCKED, FRONT, SCANNED, SCANNED_ALONE, NO_INDEX }; /* which locks are held */
+enum how { UNLOCKED, FRONT, SCANNED, SCANNED_ALONE, NO_INDEX, NO_JOURNAL }; /* which locks are held; beside no FILE-shm,
+                                                                         whether a journal is current */
 
 uint64_t sqr_index_end(const uint8_t *index, size_t len);
 
@@ -26,12 +27,12 @@ static int is_there(const char *path, const char *end) {
 }
 
 /* Which locks the plan came to: what it would give back first, and for a log that is scanned, whether the last that
-   was asked before is that no connection is live. */
+   was asked before is that no connection is live. Byte 1073742337 of FILE says that no journal is current. */
 static uint32_t how_held(const struct sqr_held *held, enum how *how) {
     struct sqr_lock_step back, before;
     if (sqr_lock_step(held->want, held->answers, held->count, &back)
         || sqr_lock_step(held->want, held->answers, held->count - 2, &before)) return SQR_NO_MEMORY;
-    if (!back.is_of_index) *how = NO_INDEX;
+    if (!back.is_of_index) *how = back.start == 1073742337 ? NO_JOURNAL : NO_INDEX;
     else if (back.start == 123) *how = FRONT;
     else *how = before.kind == SQR_GIVE && before.start == 128 ? SCANNED_ALONE : SCANNED;
     return SQR_OK;
@@ -60,7 +61,7 @@ static uint32_t read_wal(struct sqr_path *of, const char *path, enum how how) {
     if (status) return status;
     size_t len = fd < 0 ? 0 : (size_t)found.st_size;
     if (how == FRONT) status = front_of(of->held.index, fd, &len);
-    if (!status && fd >= 0) status = sqr_file_bytes(fd, len, how == NO_INDEX, &of->wal);
+    if (!status && fd >= 0) status = sqr_file_bytes(fd, len, how >= NO_INDEX, &of->wal);
     if (fd >= 0) close(fd);
     return status;
 }
@@ -70,6 +71,17 @@ static uint32_t read_wal(struct sqr_path *of, const char *path, enum how how) {
 static int is_reserved(const struct sqr_path *of) {
     struct flock at = {.l_type = F_WRLCK, .l_whence = SEEK_SET, .l_start = 1073741825, .l_len = 1};
     return of->is_locked && !fcntl(of->held.file, F_OFD_GETLK, &at) && at.l_type != F_UNLCK;
+}
+
+/* Whether a hot journal with this header is current. Beside no FILE-shm the plan has asked that: it is if the plan says
+   so, and it is as it was looked at. */
+static int is_current(const struct sqr_path *of, const uint8_t *header, const struct stat *found, enum how how) {
+    const struct sqr_journal_seen *seen = &of->held.journal;
+    if (how == NO_JOURNAL) return 0;
+    if (how != NO_INDEX) return !is_reserved(of);
+    if (!seen->inode) return 1; /* it couldn't be read then */
+    return seen->device == found->st_dev && seen->inode == found->st_ino && seen->length == (uint64_t)found->st_size
+        && !memcmp(header, seen->header, sizeof seen->header);
 }
 
 /* A hot journal is copied, since a connection that reads from before its writer died may write and cut it. If a second
@@ -84,16 +96,18 @@ static uint32_t read_hot(struct sqr_path *of, int fd, const struct stat *found) 
     return status;
 }
 
-/* Of a journal that isn't hot the header alone is read: nothing else of it is ever looked at. */
-static uint32_t read_journal(struct sqr_path *of, const char *path) {
+/* The header says whether a journal is hot (sqr_journal_is_hot). Of one that isn't, or that isn't current, nothing else
+   is ever read. */
+static uint32_t read_journal(struct sqr_path *of, const char *path, enum how how) {
     struct stat found;
+    uint8_t header[SQR_JOURNAL_HEADER];
     int fd, is_hot = 0;
     uint32_t status = sqr_file_log(of->held.file, path, "-journal", O_RDONLY, &fd, &found);
     if (status || fd < 0) return status;
     const size_t len = found.st_size < SQR_JOURNAL_HEADER ? (size_t)found.st_size : SQR_JOURNAL_HEADER;
-    status = sqr_file_is_hot(fd, (uint64_t)found.st_size, &is_hot);
+    status = sqr_file_is_hot(fd, (uint64_t)found.st_size, header, &is_hot);
     if (!status && !is_hot) status = sqr_file_bytes(fd, len, 1, &of->journal);
-    else if (!status && !is_reserved(of)) status = read_hot(of, fd, &found);
+    else if (!status && is_current(of, header, &found, how)) status = read_hot(of, fd, &found);
     close(fd);
     return status;
 }
@@ -107,7 +121,7 @@ static uint32_t read_file(struct sqr_path *of, const char *path, enum how how, u
     int fd;
     uint32_t status = sqr_file_again(of->held.file, path, &fd, &found);
     if (status) return status;
-    int may_change = how == NO_INDEX && (is_there(path, "-wal") || pread(fd, &version, 1, 19) != 1 || version == 2);
+    int may_change = how >= NO_INDEX && (is_there(path, "-wal") || pread(fd, &version, 1, 19) != 1 || version == 2);
     const int is_read = found.st_size <= SQR_COPIED || (flags & SQR_AT && of->wal.len);
     status = sqr_file_bytes(fd, (size_t)found.st_size, may_change && is_read, &of->db);
     close(fd);
@@ -170,9 +184,9 @@ uint32_t sqr_path_begin(struct sqr_path *of, const char *path, uint32_t flags, u
     of->is_locked = !(flags & SQR_NO_LOCK);
     if (of->is_locked) status = how_held(&of->held, &how);
     if (!status) status = read_wal(of, path, how);
-    if (!status) status = read_journal(of, path);
+    if (!status) status = read_journal(of, path, how);
     if (!status) status = read_file(of, path, how, flags);
-    if (!status && how == NO_INDEX && is_there(path, "-shm")) status = SQR_IN_USE;
+    if (!status && how >= NO_INDEX && is_there(path, "-shm")) status = SQR_IN_USE;
     if (status) return status;
     of->files = (struct sqr_files)SQR_FILES(of->db.bytes, of->db.len, of->wal.bytes, of->wal.len, of->journal.bytes,
                                             of->journal.len);

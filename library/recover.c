@@ -87,8 +87,9 @@ static uint32_t read_log(struct recovery *of, const char *path, int which) {
         status = sqr_file_log(of->held.file, path, ends[which], O_RDONLY, &log->fd, &log->found);
     if (status || log->fd < 0) return status;
     const size_t len = (size_t)log->found.st_size;
+    uint8_t header[SQR_JOURNAL_HEADER];
     int is_hot = 1;
-    if (which == JOURNAL) status = sqr_file_is_hot(log->fd, len, &is_hot);
+    if (which == JOURNAL) status = sqr_file_is_hot(log->fd, len, header, &is_hot);
     if (status) return status;
     if (is_hot) return map(log->fd, len, len, of->buffer, &log->bytes);
     return sqr_file_bytes(log->fd, len < SQR_JOURNAL_HEADER ? len : SQR_JOURNAL_HEADER, 1, &log->bytes);

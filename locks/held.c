@@ -70,6 +70,14 @@ static uint8_t lock(const struct sqr_held *held, const struct sqr_lock_step *ste
     return errno == EAGAIN || errno == EACCES ? SQR_REFUSED : SQR_UNSUPPORTED;
 }
 
+static uint8_t look_for_folder(const struct attempt *of) {
+    char name[PATH_MAX + 8];
+    struct stat found;
+    int length = snprintf(name, sizeof name, "%s.lock", of->path);
+    if (length < 0 || (size_t)length >= sizeof name || lstat(name, &found)) return SQR_GIVEN;
+    return S_ISDIR(found.st_mode) ? SQR_REFUSED : SQR_GIVEN;
+}
+
 static uint8_t compare(const struct attempt *of) {
     struct stat here, there;
     return fstat(of->held->file, &here) == 0 && stat(of->path, &there) == 0 && here.st_dev == there.st_dev
@@ -90,6 +98,56 @@ static uint8_t look(struct attempt *of) {
     }
     return sqr_index_names(index, sizeof index, header, is_there * sizeof header, frame, is_there * sizeof frame)
         ? SQR_GIVEN : SQR_REFUSED;
+}
+
+static uint8_t ask(const struct sqr_held *held, const struct sqr_lock_step *step) {
+    struct flock at = {.l_type = step->is_exclusive ? F_WRLCK : F_RDLCK, .l_whence = SEEK_SET,
+        .l_start = (off_t)step->start, .l_len = (off_t)step->count};
+    if (fcntl(held->file, F_OFD_GETLK, &at)) return SQR_UNSUPPORTED;
+    return at.l_type == F_UNLCK ? SQR_GIVEN : SQR_REFUSED;
+}
+
+/* The first bytes of a file, and zeros behind its end. Whether they could be read. */
+static int read_front(int fd, uint8_t *out, size_t len) {
+    size_t at = 0;
+    ssize_t more = 1;
+    memset(out, 0, len);
+    while (at < len && more) {
+        more = pread(fd, out + at, len - at, (off_t)at);
+        if (more < 0 && errno != EINTR) return 0;
+        if (more > 0) at += (size_t)more;
+    }
+    return 1;
+}
+
+/* What FILE-journal is now. Whether there is such a file; one that can't be read has no inode. */
+static int journal_is(struct attempt *of, struct sqr_journal_seen *seen) {
+    struct stat found;
+    memset(seen, 0, sizeof *seen);
+    int journal = opened(of->path, "-journal", O_RDONLY);
+    if (journal < 0 && is_for_want_of_room(errno)) of->why = errno;
+    if (journal < 0) return errno != ENOENT;
+    if (fstat(journal, &found) == 0 && read_front(journal, seen->header, sizeof seen->header)) {
+        seen->device = found.st_dev;
+        seen->inode = found.st_ino;
+        seen->length = (uint64_t)found.st_size;
+    }
+    close(journal);
+    return 1;
+}
+
+static uint8_t look_at_journal(struct attempt *of) {
+    struct sqr_journal_seen *seen = &of->held->journal;
+    if (!journal_is(of, seen)) return SQR_REFUSED;
+    if (!seen->inode) return SQR_GIVEN;
+    return sqr_journal_is_hot(seen->header, sizeof seen->header, seen->length) ? SQR_GIVEN : SQR_REFUSED;
+}
+
+static uint8_t compare_journal(struct attempt *of) {
+    struct sqr_journal_seen now;
+    if (!journal_is(of, &now)) return SQR_REFUSED;
+    if (!now.inode || !of->held->journal.inode) return SQR_GIVEN; /* what can't be read didn't change by that */
+    return memcmp(&now, &of->held->journal, sizeof now) ? SQR_REFUSED : SQR_GIVEN;
 }
 
 static uint8_t wait_a_moment(const struct timespec *end) {
@@ -114,6 +172,10 @@ static int carried_out(struct attempt *of, struct sqr_lock_step *step) {
         case SQR_COMPARE: answer = compare(of); break;
         case SQR_LOOK: answer = look(of); break;
         case SQR_WAIT: answer = wait_a_moment(&of->end); break;
+        case SQR_ASK: answer = ask(held, step); break;
+        case SQR_LOOK_AT_JOURNAL: answer = look_at_journal(of); break;
+        case SQR_COMPARE_JOURNAL: answer = compare_journal(of); break;
+        case SQR_LOOK_FOR_FOLDER: answer = look_for_folder(of); break;
         default: break;
     }
     held->answers[held->count++] = answer;

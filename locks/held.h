@@ -32,6 +32,10 @@ struct sqr_held { /* the descriptors, -1 where it isn't open; and how the plan g
     uint32_t want;
     size_t count;
     uint8_t answers[SQR_HOLD_STEPS];
+    struct sqr_journal_seen { /* what was looked at of FILE-journal: no inode if it couldn't be read */
+        uint64_t device, inode, length;
+        uint8_t header[28];
+    } journal;
 };
 
 /* All but SQR_HELD leaves both descriptors -1, and no lock behind. */

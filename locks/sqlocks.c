@@ -92,9 +92,10 @@ static _Noreturn void go(char **words, const struct sqr_held *held) { /* the pro
     start(words, "--held", numbers);
 }
 
-/* Starts itself for each of so many files, one after another. The greatest status. */
-static int each(char **words, unsigned count) {
-    int greatest = 0;
+/* Starts itself for each of so many files, one after another. The greatest status; of a check that is to judge all, 1
+   for damage if there is some. */
+static int each(char **words, unsigned count, int is_complete) {
+    int greatest = 0, is_damaged = 0;
     for (unsigned k = 1; k <= count; k++) {
         char number[16];
         pid_t child;
@@ -106,8 +107,9 @@ static int each(char **words, unsigned count) {
         int status = ended(child);
         if (!WIFEXITED(status)) return 128 + WTERMSIG(status);
         if (WEXITSTATUS(status) > greatest) greatest = WEXITSTATUS(status);
+        if (WEXITSTATUS(status) == 1) is_damaged = 1;
     }
-    return greatest;
+    return is_complete && is_damaged ? 1 : greatest;
 }
 
 int main(int argc, char **words) {
@@ -123,7 +125,7 @@ int main(int argc, char **words) {
     int from = 0;
     if (length < 2 || said[length - 1] != '\n') start(words, NULL, NULL);
     said[length - 1] = 0;
-    if (sscanf(said, "each %u", &count) == 1) return each(words, count);
+    if (sscanf(said, "each %u", &count) == 1) return each(words, count, strstr(said, " complete") != NULL);
     char *line = said; /* of one of several files the name stands before each line, and a colon */
     while (line && (sscanf(line, "%u %u%n", &want, &seconds, &from) != 2 || line[from] != ' '))
         if ((line = strstr(line, ": "))) line += 2;

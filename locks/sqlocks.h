@@ -3,7 +3,11 @@
    sqr_lock_step says what a reader (want 0) or a recovery in place (want 1) does next, behind the answers to the steps
    before it, the first one first; behind a SQR_WAIT that is SQR_GIVEN all begins anew, and the answers may be
    forgotten. It answers 0, or 6 for want of memory. A lock is asked for by F_OFD_SETLK on the file, with the start, the
-   count and the kind of the step, and never waited for. */
+   count and the kind of the step, and never waited for.
+
+   A reader beside no FILE-shm looks at the journal first, then asks once whether RESERVED is locked, and then looks
+   whether the journal is as it was. If it isn't hot, or RESERVED is locked, or the journal changed, none is current.
+   The plan then takes a lock of its own, on byte 1073742337 of FILE, which says so. */
 #ifndef SQLOCKS_H
 #define SQLOCKS_H
 #include <stddef.h>
@@ -17,6 +21,11 @@ enum sqr_lock_kind {
     SQR_COMPARE,     /* whether the path of FILE still leads to the file that is open */
     SQR_LOOK,        /* whether sqr_index_names says 1 */
     SQR_WAIT,        /* for a moment; SQR_REFUSED once the time is over */
+    SQR_ASK,         /* whether somebody else holds these bytes, by F_OFD_GETLK, which takes nothing */
+    SQR_LOOK_AT_JOURNAL, /* whether sqr_journal_is_hot says 1; SQR_GIVEN also if FILE-journal can't be read */
+    SQR_COMPARE_JOURNAL, /* whether FILE-journal has still the header and the length that were looked at; SQR_GIVEN
+                            also if one of the two can't be read */
+    SQR_LOOK_FOR_FOLDER, /* whether no folder FILE.lock is there, by which SQLite's unix-dotfile locks FILE */
     SQR_GO,          /* all locks are held */
     SQR_GO_UNLOCKED, /* FILE can't be opened, or a reader goes on where there are no locks */
     SQR_GIVE_UP,     /* reason 0: in use; 1: there are no locks here; 2: FILE-shm can't be opened for writing */
@@ -42,4 +51,7 @@ uint32_t sqr_lock_step(uint32_t want, const uint8_t *answers, size_t count, stru
 uint64_t sqr_index_place(const uint8_t *index, size_t index_length);
 uint32_t sqr_index_names(const uint8_t *index, size_t index_length, const uint8_t *header, size_t header_length,
                          const uint8_t *frame, size_t frame_length);
+
+/* Whether a rollback journal of this length that begins with these bytes, 28 of a whole header, is hot. */
+uint32_t sqr_journal_is_hot(const uint8_t *front, size_t front_length, uint64_t length);
 #endif

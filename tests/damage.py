@@ -25,7 +25,7 @@ def made(folder, page_size, reserved, encoding, rows, auto_vacuum="none"):
     plain += f"zeroblob(CASE i % 17 WHEN 0 THEN {2 * page_size} WHEN 5 THEN {page_size // 2} ELSE i % 50 END)"
     keyed = f"{mixed} || hex(zeroblob(CASE i % 11 WHEN 0 THEN {page_size // 3} ELSE 5 END)), i"
     sqlite(database, f"""PRAGMA page_size = {page_size}; PRAGMA encoding = '{encoding}';
-PRAGMA auto_vacuum = {auto_vacuum};
+PRAGMA auto_vacuum = {auto_vacuum}; PRAGMA synchronous = off;
 .filectrl reserve_bytes {reserved}
 VACUUM;
 CREATE TABLE plain(id INTEGER PRIMARY KEY, n, r REAL, t TEXT, b BLOB);

@@ -129,6 +129,29 @@ def changes_of(lines):
 # ---- what the program says of a file and its log
 
 
+def reason_of(past, commit):
+    """Why a commit isn't known."""
+    page, why = past.lost_page(commit)
+    if why == "copied":
+        frame = next(i for i, (name, _, content) in enumerate(past.frames, 1)
+                     if name == page and content == past.of_file(page))
+        return f"page {page} of FILE has the bytes of frame {frame}"
+    small = (i for i, (_, end, _) in enumerate(past.frames, 1) if 0 < end <= past.long and (page == 0 or end < page))
+    if why == "cut away":
+        return f"the commit at frame {next(small)} may have cut page {page} away"
+    frame = next(small, None)
+    if frame:
+        return f"the commit at frame {frame} may have cut FILE, whose length counts"
+    return "the last page of FILE may have been added, and its length counts"
+
+
+def note_of(past, commit):
+    """The note that says so, and names the next commit that is known."""
+    later = next(later for later in past.commits if later > commit and past.is_known(later))
+    return (f"sqrescue: note: the database at frame {commit} isn't known: {reason_of(past, commit)}; "
+            f"the first known commit after it is at frame {later}\n")
+
+
 class Files:
     """A file and its log in a folder, and what the twin says of them."""
 
@@ -231,6 +254,20 @@ class Files:
         check(f"{self.name}: commits as objects", (status, [json.loads(line) for line in out.splitlines()[:-1]]),
               (0, objects))
 
+    def reason(self, commit):
+        """The note of a commit that isn't known: why, and the next one that is."""
+        return note_of(self.past, commit)
+
+    def explains(self):
+        """A refusal names the page, how it was changed, and the next commit that is known: with -v, and with --json. A
+        line by itself doesn't."""
+        for commit in [commit for commit in self.commits if not self.known[commit]][:3]:
+            wanted = self.reason(commit).encode()
+            for word in "-v", "--json":
+                status, out, err = run("check", self.path, "--at", commit, word)
+                holds(f"{self.name}: why not {commit}, {word}", status == 3 and err.count(wanted) == 1, (wanted, err))
+            check(f"{self.name}: not why {commit}", run("check", self.path, "--at", commit)[2], REFUSED)
+
     # ---- both sides of a difference
 
     def differs(self, old, new):
@@ -249,13 +286,29 @@ class Files:
                 check(f"{name}: changes", changes_of(out).get(None, []), wanted)
 
     def judge_default(self):
-        """`diff` without words: from the database before the first commit, if that is known."""
+        """`diff` without words: from the first commit that is known, and its first line says which if that isn't 0."""
         status, out, err = run("diff", self.path, "--json")
+        first = next(commit for commit in self.commits if self.known[commit])
+        wanted = changes_between(self.rows_at(first), self.rows_at(self.past.front))
+        check(f"{self.name}: diff", (status, changes_of(out).get(None, []), err), (0, wanted, b""))
+        self.says_where_it_begins(first, out)
+        later = [commit for commit in self.commits if commit >= first]
+        status, out, err = run("diff", self.path, "--commits", "--json")
+        if all(self.known[commit] for commit in later):
+            check(f"{self.name}: each commit", (status, changes_of(out)), (0, self.steps(later)))
         if not self.known[0]:
-            holds(f"{self.name}: diff is refused", is_refused((status, out, err)), (status, out[:300], err))
-            return
-        wanted = changes_between(self.rows_at(0), self.rows_at(self.past.front))
-        check(f"{self.name}: diff", (status, changes_of(out).get(None, [])), (0, wanted))
+            found = run("diff", self.path, "--json", "--from", 0)
+            holds(f"{self.name}: diff from 0 is refused", is_refused(found), found)
+
+    def says_where_it_begins(self, first, objects):
+        """The first line of `diff` does in each form, if it doesn't begin at 0."""
+        words = f"the changes begin at frame {first}: no database before it is known\n"
+        begins = {(): words, ("--sql",): f"-- {words}",
+                  ("--json",): f'{{"from":{first},"left out":"commit overwritten"}}\n'}
+        for form, wanted in begins.items():
+            out = objects if form == ("--json",) else run("diff", self.path, *form)[1]
+            line = out.decode().partition("\n")[0] + "\n"
+            holds(f"{self.name}: where diff begins, {form}", (line == wanted) == (first > 0), line)
 
     def steps(self, commits):
         """What each of these commits changed, by its frame; those that changed nothing aside."""

@@ -57,15 +57,21 @@ def reached(file, frames, sizes, most):
 
 def shown(file, frames, commit):
     """The database at a commit over this file, by letters, which count no pages."""
-    last = {page: content for page, _, content in frames[:commit]}
     count = frames[commit - 1][1] if commit else len(file)
-    return tuple(last.get(page, file[page - 1] if page <= len(file) else "0") for page in range(1, count + 1))
+    return tuple(page_at(file, frames, commit, page) for page in range(1, count + 1))
+
+
+def page_at(file, frames, commit, page):
+    """A page of it, also past its end."""
+    last = {page: content for page, _, content in frames[:commit]}
+    return last.get(page, file[page - 1] if page <= len(file) else "0")
 
 
 @part
 def every_file_before(_):
     """All logs of two frames and files of two pages, of two letters and zeros: a commit is known to the twin exactly if
-    all files that checkpoints make into this one have the same database there."""
+    all files that checkpoints make into this one have the same database there. The page that makes it unknown isn't the
+    same in all of them, nor is the length if that does."""
     most, letters = 2, "0ab"
     files = [file for length in range(most + 2) for file in itertools.product(letters, repeat=length)]
     one = list(itertools.product(range(1, most + 1), letters, range(most + 1)))
@@ -93,8 +99,11 @@ def of_log(frames, before):
         past = Past(b"".join(map(letter, made)), log)
         for commit in [0, *past.commits][:-1]:
             is_one = len({shown(file, frames, commit) for file in files}) == 1
-            if past.is_known(commit) != is_one:
-                wrong.append((frames, made, commit, is_one))
+            page, _ = past.lost_page(commit) or (None, None)
+            is_lost = page and len({page_at(file, frames, commit, page) for file in files}) > 1
+            is_lost = is_lost or page == 0 and len({len(file) for file in files}) > 1
+            if past.is_known(commit) != is_one or bool(is_lost) == is_one:
+                wrong.append((frames, made, commit, is_one, page))
     return wrong
 
 
@@ -153,11 +162,13 @@ class Several:
                 if is_headed(past.last_frames(commit).get(1, past.of_file(1)), past.size)]
 
     def judge(self, *words):
-        """Refused are exactly those that aren't known. How many aren't, and how many are."""
+        """Refused are exactly those that aren't known, and a note says why. How many aren't, and how many are."""
         counts = [0, 0]
         for commit in sorted({commit for path in self.pasts for commit in self.commits(path)}):
             paths = [path for path in self.pasts if commit in self.commits(path)]
-            told = told_of_each(commit, paths, words)
+            told, notes = told_of_each(commit, paths, words)
+            lost = [path for path in paths if not self.pasts[path].is_known(commit)]
+            check(f"why not {commit}", sorted(notes), sorted(f"{it}: {note_of(self.pasts[it], commit)}" for it in lost))
             for path in paths:
                 is_known = self.pasts[path].is_known(commit)
                 counts[is_known] += 1
@@ -174,14 +185,15 @@ class Several:
 
 
 def told_of_each(commit, paths, words):
-    """Why the database of a commit of these files is refused; None if it isn't."""
-    told = {}
+    """Why the database of a commit of these files is refused; None if it isn't. And the notes that say more of it."""
+    told, notes, none = {}, [], os.path.join(os.path.dirname(paths[0]), "none")  # of several, one isn't there
     for first in range(0, len(paths), 100):
-        _, out, _ = run("check", "--json", *words, "--at", commit, *paths[first:first + 100], "/none")
+        _, out, err = run("check", "--json", *words, "--at", commit, *paths[first:first + 100], none)
         for line in out.decode().splitlines():
             found = json.loads(line)
             told[found.get("file")] = found.get("refused")
-    return told
+        notes += [line for line in err.decode().splitlines(True) if "isn't known" in line]
+    return told, notes
 
 
 @part

@@ -8,7 +8,8 @@ from lib import TOP, holds, path_of, recorder
 
 JUDGE, RECORD = os.path.join(TOP, 'rig', 'judge'), recorder('record-files')
 os.environ['SQCRASH_STORE'] = path_of('sqcrash_store')  # which rig/judge runs
-COUNTS = re.compile(r'(\d+) points, (\d+) images, (\d+) lost, (\d+) mixed, (\d+) faults, (\d+) unwritten')
+COUNTS = re.compile(r'(\d+) points, (\d+) images, (\d+) lost, (\d+) mixed, (\d+) faults, '
+                    r'(\d+) unwritten of (\d+) claims')
 
 
 def recorded(folder, name, *words, options=(), program=sys.executable, before=None):
@@ -29,7 +30,7 @@ def run_judge(trace, command, *options):
 
 
 def judged(trace, command, *options):
-    """The status, the lines, and the last line's numbers: points, images, lost, mixed, faults, unwritten."""
+    """The status, the lines, and the last line's numbers: points, images, lost, mixed, faults, unwritten, claims."""
     run = run_judge(trace, command, *options)
     lines = run.stdout.splitlines()
     counts = COUNTS.fullmatch(lines[-1] if lines else '')

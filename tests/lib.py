@@ -23,6 +23,9 @@ BUILT_BY = {"sqrescue-locked": "locks/build", "library": "./build-c"}
 
 WIDEST = 900  # of what is printed of a row that fails
 
+# For databases that a test only makes: nobody waits then for a disk. A rollback journal has other headers with it.
+UNSYNCED = "PRAGMA synchronous = off"
+
 passed = failed = skipped = 0
 holder = tempfile.TemporaryDirectory()
 

@@ -218,7 +218,7 @@ static void print_place(const struct sqr_deep_report *report, FILE *out) {
 }
 
 static void answer_deep(const struct sqr_files *files, FILE *out) {
-    struct sqr_deep_answer answer = {{1, 2, 3, 4, 5, 6, 7, 8, 9, 10, 11, 12, 13}, UINT64_MAX};
+    struct sqr_deep_answer answer = {{1, 2, 3, 4, 5, 6, 7, 8, 9, 10, 11, 12, 13}, UINT64_MAX, UINT64_MAX};
     const struct sqr_deep_report kept = answer.report;
     uint64_t rows[2] = {UINT64_MAX, UINT64_MAX};
     uint32_t status = sqr_check_deep_all(files, 0, 0, rows, 1, &answer);
@@ -227,6 +227,13 @@ static void answer_deep(const struct sqr_files *files, FILE *out) {
     struct sqr_deep_report again = kept;
     check(sqr_check_deep(files, 0, 0, rows, 0, &again) == status, "both deep checks answer the same");
     check(memcmp(&report, &again, sizeof report) == 0, "both deep checks tell the same");
+    struct sqr_deep_answer complete = {kept, UINT64_MAX, UINT64_MAX};
+    const uint32_t of_all = sqr_check_deep_all(files, SQR_COMPLETE, 0, rows + 1, 0, &complete);
+    check(of_all == status || (status == SQR_OK && of_all == SQR_NOT_JUDGED), "what is to judge all answers the same");
+    check(of_all != SQR_NOT_JUDGED || complete.left > 0, "not judged where something isn't");
+    check(of_all != SQR_OK || !(report.indexes | report.tables | report.asides), "all is judged");
+    check(memcmp(&report, &complete.report, sizeof report) == 0 && complete.left == left, "the same report");
+    check(complete.ill_formed == answer.ill_formed, "as many texts that aren't valid");
     check(status != SQR_NO_MEMORY && status != SQR_AUTO_VACUUM, "a deep check without its cause");
     check(rows[1] == UINT64_MAX, "the place behind the rows stays");
     if (status == SQR_OK) {
@@ -242,10 +249,11 @@ static void answer_deep(const struct sqr_files *files, FILE *out) {
         check(!report.pages && !report.trees && !report.btree && !report.overflow && !report.free, "no counts");
         check(!report.indexes && !report.tables && !report.asides, "nothing is left open of a damaged database");
         check(rows[0] == UINT64_MAX && left == 0, "no rows of a damaged database");
+        check(answer.ill_formed == 0, "no texts of a damaged database");
     } else {
         fprintf(out, "sqrescue: %s\n", sqr_status_name(status));
         check(memcmp(&report, &kept, sizeof report) == 0, "a deep check that is refused leaves the report");
-        check(left == UINT64_MAX, "a deep check that is refused leaves the number");
+        check(left == UINT64_MAX && answer.ill_formed == UINT64_MAX, "a deep check that is refused leaves the numbers");
     }
 }
 
@@ -740,14 +748,18 @@ static void run_none(void) {
     check(sqr_journal_scan(sqr_bytes(NULL), 0, &record, 0, &journal) == SQR_OK && !journal.records, "no records");
     check(!journal.page_size && !journal.stop && journal.why == SQR_JOURNAL_END, "no journal");
     check(!strcmp(sqr_status_name(SQR_VERSION), "unknown log version"), "the name of a status");
-    check(!strcmp(sqr_status_name(31), "?") && !strcmp(sqr_fault_name(0), "?"), "the name of no status and no fault");
-    check(!strcmp(sqr_status_name(SQR_COMMIT_OVERWRITTEN), "commit overwritten"), "the name of the last status");
+    check(!strcmp(sqr_status_name(32), "?") && !strcmp(sqr_fault_name(0), "?"), "the name of no status and no fault");
+    check(!strcmp(sqr_status_name(SQR_NOT_JUDGED), "not judged"), "the name of the last status");
     check(!strcmp(sqr_fault_name(21), "SchemaRecord"), "the name of a fault");
     check(!strcmp(sqr_fault_name(62), "KeyTwice") && !strcmp(sqr_fault_name(44), "?"), "the name of a fault inside");
+    check(!strcmp(sqr_fault_name(SQR_FAULT_FILE_CUT), "FileCut"), "the name of the fault of a file that is cut");
     struct sqr_deep_report deep;
     check(sqr_check_deep(&files, 0, 0, &place, 0, &deep) == SQR_DAMAGED && deep.fault == SQR_FAULT_MAGIC, "a fault");
     check(deep.places == SQR_DEEP_PAGE && deep.page == 1 && !deep.cell && !deep.row, "the place of a fault");
     check(sqr_check_deep(&files, 1, 0, &place, 0, &deep) == SQR_UNKNOWN_OPTIONS, "a flag that isn't known");
+    check(sqr_check_deep(&files, 64, 0, &place, 0, &deep) == SQR_UNKNOWN_OPTIONS, "nor is the next one");
+    check(sqr_check_deep(&files, SQR_COMPLETE, 0, &place, 0, &deep) == SQR_DAMAGED, "damage where all is to be judged");
+    check(sqr_check_with(&files, SQR_COMPLETE, 0, &report) == SQR_UNKNOWN_OPTIONS, "a flag of deep checks alone");
     check(sqr_version() == SQR_VERSION_NUMBER, "the version of the header is that of the library");
     for (uint32_t number = 0; number < 64; number++) check_names(number);
     check_names(UINT32_MAX);

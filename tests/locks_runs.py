@@ -3,7 +3,7 @@ and other processes with locks and databases."""
 import contextlib, fcntl, json, os, shutil, sqlite3, struct, subprocess, sys, tempfile, time
 
 import world_processes as processes
-from lib import path_of
+from lib import UNSYNCED, path_of
 from world_runs import Answer, SECONDS, program, test, wrong
 
 PENDING, SHARED, SHARED_LENGTH, WRITE, READ0, READ4, CONNECTIONS = 1 << 30, (1 << 30) + 2, 510, 120, 123, 127, 128
@@ -67,6 +67,12 @@ class Held:
         self.said = self.child.stdout.readline().strip()
         self.is_held = self.said.startswith("held ")
 
+    def begins(self):
+        """Lets it go on, and answers the first character that it prints; the rest waits in a pipe that is full."""
+        self.child.stdin.write("\n")
+        self.child.stdin.flush()
+        return os.read(self.child.stdout.fileno(), 1).decode()
+
     def goes_on(self):
         out, err = self.child.communicate("\n", timeout=SECONDS)
         return Answer(self.child.returncode, out, err)
@@ -106,7 +112,7 @@ def made(mode, file="a.db"):
     for end in ENDS:
         if os.path.exists(file + end):
             os.remove(file + end)
-    sql(f"PRAGMA journal_mode={mode}", "CREATE TABLE t(x)", "INSERT INTO t VALUES(1)", file=file)
+    sql(f"PRAGMA journal_mode={mode}", UNSYNCED, "CREATE TABLE t(x)", "INSERT INTO t VALUES(1)", file=file)
 
 
 SESSION = """import json, sqlite3, sys

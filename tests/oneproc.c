@@ -127,6 +127,8 @@ static uint32_t recovered(const char *file) {
 }
 
 static void each_call(const char *file, int is_in_use) {
+    char nowhere[4200];
+    snprintf(nowhere, sizeof nowhere, "%s.nowhere/at/all", file);
     check(opened(file, 0) == SQR_OK, "a path is opened");
     check(opened(file, SQR_FILES_ONLY) == SQR_OK, "its files are opened");
     check(opened(file, SQR_NO_LOCK) == SQR_OK, "a path is opened without locks");
@@ -134,7 +136,7 @@ static void each_call(const char *file, int is_in_use) {
     check(sqr_recover_to(file, out, 0, NULL, NULL) == SQR_ALREADY_THERE, "a copy that is there");
     check(opened(out, 0) == SQR_OK, "the copy is sound");
     check(recovered(file) == (is_in_use ? SQR_IN_USE : SQR_OK), "a recovery");
-    check(opened("/nowhere/at/all", 0) == SQR_NOT_THERE && errno == ENOENT, "no file, and errno");
+    check(opened(nowhere, 0) == SQR_NOT_THERE && errno == ENOENT, "no file, and errno");
 }
 
 /* Locks a byte of every file, as SQLite locks others: their descriptors, and -1 for a file that isn't there. */

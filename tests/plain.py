@@ -1,6 +1,8 @@
 """A plain program that judges a database file as `sqrescue check` does, with all of it in memory: slow, and short
 enough to be compared with the file format by eye. What it says of a file is the line that `check` prints."""
 
+import functools
+
 NAMES = ("Magic PageSize Fraction Reserved AutoVacuum Kind CellOutside Overlap Freeblock Fragments ChainCut ChainLong "
          "PageTwice PageOutside PageUnused KeyOrder Depth FreeCount Source NoMemory SchemaRecord PointerMap").split()
 INDEX_INTERIOR, TABLE_INTERIOR, INDEX_LEAF, TABLE_LEAF = 2, 5, 10, 13
@@ -243,7 +245,7 @@ class Database:
         page = self.page(p)
         kind = page[100 if p == 1 else 0]
         self.judge_kind(tree, p, kind, level)
-        cells = self.cells_of(p, page, kind)
+        cells = self.cells_of(p, page)
         if tree.is_table:
             judge_keys(p, cells, low, high)
         self.compare(p, *((ROOT, 0) if level == 1 else (CHILD, holder)))
@@ -267,37 +269,12 @@ class Database:
             if tree.leaves != level:
                 raise Fault(p, "Depth")
 
-    def cells_of(self, p, page, kind):
+    def cells_of(self, p, page):
         """The cells of a page that is laid out as it should be."""
-        head = 100 if p == 1 else 0
-        pointers = head + (12 if kind in (INDEX_INTERIOR, TABLE_INTERIOR) else 8)
-        behind = pointers + 2 * number(page, head + 3, 2)
-        start = number(page, head + 5, 2) or 65536
-        places = [number(page, at, 2) for at in range(pointers, behind, 2)] if behind <= self.usable else []
-        cells = [Cell(page, kind, at, self.usable) if at >= start else None for at in places]
-        if behind > self.usable or start > self.usable or any(cell is None or cell.end is None for cell in cells):
-            raise Fault(p, "CellOutside")
-        spans = self.freeblocks(p, page, number(page, head + 1, 2), start)
-        spans = sorted(spans + [(cell.at, max(cell.end, cell.at + 4)) for cell in cells])
-        if behind > start or any(second[0] < first[1] for first, second in zip(spans, spans[1:])):
-            raise Fault(p, "Overlap")
-        rest = self.usable - start - sum(min(end, self.usable) - at for at, end in spans)
-        if rest != page[head + 7] or rest > 60:
-            raise Fault(p, "Fragments")
+        cells, wrong = cells_in(page, 100 if p == 1 else 0, self.usable)
+        if wrong:
+            raise Fault(p, wrong)
         return cells
-
-    def freeblocks(self, p, page, at, start):
-        """Where the freeblocks of a page stand."""
-        spans, last = [], 0
-        while at:
-            if at < start or at <= last or at + 4 > self.usable:
-                raise Fault(p, "Freeblock")
-            size = number(page, at + 2, 2)
-            if size < 4 or at + size > self.usable:
-                raise Fault(p, "Freeblock")
-            spans.append((at, at + size))
-            at, last = number(page, at, 2), at
-        return spans
 
     def take_chain(self, p, cell):
         """A cell's payload, whose overflow pages are taken."""
@@ -318,6 +295,42 @@ class Database:
             self.compare(link, OVERFLOW if k else FIRST_OVERFLOW, holder)
             holder, link = link, after
         return content[:cell.payload]
+
+
+@functools.lru_cache(4096)
+def cells_in(page, head, usable):
+    """The cells of a page whose header is at `head`, and what is wrong with its layout, None if nothing is. Pages of
+    these bytes are read once."""
+    kind = page[head]
+    pointers = head + (12 if kind in (INDEX_INTERIOR, TABLE_INTERIOR) else 8)
+    behind = pointers + 2 * number(page, head + 3, 2)
+    start = number(page, head + 5, 2) or 65536
+    places = [number(page, at, 2) for at in range(pointers, behind, 2)] if behind <= usable else []
+    cells = [Cell(page, kind, at, usable) if at >= start else None for at in places]
+    if behind > usable or start > usable or any(cell is None or cell.end is None for cell in cells):
+        return None, "CellOutside"
+    spans = freeblocks(page, number(page, head + 1, 2), start, usable)
+    if spans is None:
+        return None, "Freeblock"
+    spans = sorted(spans + [(cell.at, max(cell.end, cell.at + 4)) for cell in cells])
+    if behind > start or any(second[0] < first[1] for first, second in zip(spans, spans[1:])):
+        return None, "Overlap"
+    rest = usable - start - sum(min(end, usable) - at for at, end in spans)
+    return (None, "Fragments") if rest != page[head + 7] or rest > 60 else (cells, None)
+
+
+def freeblocks(page, at, start, usable):
+    """Where the freeblocks of a page stand; None where one can't stand there."""
+    spans, last = [], 0
+    while at:
+        if at < start or at <= last or at + 4 > usable:
+            return None
+        size = number(page, at + 2, 2)
+        if size < 4 or at + size > usable:
+            return None
+        spans.append((at, at + size))
+        at, last = number(page, at, 2), at
+    return spans
 
 
 def judge_keys(p, cells, low, high):

@@ -7,19 +7,19 @@ GAPS = [" "] * 12 + ["\n", "\n  ", "\t", "\f", "\r\n", " \v", "/* c */", " /*TEX
                      "--x\r\n", " /*\ngo\n*/ ", "\n/*;*/", " \ufeff ", "/*BLOB*/", "--INT\n", " -- ;\n"]
 
 # Pieces that mean something to sqlite3's shell, or to SQLite's tokenizer.
-PIECES = ["\ngo\n", "\n/\n", "\n GO --\n", "\ngo", "\n/", "\n.system touch pwn1\n", "\n.shell touch pwn1\n", ";", ";\n",
-          "; INSERT INTO victim VALUES(666);", "--", "-- ", "/*", "*/", "/*;*/", "--;\n", "'", '"', "[", "]", "`", ")",
-          "(", "\ufeff",
-          "\v", " \v ", "\0", "$a(", "::b(", "?1", "#1", "\n#x\n", "\r\n", "\n", " END", "; END;", " BEGIN ",
-          "/", ".5", "'\n.system touch pwn1\n'", '"\ngo\n.system touch pwn1\n"', "\ngo.x\n", "\x1a", "\x7f", "\u0085",
-          "\u00a0", "\\", "x'0", "0x1g", "/*/", "**/", "--\r", "\r.system touch pwn1\r\n", "\f.system touch pwn1\n"]
+PIECES = ["\ngo\n", "\n/\n", "\n GO --\n", "\ngo", "\n/", "\n.system touch pwn1\n", "\n.shell touch pwn1\n", ";",
+          ";\n", "; INSERT INTO victim VALUES(666);", "--", "-- ", "/*", "*/", "/*;*/", "--;\n", "'", '"', "[", "]",
+          "`", ")", "(", "\ufeff", "\v", " \v ", "\0", "$a(", "::b(", "?1", "#1", "\n#x\n", "\r\n", "\n", " END",
+          "; END;", " BEGIN ", "/", ".5", "'\n.system touch pwn1\n'", '"\ngo\n.system touch pwn1\n"', "\ngo.x\n",
+          "\x1a", "\x7f", "\u0085", "\u00a0", "\\", "x'0", "0x1g", "/*/", "**/", "--\r", "\r.system touch pwn1\r\n",
+          "\f.system touch pwn1\n"]
 
 CALLS = ["abs(a)", "length(a)", "writefile('pwn1',a)", "edit(a,'touch pwn1')", "load_extension('x')",
-         "readfile('s.sql')", "random()",
-         "printf('%s',a)", "fts3_tokenizer('simple')", "a", "a+1", "a /2", "zeroblob(10)", "lower(a)",
-         "a IS NULL", "go", "a IN (1,2)", '"writefile"(\'pwn1\',a)', "[edit] (a,'touch pwn1')"]
-WORDS = ["INT", "TEXT", "BLOB", "REAL", "NUM", "X", "INTEGER", "VARCHAR", "FLOAT", "ANY", "POINT", "CHA", "R",
-         "go", "BO", "OB", "T"]
+         "readfile('s.sql')", "random()", "printf('%s',a)", "fts3_tokenizer('simple')", "a", "a+1", "a /2",
+         "zeroblob(10)", "lower(a)", "a IS NULL", "go", "a IN (1,2)", '"writefile"(\'pwn1\',a)',
+         "[edit] (a,'touch pwn1')"]
+WORDS = ["INT", "TEXT", "BLOB", "REAL", "NUM", "X", "INTEGER", "VARCHAR", "FLOAT", "ANY", "POINT", "CHA", "R", "go",
+         "BO", "OB", "T"]
 ODD_WORDS = ['"INT"', "'TEXT'", "[BLOB]", "END"]  # of types; rows --sql doesn't take each with a number behind it
 VALUES = [None, 0, 1, 2, 5, -7, 2.5, "abc", "", "it's\n.system touch pwn1\ngo\n", b"", b"\x00\xff", b"12", 2**63 - 1,
           -2**63, 1e300, float("inf"), "ABC", "go", "\n/\n", "\ufeff", "x\x00y", "p\r\nq", "lone\rCR", "p\nq"]
@@ -55,8 +55,8 @@ class Maker:
         return self.joined("ON", "CONFLICT", self.one("IGNORE", "REPLACE", "ROLLBACK", "ABORT", "FAIL"))
 
     def typed(self):
-        words = [self.chance.choice(ODD_WORDS if self.chance.random() < .02 else WORDS)
-                 for _ in range(self.one(0, 1, 1, 1, 2))]
+        count = self.one(0, 1, 1, 1, 2)
+        words = [self.chance.choice(ODD_WORDS if self.chance.random() < .02 else WORDS) for _ in range(count)]
         return self.joined(*words, self.one("", "", "", "(1)", "( +5 )", "(3,-2)") if words else "")
 
     def constraint(self):
@@ -66,8 +66,8 @@ class Maker:
         if kind == 1:
             return self.joined("UNIQUE", self.kept())
         if kind == 2:
-            return self.joined("DEFAULT", self.one("'x'", "5", "-1.5", "NULL", "'q'", "x'00'",
-                                                   "'\ngo\n.system touch pwn1\n'"))
+            text = "'\ngo\n.system touch pwn1\n'"
+            return self.joined("DEFAULT", self.one("'x'", "5", "-1.5", "NULL", "'q'", "x'00'", text))
         if kind == 3:
             return self.joined("CHECK", "(", self.chance.choice(CALLS), ")")
         if kind == 4:
@@ -92,8 +92,8 @@ class Maker:
     def view(self, name):
         gap = self.gap
         terms = ["a", "a+1", f"a{gap()}/{gap()}2", "count(*)", f"a{gap()}AS{gap()}z", "'q'", "go", '"go"', ".5",
-                 f"8{gap()}/{gap()}.5", f"a{gap()}IS{gap()}NOT NULL", f"CASE{gap()}a WHEN 1 THEN 2 END", "go.a", "1_0",
-                 "$a"]
+                 f"8{gap()}/{gap()}.5", f"a{gap()}IS{gap()}NOT NULL", f"CASE{gap()}a WHEN 1 THEN 2 END", "go.a",
+                 "1_0", "$a"]
         shown = (gap() + "," + gap()).join(self.chance.choice(terms) for _ in range(self.chance.randrange(1, 4)))
         return self.joined("CREATE", "VIEW", self.named(name), "AS", "SELECT", shown, "FROM",
                            self.one("victim AS go", "victim", "(SELECT a, 1 AS go FROM victim)"),
@@ -108,8 +108,8 @@ class Maker:
     def trigger(self, name):
         steps = ["SELECT" + self.gap() + "1", "INSERT INTO victim VALUES(666)", "DELETE FROM victim",
                  "UPDATE victim" + self.gap() + "SET a=666", "SELECT writefile('pwn1','x')"]
-        end = self.gap() + ";" + self.gap()
-        body = end.join(self.chance.choice(steps) for _ in range(self.chance.randrange(1, 4)))
+        count = self.chance.randrange(1, 4)
+        body = (self.gap() + ";" + self.gap()).join(self.chance.choice(steps) for _ in range(count))
         return self.joined("CREATE", "TRIGGER", self.named(name), self.one("BEFORE", "AFTER"),
                            self.one("INSERT", "DELETE"), "ON", self.named("victim"),
                            self.joined("WHEN", self.chance.choice(CALLS)) if self.chance.random() < .3 else "",

@@ -3,6 +3,7 @@ and a writer. This file is also what such a process runs."""
 import ctypes, fcntl, os, random, signal, sqlite3, subprocess, sys, time
 
 DONE = "done"
+UNSYNCED = "PRAGMA synchronous = off"  # as lib.py has it
 
 
 class Other:
@@ -79,7 +80,7 @@ TREES = 4
 def make(file, mode="delete", rows=100, page_size=1024):
     """Makes a sound database of some tables, and closes it."""
     db = sqlite3.connect(file, isolation_level=None)
-    db.executescript(f"PRAGMA page_size={page_size}; PRAGMA journal_mode={mode}; {TABLES}")
+    db.executescript(f"PRAGMA page_size={page_size}; PRAGMA journal_mode={mode}; {UNSYNCED}; {TABLES}")
     db.execute("BEGIN")
     for row in range(rows):
         db.execute("INSERT INTO a(t, n) VALUES (?, ?)", (f"row {row} " * 9, row))

@@ -38,8 +38,10 @@ Report = namedtuple("Report", "pages trees btree overflow free")
 
 
 class DeepReport(namedtuple("DeepReport", "pages trees btree overflow free indexes tables asides")):
-    """What a deep check finds of a sound database. `sound`: whether all was judged."""
+    """What a deep check finds of a sound database. `sound`: whether all was judged. `ill_formed`: how many records have
+    a text that isn't valid in the database's encoding, which SQLite stores."""
     sound = False
+    ill_formed = 0
 
 
 Frame = namedtuple("Frame", "page size")
@@ -77,6 +79,18 @@ class Damaged(Error):
 
     def __reduce__(self):
         return type(self), (self.fault, self.page, self.cell, self.row)
+
+
+class NotJudged(Error):
+    """A deep check with `complete` found the database sound, and judged not all of it. `report`: its DeepReport."""
+    status = 31
+
+    def __init__(self, report):
+        super().__init__("not judged")
+        self.report = report
+
+    def __reduce__(self):
+        return type(self), (self.report,)
 
 
 def _refusal(name, status, doc, base=None, number=None):
@@ -183,14 +197,14 @@ class _DeepReport(ctypes.Structure):
 
 
 class _DeepAnswer(ctypes.Structure):
-    _fields_ = [("report", _DeepReport), ("left", Long)]
+    _fields_ = [("report", _DeepReport), ("left", Long), ("ill_formed", Long)]
 
 
 class _Survey(ctypes.Structure):
     _fields_ = [("pages", Word), ("fault", Word), ("page", Word)]
 
 
-FILES_ONLY, NO_LOCK, AT, LARGE, POINTER_MAPS = 1, 2, 4, 8, 16
+FILES_ONLY, NO_LOCK, AT, LARGE, POINTER_MAPS, COMPLETE = 1, 2, 4, 8, 16, 32
 
 
 def _found(name="libsqrescue.so.1"):
@@ -320,6 +334,10 @@ def _flags(large, pointer_maps):
     return (LARGE if large else 0) | (POINTER_MAPS if pointer_maps else 0)
 
 
+def _deep_flags(flags, complete):
+    return flags | (COMPLETE if complete else 0)
+
+
 def _roles_of(files, flags, frame=0):
     """The Roles of the pages of a database."""
     roles, out = (_Role * 0)(), _Survey()
@@ -344,21 +362,25 @@ def _checked(files, flags, frame=0):
 
 
 def _deeply_checked(files, flags, frame=0):
-    """The DeepReport of a sound database; otherwise Damaged."""
+    """The DeepReport of a sound database; otherwise Damaged, or NotJudged where all was to be."""
     answer, rows = _DeepAnswer(), (Long * 0)()
     found = answer.report
     status = _library.sqr_check_deep_all(files, flags, frame, rows, 0, answer)
-    if status == 0 and found.indexes + found.tables:
+    if status in (0, NotJudged.status) and found.indexes + found.tables:
         rows = (Long * (found.indexes + found.tables))()
         status = _library.sqr_check_deep_all(files, flags, frame, rows, len(rows), answer)
     if status == Damaged.status:
         named = (found.page, found.cell, found.row)
         places = (number if found.places & 1 << bit else None for bit, number in enumerate(named))
         raise Damaged(_library.sqr_fault_name(found.fault).decode(), *places)
-    _judge(status)
+    if status != NotJudged.status:
+        _judge(status)
     counts = (getattr(found, name) for name in Report._fields)
     report = DeepReport(*counts, list(rows[:found.indexes]), list(rows[found.indexes:]), found.asides)
     report.sound = answer.left == 0
+    report.ill_formed = answer.ill_formed
+    if status == NotJudged.status:
+        raise NotJudged(report)
     return report
 
 
@@ -522,12 +544,14 @@ class View:
         with self._source:
             return _checked(self._opened()[1], *self._asked(large, pointer_maps))
 
-    def check_deep(self, *, large=False):
+    def check_deep(self, *, large=False, complete=False):
         """The DeepReport of a database that is well formed, and whose records, schema, indexes and rows are sound, but
         for the indexes and the tables in the rows `indexes` and `tables` of the schema, from 0, which aren't judged;
-        otherwise Damaged. Pointer maps are judged, too."""
+        otherwise Damaged. Pointer maps are judged, too. With complete NotJudged if anything isn't judged but the
+        bodies of views and triggers."""
+        flags, frame = self._asked(large, False)
         with self._source:
-            return _deeply_checked(self._opened()[1], *self._asked(large, False))
+            return _deeply_checked(self._opened()[1], _deep_flags(flags, complete), frame)
 
     def roles(self, *, large=False, pointer_maps=False):
         """The Roles of the pages, page 1 first: the use of each, one of USES, and the page that goes with it, the root
@@ -578,12 +602,12 @@ def check(database, wal=b"", journal=b"", *, large=False, pointer_maps=False, wa
         source.close()
 
 
-def check_deep(database, wal=b"", journal=b"", *, large=False, wait=5.0, lock=True):
+def check_deep(database, wal=b"", journal=b"", *, large=False, complete=False, wait=5.0, lock=True):
     """As `check`, and whether what the database holds is sound: the DeepReport, as View.check_deep gives it."""
     source = _source(database, wal, journal, FILES_ONLY, wait, lock)
     try:
         with source:
-            return _deeply_checked(source.files, _flags(large, False))
+            return _deeply_checked(source.files, _deep_flags(_flags(large, False), complete))
     finally:
         source.close()
 

@@ -48,7 +48,7 @@ _sqrescue() {
   esac
   case $command in
     show) options='-v --verbose --json --at --large --super-journal= --wait --no-lock --page --pages --pointer-maps --log --all --commits -h --help' ;;
-    check) options='-v --verbose --json --at --large --super-journal= --wait --no-lock --pointer-maps --deep -h --help' ;;
+    check) options='-v --verbose --json --at --large --super-journal= --wait --no-lock --pointer-maps --deep --complete -h --help' ;;
     rows) options='-v --verbose --json --at --large --super-journal= --wait --no-lock --table --csv --sql --places --deleted --all -h --help' ;;
     diff) options='-v --verbose --json --from --large --super-journal= --wait --no-lock --to --table --commits --deleted --sql -h --help' ;;
     salvage) options='-v --verbose --json --at --large --super-journal= --wait --no-lock --places --to -h --help' ;;

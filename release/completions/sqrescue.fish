@@ -33,6 +33,7 @@ complete -c sqrescue -n '__fish_seen_subcommand_from check' -l wait -x -d 'Wait 
 complete -c sqrescue -n '__fish_seen_subcommand_from check' -l no-lock -d 'Take no locks'
 complete -c sqrescue -n '__fish_seen_subcommand_from check' -l pointer-maps -d 'Accept a database with auto-vacuum, and check its pointer maps'
 complete -c sqrescue -n '__fish_seen_subcommand_from check' -l deep -d 'Also check records, schema, indexes, NOT NULL and column types'
+complete -c sqrescue -n '__fish_seen_subcommand_from check' -l complete -d 'Refuse a sound database if anything but a view or trigger wasn\'t judged'
 complete -c sqrescue -n '__fish_seen_subcommand_from check' -s h -l help -d 'Print help'
 complete -c sqrescue -n '__fish_seen_subcommand_from rows' -s v -l verbose -d 'Print notes on standard error: files read, log used, why refused'
 complete -c sqrescue -n '__fish_seen_subcommand_from rows' -l json -d 'Print each line as a JSON object, and a refusal too'

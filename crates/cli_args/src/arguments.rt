@@ -219,6 +219,12 @@ pub(crate) fn deep_arg<'a>(alloc: Global) -> Arg<'a> {
     )
 }
 
+/// Whether all of it is to be judged.
+pub(crate) fn complete_arg<'a>(alloc: Global) -> Made<Arg<'a>> {
+    let help = "Refuse a sound database if anything but a view or trigger wasn't judged";
+    only_with(flag(alloc, "complete", help), "deep")
+}
+
 /// The table whose rows are printed.
 pub(crate) fn table_arg<'a>(alloc: Global) -> Arg<'a> {
     option(

@@ -2,9 +2,9 @@
 //! command has much memory to free.
 use crate::arguments::{
     Made, all_arg, all_deleted_arg, at_arg, cells_arg, changed_table_arg, changes_arg, commits_arg,
-    copy_arg, csv_arg, deep_arg, deleted_arg, deleted_changes_arg, each_commit_arg, file_arg,
-    files_arg, force_arg, from_arg, json_arg, large_arg, log_arg, no_lock_arg, only_with, page_arg,
-    pages_arg, places_arg, pointer_maps_arg, report_arg, script_arg, script_file_arg,
+    complete_arg, copy_arg, csv_arg, deep_arg, deleted_arg, deleted_changes_arg, each_commit_arg,
+    file_arg, files_arg, force_arg, from_arg, json_arg, large_arg, log_arg, no_lock_arg, only_with,
+    page_arg, pages_arg, places_arg, pointer_maps_arg, report_arg, script_arg, script_file_arg,
     shown_maps_arg, sql_arg, super_journal_arg, table_arg, until_arg, verbose_arg, version_arg,
     wait_arg,
 };
@@ -73,7 +73,8 @@ fn check_command<'a>(alloc: Global) -> Made<Command<'a>> {
         Ok(at_arg(alloc)),
     );
     let command = with_arg(command, Ok(pointer_maps_arg(alloc)));
-    with_arg(command, Ok(deep_arg(alloc)))
+    let command = with_arg(command, Ok(deep_arg(alloc)));
+    with_arg(command, complete_arg(alloc))
 }
 
 fn rows_command<'a>(alloc: Global) -> Made<Command<'a>> {

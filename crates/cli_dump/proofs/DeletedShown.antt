@@ -1,5 +1,5 @@
 -- The deleted cells of the files that are asked for.
-use Rattle.std.proofs.Common.{◌≡◌, ◌≢◌, ◌⊎◌, ℕ, Bool, true, false, List, [], ◌∷◌, Option, Result, Ok, Err, OnOk, length, inl, inr, ⊎_elim, refl, sym, ap, subst, arith}
+use Rattle.std.proofs.Common.{◌≡◌, ◌≢◌, ◌⊎◌, ◌≤◌, ℕ, Bool, true, false, List, [], ◌∷◌, Option, Result, Ok, Err, OnOk, length, inl, inr, ⊎_elim, refl, sym, ap, subst, arith}
 use Rattle.std.specs.Prelude.{IfErr, MatchResult}
 use Rattle.sqval.specs.Bytes.{word}
 use Rattle.sqval.specs.Database.{Database}
@@ -14,7 +14,7 @@ use Rattle.sqview.specs.declared.view.View.{View}
 use Rattle.cli_words.specs.declared.requests.Style.{Style}
 use Rattle.cli_words.specs.declared.requests.Commit.{Commit}
 use Rattle.cli_words.specs.declared.requests.Commit.TheVariants.{Last, Front, At}
-use Rattle.cli_show.specs.Views.{IsAskedView, ReadsLog}
+use Rattle.cli_show.specs.Views.{IsAskedView, IsWholeView, ReadsLog}
 use Rattle.cli_show_frames.specs.Frames.{AreFramesPrinted, IsFramed}
 use Rattle.cli_dump.specs.Deleted.{AreCellsPrinted}
 use Rattle.cli_dump.proofs.PlacesShown.{framed_asked}
@@ -33,24 +33,34 @@ empty_by (x ∷ l) none = absurd (none (λ e. cc))
 abbrev pub IsLogOf : (wal journal log : List ℕ) → Type 0
 IsLogOf wal journal log = (log ≡ wal) ⊎ (IsHot journal × (log ≡ journal) × (wal ≡ []))
 
-pub log_asked : {F : Type 0} (limits : Bounds) (bytes : F → List ℕ) (at : Commit) (db wal journal : List ℕ) (v : View F) → IsAskedView limits bytes at db wal journal v
-    → ReadsLog at wal journal (bytes v.log) → IsLogOf wal journal (bytes v.log)
-log_asked limits bytes Last db wal journal v answer reads = ⊎_elim
+log_whole : {F : Type 0} (limits : Bounds) (bytes : F → List ℕ) (at : Commit) (db wal journal log : List ℕ) (v : View F) → IsWholeView limits bytes at db wal journal v
+    → ReadsLog at wal journal log → IsLogOf wal journal log
+log_whole limits bytes Last db wal journal log v answer reads = ⊎_elim
     (λ hot. inr (hot.0, reads.0 hot.0, empty_by wal (λ some. answer.one (hot.0, some))))
     (λ rest. ⊎_elim (λ logged. inl (reads.1 logged.1.cold)) (λ alone. inl (reads.1 alone.0.cold)) rest) answer.shows
-log_asked limits bytes (Front m) db wal journal v answer reads = inl reads
-log_asked limits bytes (At m) db wal journal v answer reads = inl reads
+log_whole limits bytes (Front m) db wal journal log v answer reads = inl reads
+log_whole limits bytes (At m) db wal journal log v answer reads = inl reads
+
+pub log_asked : {F : Type 0} (limits : Bounds) (bytes : F → List ℕ) (at : Commit) (db wal journal : List ℕ) (v : View F) → IsAskedView limits bytes at db wal journal v
+    → ReadsLog at wal journal (bytes v.log) → IsLogOf wal journal (bytes v.log)
+log_asked limits bytes at db wal journal v asked reads = log_whole limits bytes at db wal journal (bytes v.log) asked.0 asked.1 reads
+
+-- at a frame the log is the write-ahead log
+wal_whole : {F : Type 0} (limits : Bounds) (bytes : F → List ℕ) (at : Commit) (db wal journal log : List ℕ) (v : View F) → IsWholeView limits bytes at db wal journal v
+    → ReadsLog at wal journal log → 1 ≤ v.front → log ≡ wal
+wal_whole limits bytes Last db wal journal log v answer reads one = ⊎_elim
+    (λ (here : IsLogged wal journal v.front). reads.1 here.cold)
+    (λ none. absurd (omega (arith, one, none.0))) answer.stands
+wal_whole limits bytes (Front m) db wal journal log v answer reads one = reads
+wal_whole limits bytes (At m) db wal journal log v answer reads one = reads
 
 -- its places are those of its own frames
 pub framed_as : {F : Type 0} (limits : Bounds) (bytes : F → List ℕ) (at : Commit) (db wal journal : List ℕ) (v : View F) → IsAskedView limits bytes at db wal journal v
     → ReadsLog at wal journal (bytes v.log) → IsFramed bytes v
-framed_as limits bytes Last db wal journal v answer reads one = ⊎_elim
-    (λ (here : IsLogged wal journal v.front). subst (λ (l : List ℕ). AreFramePlaces v.page_size l v.front v.count v.places.items) (sym (reads.1 here.cold)) (answer.framed one))
-    (λ none. absurd (omega (arith, one, none.0))) answer.stands
-framed_as limits bytes (Front m) db wal journal v answer reads one =
-    subst (λ (l : List ℕ). AreFramePlaces v.page_size l v.front v.count v.places.items) (sym reads) (framed_asked limits bytes (Front m) db wal journal v answer one)
-framed_as limits bytes (At m) db wal journal v answer reads one =
-    subst (λ (l : List ℕ). AreFramePlaces v.page_size l v.front v.count v.places.items) (sym reads) (framed_asked limits bytes (At m) db wal journal v answer one)
+framed_as limits bytes at db wal journal v asked reads one =
+    let here : 1 ≤ asked.0.front = omega (arith, one, asked.2.sizes.1) in
+    let same = wal_whole limits bytes at db wal journal (bytes v.log) asked.0 asked.1 reads here in
+    subst (λ (l : List ℕ). AreFramePlaces v.page_size l v.front v.count v.places.items) (sym same) (framed_asked limits bytes at db wal journal v asked one)
 
 frames_as : (size front : ℕ) (d : Database) (style : Style) (before after : Option (List ℕ)) (wal journal log : List ℕ) → IsLogOf wal journal log
     → AreFramesPrinted size log front d style before after → AreFramesPrinted size wal front d style before after

@@ -1,4 +1,5 @@
 mod CommitsKept
 mod KeptBegun
+mod OverwrittenCommits
 pub mod PlacesShown
 pub mod DeletedShown

@@ -37,7 +37,7 @@ impl Kept {
 }
 
 /// That the commits before this one are left out, if there are.
-fn write_begun<W: Write>(out: &mut W, from: u32) -> io::Result<()>
+pub(crate) fn write_begun<W: Write>(out: &mut W, from: u32) -> io::Result<()>
     ensures { OnOk result (Appends (W.contents out.old) (W.contents out.new) (begun_text from)) }
 {
     if from == 0 {

@@ -19,6 +19,7 @@ path_of place = string_bytes place.path
 abbrev pub AreBeside : Paths → Type 0
 AreBeside paths = (path_of paths.wal ≡ path_of paths.db ++ codes "-wal")
     × (path_of paths.journal ≡ path_of paths.db ++ codes "-journal") × (path_of paths.shm ≡ path_of paths.db ++ codes "-shm")
+    × (path_of paths.lock ≡ path_of paths.db ++ codes ".lock")
 
 -- a file of this path lies in this folder: the path without its last part, or where that is empty the present folder
 abbrev pub IsFolderOf : (folder path : List ℕ) → Type 0

@@ -1,5 +1,5 @@
 -- What is noted of a database file's length, and of what of a log isn't recovered (fileformat2, 1.3.7; walformat, 2.1; own).
-use Rattle.std.specs.Prelude.{◌≡◌, ℕ, ◌+◌, ◌-◌, ◌*◌, ◌/◌, ◌==◌, ◌&&◌, not, nat_lt, max, if◌then◌else◌, List, ◌++◌, Option, None, Some, codes}
+use Rattle.std.specs.Prelude.{◌≡◌, ℕ, ◌+◌, ◌-◌, ◌*◌, ◌/◌, ◌==◌, ◌&&◌, ◌||◌, not, nat_lt, max, if◌then◌else◌, List, ◌++◌, Option, None, Some, codes}
 use Rattle.std.specs.Fmt.{decimal}
 use Rattle.sqval.specs.Bytes.{word}
 use Rattle.sqpage.specs.Header.{HasMagic, HasPageSize, size_named}
@@ -13,7 +13,7 @@ use Rattle.sqwal.specs.declared.scan.Why.TheVariants as whys
 use Rattle.cli_facts.specs.Quoted.{name_text}
 use Rattle.cli_files.specs.declared.note.Named.{Named}
 use Rattle.cli_files.specs.declared.note.Note.{Note}
-use Rattle.cli_files.specs.declared.note.Note.TheVariants.{Cut, Rest, Shorter, Dropped}
+use Rattle.cli_files.specs.declared.note.Note.TheVariants.{Cut, Rest, Shorter, Dropped, Unused, Excess}
 
 -- how many bytes the pages have that a header names
 abbrev pub named_length : Named → ℕ
@@ -51,12 +51,26 @@ drop_text frames bytes stop =
     decimal frames ++ (codes " frames, " ++ (decimal bytes ++ (codes " bytes behind the front are dropped: stop "
     ++ (why_word stop.why ++ (codes " at " ++ decimal stop.frame)))))
 
+-- the header of a database counts so many pages, and so many are above them
+abbrev pub unused_text : (pages named : ℕ) → List ℕ
+unused_text pages named =
+    codes "the header counts " ++ (decimal named ++ (codes " pages: the " ++ (decimal pages
+    ++ codes " above them aren't judged, since SQLite doesn't use them")))
+
+-- it counts more than there are
+abbrev pub excess_text : (all named : ℕ) → List ℕ
+excess_text all named =
+    codes "the header counts " ++ (decimal named ++ (codes " pages, but there are " ++ (decimal all
+    ++ codes " by the log: SQLite calls that malformed")))
+
 -- the text of a note
 abbrev pub note_text : Note → List ℕ
 note_text (Cut path length named) = cut_text (name_text path.0.now) length named
 note_text (Rest path bytes named) = rest_text (name_text path.0.now) bytes named
 note_text (Shorter path length named) = short_text (name_text path.0.now) length named
 note_text (Dropped frames bytes stop) = drop_text frames bytes stop
+note_text (Unused pages named) = unused_text pages named
+note_text (Excess all named) = excess_text all named
 
 -- The header of a database names pages: it has the magic and a page size, and its count of pages counts.
 abbrev pub NamesPages : (head : List ℕ) → Option Named → Type 0
@@ -77,6 +91,13 @@ alone_text name length (Some named) =
 abbrev pub shorter_text : (name : List ℕ) → (length : ℕ) → Option Named → Option (List ℕ)
 shorter_text name length None = None
 shorter_text name length (Some named) = if nat_lt length (named_length named) then Some (short_text name length named) else None
+
+-- What is noted of a database of so many pages, of which its header counts so many, 0 if that count isn't valid.
+abbrev pub counts_text : (all named : ℕ) → Option (List ℕ)
+counts_text all named =
+    if (named == 0) || (named == all) then None
+    else if nat_lt named all then Some (unused_text (all - named) named)
+    else Some (excess_text all named)
 
 -- the bytes of a log of this length behind its front
 abbrev pub bytes_behind : (length : ℕ) → Front → ℕ

@@ -8,11 +8,11 @@ ghost use Rattle.sqwal.specs.Took.{TookWithin};
 ghost use Rattle.sqview.specs.Laid.{part_or_zeros};
 ghost use Rattle.cli_facts.specs.Quoted.{name_text};
 ghost use Rattle.cli_files.specs.Files.{IsSteady, NeverFails, opened_bytes};
-ghost use Rattle.cli_files.specs.Notes.{IsDropped, NamesPages, note_text, shorter_text};
+ghost use Rattle.cli_files.specs.Notes.{IsDropped, NamesPages, counts_text, note_text, shorter_text};
 ghost use Rattle.cli_files.specs.declared.note.Named.{Named};
 ghost use Rattle.cli_files.specs.Refusals.{IsFromSystem};
 
-use crate::note::{Named, Note, dropped_note, named_pages, shorter_note};
+use crate::note::{Named, Note, counts_note, dropped_note, named_pages, shorter_note};
 use crate::opened_file::OpenedFile;
 use crate::paths::Paths;
 use cli_facts::{Notes, Quoted, Refusal, SystemFile};
@@ -183,5 +183,15 @@ pub fn tell_dropped<E: Write>(
     }
     let note = dropped_note(length, scan)?;
     notes.tell(&note);
+    Some(note)
+}
+
+/// Says of a database of so many pages where its header counts fewer or more; 0 if that count isn't valid. What is
+/// said.
+pub fn tell_counts<E: Write>(notes: &Notes<'_, E>, all: u32, named: u32) -> Option<Note<'static>>
+    ensures { option_map note_text result ≡ counts_text all named }
+{
+    let note = counts_note(all, named)?;
+    notes.say(&note);
     Some(note)
 }

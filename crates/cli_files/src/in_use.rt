@@ -1,11 +1,13 @@
 //! Whether another process has a database open.
-ghost use Rattle.std.specs.Prelude.{◌≡◌, ◌<◌, ◌≤◌, ◌-◌, ℕ, length, slice_index, EachIndex, IfOk};
+ghost use Rattle.std.specs.Prelude.{◌≡◌, ◌<◌, ◌≤◌, ◌-◌, ℕ, length, slice_index, EachIndex, Err, IfErr, IfOk, IsOkAnd};
+ghost use Rattle.std.specs.Fs.{IsDir, file_type};
+ghost use Rattle.cli_facts.specs.declared.outcome.Refusal.TheVariants.{InUse};
 
 use crate::paths::{Paths, is_missing, look_at};
 use crate::progress::Count;
 use cli_facts::{Guard, Identity, Notes, Refusal, identity_of, is_locked};
 use std::cell::RefCell;
-use std::fs::OpenOptions;
+use std::fs::{Metadata, OpenOptions};
 use std::io::{self, ErrorKind, Read, Write};
 use std::rt::Files;
 use std::str;
@@ -17,9 +19,9 @@ const LOCKS: &str = "/proc/locks";
 const ROOM: usize = 8192;
 
 /// Asks whether a process holds a POSIX lock on a database file or on its FILE-shm, as each connection of SQLite does
-/// that reads, writes, or has a database in WAL mode open. Where the locks can't be read, nothing is refused, and why
-/// they can't be is kept. It asks for no memory, so that it can be asked also once a file was changed. What is read is
-/// counted.
+/// that reads, writes, or has a database in WAL mode open, or whether a folder FILE.lock is there, as with SQLite's
+/// unix-dotfile. Where the locks can't be read, nothing is refused, and why they can't be is kept. It asks for no
+/// memory, so that it can be asked also once a file was changed. What is read is counted.
 pub struct OpenElsewhere<'a, R: Files, M> {
     pub rt: &'a R,
     pub paths: &'a Paths,
@@ -74,12 +76,24 @@ pub fn tell_unread<E: Write>(notes: &mut Notes<'_, E>, unread: &RefCell<Option<i
     }
 }
 
+/// Refused by `InUse` where what was found at FILE.lock is a folder, by which SQLite's unix-dotfile locks FILE.
+fn unless_folder(found: io::Result<Metadata>) -> Result<(), Refusal>
+    ensures folder { IfOk found (λ m. IsDir (file_type m) → result ≡ Err InUse) }
+    ensures refused { IfErr result (λ refusal. IsOkAnd found (λ m. IsDir (file_type m)) × (refusal ≡ InUse)) }
+{
+    match found {
+        Ok(found) if found.is_dir() => Err(Refusal::InUse),
+        _ => Ok(()),
+    }
+}
+
 impl<R: Files, M: Count> Guard for OpenElsewhere<'_, R, M> {
     /// Refused by `InUse`, or where the system doesn't say which file is which.
     fn ask(&self) -> Result<(), Refusal> {
         if self.forced {
             return Ok(());
         }
+        unless_folder(look_at(self.rt, self.paths.lock.as_str()))?;
         let db = identity_of(&look_at(self.rt, self.paths.db.as_str())?);
         let shm = match look_at(self.rt, self.paths.shm.as_str()) {
             Ok(shm) => identity_of(&shm),

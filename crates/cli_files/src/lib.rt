@@ -16,14 +16,16 @@ mod progress;
 mod watch;
 
 pub use fronts::{FrameHead, Seen, as_before};
-pub use hints::{ToldRefusal, tell_dropped, tell_length, told};
+pub use hints::{ToldRefusal, tell_counts, tell_dropped, tell_length, told};
 pub use in_use::{OpenElsewhere, is_index_live, tell_unread};
 pub use journals::names_super_journal;
-pub use logs::{Beheld, Beside, counting_log, open_database, open_logs, tell_alone};
+pub use logs::{
+    Beheld, Beside, counting_log, is_journal_hot, open_database, open_logs, tell_alone,
+};
 pub use new_file::{NewFile, begin_file, discard_file, end_file, remove};
 pub use note::{Named, Note};
 pub use opened_file::OpenedFile;
-pub use paths::{Paths, folder_identity, folder_of, is_log_of, look_at, paths_of};
+pub use paths::{Paths, folder_identity, folder_of, is_log_of, look_at, paths_of, tell_lock};
 pub use place::Place;
 pub use progress::{Count, Progress};
 pub use watch::{readings_of, time_to_wait};

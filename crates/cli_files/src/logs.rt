@@ -1,5 +1,6 @@
 //! The opened files of a database.
 ghost use Rattle.std.specs.Prelude.{◌≡◌, ◌⊎◌, ◌↔◌, Option, IfErr, IfOk, IfSome, IsOk, IsTrue, Ok, OnOk, Some, false};
+ghost use Rattle.std.specs.Prelude.{None};
 ghost use Rattle.std.specs.Option.{option_map};
 ghost use Rattle.std.specs.Fs.{metadata_len, file_type, IsFile};
 ghost use Rattle.cli_words.specs.declared.requests.SuperJournal.TheVariants.{Gone};
@@ -192,7 +193,8 @@ fn tell_names<E: Write>(paths: &Paths, found: &Beheld, notes: &mut Notes<'_, E>)
     }
 }
 
-/// Opens the files beside a database file that were found, which is asked for at this commit frame.
+/// Opens the files beside a database file that were found, which is asked for at this commit frame. At 0 a journal that
+/// can't be opened any more is taken as a missing one where it is the only log.
 fn open_found<'a, R: Files, E: Write>(
     rt: &R,
     paths: &'a Paths,
@@ -200,7 +202,9 @@ fn open_found<'a, R: Files, E: Write>(
     at: Option<u32>,
     notes: &mut Notes<'_, E>,
 ) -> Result<Beside<'a, R::File>, Refusal>
-    ensures found { IfOk result (λ logs. logs.found ≡ found) }
+where
+    R::File: SystemFile,
+    ensures regular { AreRegular found → IfOk result (λ logs. AreRegular logs.found) }
     ensures left_out { IfOk result (λ logs. IsTrue logs.are_left_out ↔ at ≡ Some 0) }
     ensures wal { IfOk result (λ logs. IsOpenedOf logs.wal paths.entry.now.wal 1 logs.found.wal) }
     ensures journal { IfOk result (λ logs. IsOpenedOf logs.journal paths.entry.now.journal 28 logs.found.journal) }
@@ -214,7 +218,46 @@ fn open_found<'a, R: Files, E: Write>(
             journal,
             are_left_out: at == Some(0),
         }),
+        Err(_) if at == Some(0) && wal.len() == 0 => {
+            let Beheld { db, wal: found, .. } = found;
+            Ok(Beside {
+                found: Beheld {
+                    db,
+                    wal: found,
+                    journal: None,
+                },
+                wal,
+                journal: OpenedFile::missing(),
+                are_left_out: true,
+            })
+        }
         Err(refusal) => Err(refusal),
+    }
+}
+
+/// The same logs, of which the journal is taken as a missing one.
+fn without_journal<F: Drop>(logs: Beside<'_, F>) -> Beside<'_, F>
+    ensures regular { AreRegular logs.entry.found → AreRegular result.found }
+    ensures found { (result.found.wal ≡ logs.entry.found.wal) × (result.found.journal ≡ None) }
+    ensures left_out { result.are_left_out ≡ logs.entry.are_left_out }
+    ensures wal { result.wal ≡ logs.entry.wal }
+    ensures journal { IsMissing result.journal }
+{
+    let Beside {
+        found: Beheld { db, wal: found, .. },
+        wal,
+        are_left_out,
+        ..
+    } = logs;
+    Beside {
+        found: Beheld {
+            db,
+            wal: found,
+            journal: None,
+        },
+        wal,
+        journal: OpenedFile::missing(),
+        are_left_out,
     }
 }
 
@@ -300,7 +343,8 @@ fn judge_logs<R: Files, F: SystemFile + Drop, E: Write>(
 
 /// Opens the logs beside a database file that the system finds, a write-ahead log that isn't empty and a journal of 28
 /// bytes at least, and says what is to be noted of them, where the database is asked for at this commit frame. A hot
-/// journal that is out of force is taken as a missing one.
+/// journal that is out of force is taken as a missing one, and so is any at 0 beside no write-ahead log: the file alone
+/// is the database, whatever a writer does to its journal meanwhile.
 pub fn open_logs<'a, R: Files, E: Write>(
     rt: &R,
     paths: &'a Paths,
@@ -316,16 +360,39 @@ where
         ⊎ IsOpenedOf logs.journal paths.entry.now.journal 28 logs.found.journal) }
     ensures left { IfOk result (λ logs. LeavesJournal R.File.bytes R.File.keeps_word super_journal
         paths.entry.now.journal logs.found.journal logs.journal) }
-    ensures left_out { IfOk result (λ logs. IsTrue logs.are_left_out ↔ at ≡ Some 0) }
+    ensures left_out { IfOk result (λ logs. (IsTrue logs.are_left_out ↔ at ≡ Some 0)
+        × (at ≡ Some 0 → IsMissing logs.wal → IsMissing logs.journal)) }
     ensures refused { IfErr result IsFromSystem }
 {
     let found = found_files(rt, paths, notes)?;
     tell_names(paths, &found, notes);
     let mut logs = open_found(rt, paths, found, at, notes)?;
-    match judge_logs(rt, &mut logs, paths, super_journal, notes) {
+    let judged = judge_logs(rt, &mut logs, paths, super_journal, notes);
+    if logs.are_left_out && logs.wal.len() == 0 {
+        return Ok(without_journal(logs));
+    }
+    match judged {
         Ok(()) => Ok(logs),
         Err(error) => Err(Refusal::from(error)),
     }
+}
+
+/// Whether a database's journal is hot now, as far as it can be read.
+pub fn is_journal_hot<R: Files>(rt: &R, paths: &Paths) -> bool
+where
+    R::File: SystemFile,
+{
+    let Ok(found) = look_at(rt, paths.journal.as_str()) else {
+        return false;
+    };
+    if !found.is_file() {
+        return false;
+    }
+    let Ok(file) = File::open(rt, paths.journal.as_str()) else {
+        return false;
+    };
+    let mut journal = OpenedFile::new(file, found.len(), &paths.journal);
+    matches!(hot_header(&mut journal), Ok(Some(_)))
 }
 
 /// The log that counts.

@@ -5,7 +5,7 @@ ghost use Rattle.sqval.specs.Bytes.{word};
 ghost use Rattle.sqwal.specs.Took.{TookWithin};
 ghost use Rattle.cli_facts.specs.Quoted.{name_text};
 ghost use Rattle.cli_files.specs.Notes.{IsDropped, NamesPages, alone_text, dropped_text, named_length, note_text};
-ghost use Rattle.cli_files.specs.Notes.{shorter_text};
+ghost use Rattle.cli_files.specs.Notes.{counts_text, shorter_text};
 
 use cli_facts::Quoted;
 use sqpage::{has_magic, named_page_size};
@@ -77,6 +77,16 @@ pub enum Note<'a> {
         bytes: u64,
         stop: Stop,
     },
+    /// The database has so many pages above those that its header counts.
+    Unused {
+        pages: u32,
+        named: u32,
+    },
+    /// Its header counts more pages than all of them.
+    Excess {
+        all: u32,
+        named: u32,
+    },
 }
 
 impl fmt::Display for Note<'_> {
@@ -129,6 +139,14 @@ impl fmt::Display for Note<'_> {
                     "{frames} frames, {bytes} bytes behind the front are dropped: stop {why} at {at}"
                 )
             }
+            Note::Unused { pages, named } => write!(
+                f,
+                "the header counts {named} pages: the {pages} above them aren't judged, since SQLite doesn't use them"
+            ),
+            Note::Excess { all, named } => write!(
+                f,
+                "the header counts {named} pages, but there are {all} by the log: SQLite calls that malformed"
+            ),
         }
     }
 }
@@ -230,4 +248,18 @@ pub(crate) fn dropped_note(length: u64, scan: &Scan) -> Option<Note<'static>>
 {
     let (header, front, stop) = (scan.header(), scan.committed(), scan.stop());
     note_behind(length, header, front, stop)
+}
+
+/// What is noted of a database of so many pages, of which its header counts so many, 0 if that count isn't valid.
+pub(crate) fn counts_note(all: u32, named: u32) -> Option<Note<'static>>
+    ensures { option_map note_text result ≡ counts_text all named }
+{
+    if named == 0 || named == all {
+        None
+    } else if named < all {
+        let pages = all - named;
+        Some(Note::Unused { pages, named })
+    } else {
+        Some(Note::Excess { all, named })
+    }
 }

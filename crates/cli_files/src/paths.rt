@@ -25,6 +25,8 @@ pub struct Paths {
     pub wal: Place,
     pub journal: Place,
     pub shm: Place,
+    /// FILE.lock, a folder by which SQLite's unix-dotfile locks FILE.
+    pub lock: Place,
     /// Whether the path that was given is a symbolic link, and the database's that of the file that it leads to.
     pub is_link: bool,
 }
@@ -110,15 +112,39 @@ fn all_paths(alloc: Global, db: String, is_link: bool) -> Result<Paths, AllocErr
 {
     let wal = beside(alloc, db.as_str(), "-wal")?;
     let journal = beside(alloc, db.as_str(), "-journal")?;
-    match beside(alloc, db.as_str(), "-shm") {
-        Ok(shm) => Ok(Paths {
+    let shm = beside(alloc, db.as_str(), "-shm")?;
+    match beside(alloc, db.as_str(), ".lock") {
+        Ok(lock) => Ok(Paths {
             db: Place::new(db),
             wal,
             journal,
             shm,
+            lock,
             is_link,
         }),
         Err(error) => Err(error),
+    }
+}
+
+/// Says what lies at FILE.lock, if something does: a folder there is a lock of SQLite's unix-dotfile, which no other
+/// lock is seen by.
+pub fn tell_lock<R: Files + AllocGlobal, E: Write>(rt: &R, file: &str, notes: &mut Notes<'_, E>) {
+    let Ok((db, _)) = resolved(rt, file) else {
+        return;
+    };
+    let Ok(lock) = beside(rt.alloc(), db.as_str(), ".lock") else {
+        return;
+    };
+    let Ok(found) = look_at(rt, lock.as_str()) else {
+        return;
+    };
+    let path = lock.quoted();
+    if found.is_dir() {
+        notes.say(&format_args!(
+            "{path}: a folder, by which SQLite's unix-dotfile locks the database: its owner may write meanwhile"
+        ));
+    } else {
+        notes.say(&format_args!("{path}: no folder, so no lock of SQLite's unix-dotfile"));
     }
 }
 

@@ -1,11 +1,13 @@
 -- Words that ask as a part of a command line does ask as that does.
-use Rattle.std.proofs.Common.{◌≡◌, ◌⊎◌, inl, inr, ⊎_elim, ◌∙◌, refl, sym, ap, subst, ℕ, List, [], ◌∷◌, ◌++◌, Bor, Option, None, Some, Result, Ok, Err}
+use Rattle.std.proofs.Common.{◌≡◌, ◌≢◌, ◌⊎◌, inl, inr, ⊎_elim, ◌∙◌, refl, sym, ap, subst, ℕ, List, [], ◌∷◌, ◌++◌, Bor, Option, None, Some, Result, Ok, Err}
 use Rattle.std.specs.Prelude.{codes, IfOk, MatchOption}
 use Rattle.std.specs.List.{Contains}
 use Rattle.std.proofs.lemmas.List.{map-append}
 use Rattle.std.proofs.lemmas.List.Elements.{Contains-push_cases}
 use Rattle.sqlocks.specs.declared.plan.Want.{Want}
-use Rattle.cli_held.specs.Held.{IsTold, TellsSo}
+use Rattle.sqlocks.specs.declared.plan.Want.TheVariants.{Read, Recover}
+use Rattle.sqlocks.specs.declared.told.FileId.{FileId}
+use Rattle.cli_held.specs.Held.{HeldBy, IsTold, TellsSo}
 use Rattle.cli_held.specs.declared.fdinfo.Held.{Held}
 use Rattle.cli_held.specs.declared.fdinfo.Held.TheVariants as holds
 use Rattle.cli_held.specs.declared.line.Hidden.{Hidden}
@@ -16,7 +18,7 @@ use Rattle.cli_held.specs.Prepared.{IsPrepared, RunsFor}
 use Rattle.cli_held.specs.Todo.{AreLeft, AreSome, AreUnder, IsHidden, IsBare, SaysNothing, texts}
 use Rattle.cli_held.specs.declared.todo.Locks.{Locks}
 use Rattle.cli_held.specs.declared.todo.Locks.TheVariants as locks
-use Rattle.cli_held.specs.internal.Asking.{AreAs, IsUnder, IsUnheld, KeepsAsking}
+use Rattle.cli_held.specs.internal.Asking.{AreAs, AsksAs, IsUnder, IsUnheld, KeepsAsking}
 
 pub when_ok : {T E : Type 0} (P Q : T → Type 0) → ((x : T) → P x → Q x) → (r : Result T E) → IfOk r P → IfOk r Q
 when_ok P Q more (Ok x) is = more x is
@@ -86,6 +88,28 @@ module _ (words left : List (List ℕ)) (only : (word : List ℕ) → Contains l
   )
   unheld_prepared unlocked never runs (Tell line) is = absurd is
   unheld_prepared unlocked never runs (Refuse done why) is = absurd is
+
+-- of a recovery all locks are held where some are
+held_all : (text : List ℕ) (file : FileId) (index : Option FileId) (under : Held) → HeldBy text Recover file index under → (under ≡ holds.Nothing → ⊥)
+    → under ≡ holds.Everything
+held_all text file index holds.Nothing is some = absurd (some refl)
+held_all text file index holds.File is some = absurd (let e : Recover ≡ Read = is.1 in cc)
+held_all text file index holds.Alone is some = absurd (let e : Recover ≡ Read = is.1 in cc)
+held_all text file None holds.Front is some = absurd is
+held_all text file (Some i) holds.Front is some = absurd (let e : Recover ≡ Read = is.1 in cc)
+held_all text file None holds.Log is some = absurd is
+held_all text file (Some i) holds.Log is some = absurd (let e : Recover ≡ Read = is.1 in cc)
+held_all text file index holds.Everything is some = refl
+
+-- words that are carried out under locks that are held ask as these do, or all others are kept off
+pub asks_held : (want : Option Want) (under : Held) (words done : List (List ℕ)) → MatchOption want (under ≡ holds.Nothing) (λ w. IsTold w under)
+    → (under ≡ holds.Nothing → ⊥) → (want ≢ Some Recover → done ≡ words) → AsksAs words done (locks.Held under)
+asks_held None under words done told some same =
+    (λ forced. inl (subst (λ (l : List (List ℕ)). Contains l (codes "--force")) (same (λ e. cc)) forced), λ e. some (cc))
+asks_held (Some Read) under words done told some same =
+    (λ forced. inl (subst (λ (l : List (List ℕ)). Contains l (codes "--force")) (same (λ e. cc)) forced), λ e. some (cc))
+asks_held (Some Recover) under words done told some same =
+    (λ forced. inr (ap locks.Held (⊎_elim (λ none. absurd (some none)) (λ tells. held_all tells.text tells.file tells.index under tells.so some) told)), λ e. some (cc))
 
 -- locks that are held are told of
 pub told_want : (want : Option Want) (under : Held) → MatchOption want (under ≡ holds.Nothing) (λ w. IsTold w under) → (under ≡ holds.Nothing → ⊥) → (w : Want) × TellsSo w under

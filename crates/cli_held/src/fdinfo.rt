@@ -14,8 +14,11 @@ use std::{fmt, str};
 pub enum Held {
     /// None.
     Nothing,
-    /// A reader's on FILE, beside which there is no FILE-shm.
+    /// A reader's on FILE, beside which there is no FILE-shm. A hot journal is current until it changes: from then on
+    /// FILE alone is the database.
     File,
+    /// The same, and no journal is current: none was hot, or somebody was about to write.
+    Alone,
     /// A reader's on FILE and on FILE-shm: FILE doesn't change, and of FILE-wal what stands up to the front that the
     /// index names; behind it somebody may write.
     Front,
@@ -86,7 +89,11 @@ pub fn told_of(
     }
     match (want, index) {
         (Want::Recover, _) => Ok(Held::Everything),
-        (Want::Read, None) => Ok(Held::File),
+        (Want::Read, None) => if tells(text, Lock::Alone, file)? {
+            Ok(Held::Alone)
+        } else {
+            Ok(Held::File)
+        },
         (Want::Read, Some(index)) => if tells(text, Lock::Writers, index)? {
             Ok(Held::Log)
         } else {

@@ -1,5 +1,6 @@
 //! What is to be done with a command line.
-ghost use Rattle.std.specs.Prelude.{◌≡◌, ◌≢◌, IfOk, IfSome, IsTrue, MatchOption, Some, false, string_bytes, unwrap_or};
+ghost use Rattle.std.specs.Prelude.{◌≡◌, ◌≢◌, ◌↔◌, IfOk, IfSome, IsTrue, MatchOption, Some, false};
+ghost use Rattle.std.specs.Prelude.{string_bytes, unwrap_or};
 ghost use Rattle.cli_held.specs.Held.{IsTold};
 ghost use Rattle.cli_held.specs.Prepared.{IsPrepared, IsToldOf, default_wait, number_of, wanting_text};
 ghost use Rattle.cli_held.specs.Todo.{AreSome, IsReason, texts};
@@ -186,6 +187,13 @@ fn asking_nobody<'a>(
     }
 }
 
+/// Whether some locks are held.
+fn are_held(held: Held) -> bool
+    ensures { IsTrue result ↔ (held ≢ Held.Nothing) }
+{
+    !matches!(held, Held::Nothing)
+}
+
 /// What is to be done with words whose locks open files of these numbers hold. Where the system doesn't say so they are
 /// carried out as without.
 fn to_run<'a, R: Files + AllocGlobal>(
@@ -197,7 +205,7 @@ fn to_run<'a, R: Files + AllocGlobal>(
     ensures { IfOk result (KeepsAsking (Some (Hidden.Held numbers.entry)) (texts words.entry.items) wait) }
 {
     match held_for(rt, words.as_slice(), numbers) {
-        Ok((want, held)) if held != Held::Nothing => Ok(Todo::Run {
+        Ok((want, held)) if are_held(held) => Ok(Todo::Run {
             words: asking_nobody(rt.alloc(), words, want)?,
             locks: Locks::Held(held),
             wait,

@@ -9,6 +9,7 @@ use Rattle.sqview.specs.LogView.{pages_of}
 use Rattle.sqview.specs.declared.view.View.{View as Shown}
 use Rattle.sqview.specs.declared.view_error.ViewError.{ViewError}
 use Rattle.sqpast.specs.Files.{PastRefusedWithin, PastViews}
+use Rattle.sqpast.specs.Used.{used_part}
 use Rattle.sqpast.specs.declared.past_error.PastError.{PastError}
 use Rattle.sqpast.specs.declared.past_error.PastError.TheVariants.{Refused}
 use Rattle.cli_show_rows.specs.Stops.{IsWriteError}
@@ -30,10 +31,14 @@ bytes_of bytes files = record { db = bytes files.db; wal = bytes files.wal; jour
 
 -- The database at a commit, of pages of this size: the one that was there, whatever was copied into the file since; at the
 -- front by the log's index, if one is named, the file with the frames up to it.
-abbrev pub ShowsAt : Files (List ℕ) → (front : Option ℕ) → (frame size : ℕ) → Database → Type 0
-ShowsAt files front frame size d =
+abbrev pub ShowsWholeAt : Files (List ℕ) → (front : Option ℕ) → (frame size : ℕ) → Database → Type 0
+ShowsWholeAt files front frame size d =
     ((front ≢ Some frame) × PastViews frame size files.db files.wal files.journal d)
     ⊎ ((front ≡ Some frame) × ViewsAt frame size files.db files.wal files.journal d)
+
+-- the pages of it that SQLite would use
+abbrev pub ShowsAt : Files (List ℕ) → (front : Option ℕ) → (frame size : ℕ) → Database → Type 0
+ShowsAt files front frame size d = (whole : Database) × ShowsWholeAt files front frame size whole × (d ≡ used_part whole)
 
 -- why there is none
 abbrev pub RefusesAt : (limits : Bounds) → Files (List ℕ) → (front : Option ℕ) → (frame : ℕ) → PastError → Type 0

@@ -1,12 +1,15 @@
 //! The files of a database, and its view at a commit.
-ghost use Rattle.std.specs.Prelude.{◌≡◌, ◌↔◌, IfOk, IsTrue, Some};
+ghost use Rattle.std.specs.Prelude.{◌≡◌, ◌↔◌, IfErr, IfOk, IsTrue, Some};
 ghost use Rattle.sqwal.specs.Took.{TookWithin};
 ghost use Rattle.sqjournal.specs.Journal.{IsHot};
+ghost use Rattle.sqview.specs.declared.view_error.ViewError.TheVariants.{NoMemory};
+ghost use Rattle.sqpast.specs.Used.{IsUsedPart};
 ghost use Rattle.cli_history.specs.History.{AnswersAt, AreGiven, bytes_of};
+ghost use Rattle.cli_history.specs.internal.Whole.{AnswersWholeAt};
 
-use sqpast::{PastError, past_before, past_of_scan};
+use sqpast::{PastError, leave_used, past_before, past_of_scan};
 use sqval::Limits;
-use sqview::{FileBytes, View};
+use sqview::{FileBytes, View, ViewError};
 use sqwal::Scan;
 use std::alloc::Global;
 
@@ -26,9 +29,10 @@ fn is_front(front: Option<u32>, frame: u32) -> bool
 }
 
 /// The view of files at a commit of their log, of which this is the scan; at 0: before the first one. At the front by
-/// the log's index, if one is named: of the file with the frames up to it. Refused by CommitOverwritten if a later
-/// checkpoint may have changed the database that was there, never at that front; otherwise as a view at a commit is.
-pub(crate) fn view_at<F: FileBytes + Copy + Drop>(
+/// the log's index, if one is named: of the file with the frames up to it. It has all pages there. Refused by
+/// CommitOverwritten if a later checkpoint may have changed the database that was there, never at that front; otherwise
+/// as a view at a commit is.
+fn whole_at<F: FileBytes + Copy + Drop>(
     alloc: Global,
     limits: Limits,
     files: Files<F>,
@@ -37,7 +41,7 @@ pub(crate) fn view_at<F: FileBytes + Copy + Drop>(
     frame: u32,
 ) -> Result<View<F>, PastError>
     ensures answer { AreGiven F.gives_bytes files → TookWithin limits.frames (F.bytes files.wal) scan.now
-        → ¬ IsHot (F.bytes files.journal) → AnswersAt limits F.bytes (bytes_of F.bytes files) front frame result }
+        → ¬ IsHot (F.bytes files.journal) → AnswersWholeAt limits F.bytes (bytes_of F.bytes files) front frame result }
     ensures still_gives { AreGiven F.gives_bytes files
         → IfOk result (λ view. F.gives_bytes view.db × F.gives_bytes view.log) }
 {
@@ -51,4 +55,41 @@ pub(crate) fn view_at<F: FileBytes + Copy + Drop>(
         return past_before(alloc, limits, files.db, files.wal, files.journal, scan);
     }
     past_of_scan(alloc, limits, files.db, files.wal, scan, frame)
+}
+
+/// Leaves of a view the pages that SQLite would use.
+fn used_of<F: FileBytes + Drop>(alloc: Global, whole: View<F>) -> Result<View<F>, ViewError>
+    ensures used { F.gives_bytes whole.db × F.gives_bytes whole.log → IfOk result (IsUsedPart F.bytes whole) }
+    ensures refused { F.gives_bytes whole.db × F.gives_bytes whole.log → IfErr result (λ error. error ≡ NoMemory) }
+    ensures still_gives { F.gives_bytes whole.db × F.gives_bytes whole.log
+        → IfOk result (λ view. F.gives_bytes view.db × F.gives_bytes view.log) }
+{
+    let mut view = whole;
+    match leave_used(alloc, &mut view) {
+        Ok(_) => Ok(view),
+        Err(error) => Err(error),
+    }
+}
+
+/// The view of files at a commit as `whole_at` gives it, of the pages that SQLite would use.
+pub(crate) fn view_at<F: FileBytes + Copy + Drop>(
+    alloc: Global,
+    limits: Limits,
+    files: Files<F>,
+    scan: &Scan,
+    front: Option<u32>,
+    frame: u32,
+) -> Result<View<F>, PastError>
+    ensures answer { AreGiven F.gives_bytes files → TookWithin limits.frames (F.bytes files.wal) scan.now
+        → ¬ IsHot (F.bytes files.journal) → AnswersAt limits F.bytes (bytes_of F.bytes files) front frame result }
+    ensures still_gives { AreGiven F.gives_bytes files
+        → IfOk result (λ view. F.gives_bytes view.db × F.gives_bytes view.log) }
+{
+    match whole_at(alloc, limits, files, scan, front, frame) {
+        Ok(whole) => match used_of(alloc, whole) {
+            Ok(view) => Ok(view),
+            Err(error) => Err(PastError::Refused(error)),
+        },
+        Err(error) => Err(error),
+    }
 }

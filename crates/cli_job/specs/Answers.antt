@@ -1,5 +1,5 @@
 -- What a command comes to, and with which status (own).
-use Rattle.std.specs.Prelude.{◌≡◌, ◌⊎◌, Bool, true, false, Option, None, Some, Result, Ok, Err, IfOk}
+use Rattle.std.specs.Prelude.{◌≡◌, ◌⊎◌, ◌&&◌, if◌then◌else◌, Bool, true, false, Option, None, Some, Result, Ok, Err, IfOk}
 use Rattle.std.specs.IoError.{error_kind}
 use Rattle.std.specs.declared.io.ErrorKind.{ErrorKind}
 use Rattle.std.specs.declared.io.ErrorKind.TheVariants.{OutOfMemory}
@@ -15,10 +15,14 @@ use Rattle.cli_show_rows.specs.declared.stop.Stop.TheVariants as stops
 use Rattle.cli_show.specs.Found.{fault_in}
 use Rattle.cli_show.specs.declared.error.ShowError.{ShowError}
 use Rattle.cli_show.specs.declared.error.ShowError.TheVariants as errors
-use Rattle.sqdeepjudge.specs.Verdicts.{is_damaged}
+use Rattle.cli_words.specs.declared.requests.Deep.{Deep}
+use Rattle.sqdeepjudge.specs.Verdicts.{is_damaged, is_in_part}
+use Rattle.sqdeepjudge.specs.declared.verdict.DeepVerdict.{DeepVerdict}
 use Rattle.cli_job.specs.declared.answers.Answer.{Answer}
 use Rattle.cli_job.specs.declared.answers.Answer.TheVariants.{Done, Damaged, Refused}
-use Rattle.cli_job.specs.declared.answers.Untold.TheVariants.{NoSuchTable, NotUnderstood}
+use Rattle.cli_job.specs.declared.answers.Untold.TheVariants.{NoSuchTable, NotUnderstood, NotJudged}
+use Rattle.cli_job.specs.declared.commands.Command.{Command}
+use Rattle.cli_job.specs.declared.commands.Command.TheVariants.{Check}
 use Rattle.cli_job.specs.declared.commands.Finding.{Finding}
 use Rattle.cli_job.specs.declared.commands.Finding.TheVariants.{Checked, Surveyed, Shown, Printed}
 
@@ -26,6 +30,17 @@ use Rattle.cli_job.specs.declared.commands.Finding.TheVariants.{Checked, Surveye
 abbrev pub answer_named : (is_damaged : Bool) → Answer
 answer_named true = Damaged
 answer_named false = Done
+
+-- What a check comes to: damage; or where all is to be judged, and something isn't that has to be, that; otherwise it is done.
+abbrev pub answer_of_check : Option Deep → DeepVerdict → Answer
+answer_of_check None verdict = answer_named (is_damaged verdict)
+answer_of_check (Some deep) verdict =
+    if deep.complete && is_in_part verdict then Refused NotJudged else answer_named (is_damaged verdict)
+
+-- which deep check a command is, if any
+abbrev pub deep_of : Command → Option Deep
+deep_of (Check asked deep) = deep
+deep_of _ = None
 
 -- a fault is damage
 abbrev pub answer_of_fault : Option CheckError → Answer
@@ -72,11 +87,11 @@ answer_of_shown (Ok front) = Ok Done
 answer_of_shown (Err error) = Err error
 
 -- what comes of what a command found
-abbrev pub answer_of_finding : {F : Type 0} → Finding F → Result Answer ShowError
-answer_of_finding (Checked found) = Ok (answer_named (is_damaged found.verdict))
-answer_of_finding (Surveyed found) = Ok (answer_of_fault (fault_in found))
-answer_of_finding (Shown shown) = answer_of_shown shown
-answer_of_finding (Printed printed) = answer_of_rows printed.ended
+abbrev pub answer_of_finding : {F : Type 0} → Command → Finding F → Result Answer ShowError
+answer_of_finding command (Checked found) = Ok (answer_of_check (deep_of command) found.verdict)
+answer_of_finding command (Surveyed found) = Ok (answer_of_fault (fault_in found))
+answer_of_finding command (Shown shown) = answer_of_shown shown
+answer_of_finding command (Printed printed) = answer_of_rows printed.ended
 
 -- a line couldn't be written, or memory for it was refused
 abbrev pub IsUntold : Result Answer ShowError → Type 0

@@ -1,9 +1,10 @@
 -- What each command finds of the files of a database.
-use Rattle.std.specs.Prelude.{◌≡◌, ℕ, Bool, true, false, List, Option, None, Result, Ok, Err, IfErr, IsSome, IsTrue, OnOk}
+use Rattle.std.specs.Prelude.{◌≡◌, ℕ, Bool, true, false, List, Option, None, is_some, Result, Ok, Err, IfErr, IsSome, IsTrue, OnOk}
 use Rattle.std.specs.Borrow.{Bor}
 use Rattle.std.specs.Io.KnownBytes.{Appends}
 use Rattle.cli_facts.specs.declared.fronts.Front.{Front}
 use Rattle.cli_facts.specs.declared.outcome.Refusal.{Refusal}
+use Rattle.cli_words.specs.declared.requests.Deep.{Deep}
 use Rattle.cli_words.specs.declared.requests.Options.{Options}
 use Rattle.cli_words.specs.declared.requests.Part.{Part}
 use Rattle.cli_words.specs.declared.requests.Part.TheVariants as parts
@@ -31,9 +32,9 @@ use Rattle.cli_job.specs.declared.commands.Finding.{Finding}
 use Rattle.cli_job.specs.declared.commands.Finding.TheVariants.{Checked, Surveyed, Shown, Printed}
 
 -- Of files that give their bytes: what a check finds, or a deep one, or why it finds nothing.
-abbrev pub ChecksFiles : {F : Type 0} → (bytes : F → List ℕ) → (gives : F → Type 0) → Asked → (deep : Bool) → Contents F → Result (Finding F) Refusal → Type 0
+abbrev pub ChecksFiles : {F : Type 0} → (bytes : F → List ℕ) → (gives : F → Type 0) → Asked → Option Deep → Contents F → Result (Finding F) Refusal → Type 0
 ChecksFiles bytes gives asked deep files (Ok (Checked found)) = AreGiven gives files
-    → IsFoundAs deep asked.maps.pointer_maps asked.limits asked.at (bytes files.db) (bytes files.wal) (bytes files.journal) found.verdict
+    → IsFoundAs (is_some deep) asked.maps.pointer_maps asked.limits asked.at (bytes files.db) (bytes files.wal) (bytes files.journal) found.verdict
 ChecksFiles bytes gives asked deep files (Ok _) = ⊥
 ChecksFiles bytes gives asked deep files (Err refusal) = AreGiven gives files
     → IsNotFound asked.maps.pointer_maps asked.limits asked.at (bytes files.db) (bytes files.wal) (bytes files.journal) refusal

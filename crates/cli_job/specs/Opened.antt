@@ -35,9 +35,10 @@ AreAllOpened paths said front found files = IsOpenedAt files.db paths.db (metada
     × (front ≡ Some 0 → IsMissing files.wal × IsMissing files.journal)
     × (front ≢ Some 0 → AreLogsOf paths said found files.wal files.journal)
 
--- They were; or where the logs alone are wanted these were.
+-- They were; or where the logs alone are wanted these were, at front 0 no journal beside no write-ahead log.
 abbrev pub AreWanted : {F : Type 0} → (only_logs : Bool) → Paths → Option SuperJournal → (front : Option ℕ) → Beheld → Contents (OpenedFile F) → Type 0
 AreWanted true paths said front found files = IsMissing files.db × AreLogsOf paths said found files.wal files.journal
+    × (front ≡ Some 0 → IsMissing files.wal → IsMissing files.journal)
 AreWanted false paths said front found files = AreAllOpened paths said front found files
 
 -- The files that the system found at these paths, which are regular ones.

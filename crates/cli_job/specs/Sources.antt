@@ -3,7 +3,7 @@ use Rattle.std.specs.Prelude.{◌≡◌, ◌≤◌, ℕ, Option, Some, None, ◌
 use Rattle.cli_job.specs.declared.sources.Extent.{Extent}
 use Rattle.cli_job.specs.declared.sources.Extent.TheVariants.{One, Several, Log}
 use Rattle.cli_job.specs.declared.sources.Watch.{Watch}
-use Rattle.cli_job.specs.declared.sources.Watch.TheVariants.{Dated, Undated, Still, Indexed}
+use Rattle.cli_job.specs.declared.sources.Watch.TheVariants.{Dated, Undated, Alone, Still, Indexed}
 use Rattle.std.specs.Borrow.{Bor}
 use Rattle.std.specs.Duration.{as_nanos}
 use Rattle.std.specs.Option.{option_map_or}
@@ -22,11 +22,12 @@ use Rattle.cli_job.specs.declared.sources.Before.{Before}
 use Rattle.cli_job.specs.declared.sources.Before.TheVariants as readings
 use Rattle.cli_job.specs.declared.sources.Source.{Source}
 
--- the front of the log that is read under this watch: by an index that is watched the one that it named first, and none
--- where files are watched by what they are
+-- the front of the log that is read under this watch: by an index that is watched the one that it named first, 0 where the
+-- file alone is the database, and none where files are watched by what they are
 abbrev pub IsFrontUnder : Watch → (front : Option ℕ) → Type 0
 IsFrontUnder Dated front = front ≡ None
 IsFrontUnder Undated front = front ≡ None
+IsFrontUnder Alone front = front ≡ Some 0
 IsFrontUnder Still front = Unit {0}
 IsFrontUnder (Indexed head) front = front ≡ Some head.frames
 
@@ -36,8 +37,10 @@ IsWithin None front = Unit {0}
 IsWithin (Some m) None = Unit {0}
 IsWithin (Some m) (Some front) = m ≤ front
 
--- all of a log is read to its end; otherwise one to the front under this watch, and the commit that is asked for is within
+-- all of a log is read to its end, and none where the file alone is the database; otherwise one to the front under this
+-- watch, and the commit that is asked for is within
 abbrev pub IsReadTo : Extent → (asked : Option ℕ) → Watch → (front : Option ℕ) → Type 0
+IsReadTo Log asked Alone front = front ≡ Some 0
 IsReadTo Log asked watch front = front ≡ None
 IsReadTo One asked watch front = IsFrontUnder watch front × IsWithin asked front
 IsReadTo Several asked watch front = IsFrontUnder watch front × IsWithin asked front
@@ -47,6 +50,7 @@ IsReadTo Several asked watch front = IsFrontUnder watch front × IsWithin asked 
 abbrev pub IsWatchFor : Extent → (asked : Option ℕ) → Watch → Type 0
 IsWatchFor extent asked Dated = Unit {0}
 IsWatchFor extent asked Undated = Unit {0}
+IsWatchFor extent asked Alone = Unit {0}
 IsWatchFor extent asked Still = Unit {0}
 IsWatchFor extent asked (Indexed head) = (extent ≡ One) × (asked ≡ None)
 
@@ -77,17 +81,20 @@ abbrev pub IsWaitFor : Option Before → (wait : ℕ) → Type 0
 IsWaitFor (Some (readings.Dated before)) wait = (now : Option Duration) × (wait ≡ option_map_or (λ d. longest_left (as_nanos d) before) now tick)
 IsWaitFor _ wait = wait ≡ 0
 
--- Files are taken to stay as they are only under locks that keep writers off them, or off the log up to a front, and dates pass
--- unseen only under those on FILE alone.
-abbrev pub IsWatchUnder : Locks → Watch → Type 0
-IsWatchUnder under Still = (under ≡ locks.Held held.Log) ⊎ (under ≡ locks.Held held.Everything) ⊎ (under ≡ locks.Held held.Front)
-IsWatchUnder under Undated = under ≡ locks.Held held.File
-IsWatchUnder under Dated = Unit {0}
-IsWatchUnder under (Indexed head) = Unit {0}
+-- Files are taken to stay as they are only under locks that keep writers off them, or off the log up to a front; and dates
+-- pass unseen only under those on FILE alone, beside which a journal is current. Where it is told that none is, the file alone
+-- is the database, and only what is shown of all of a log may be a journal that isn't hot.
+abbrev pub IsWatchUnder : Locks → Extent → Watch → Type 0
+IsWatchUnder under extent Still = (under ≡ locks.Held held.Log) ⊎ (under ≡ locks.Held held.Everything) ⊎ (under ≡ locks.Held held.Front)
+IsWatchUnder under extent Undated = (under ≡ locks.Held held.File) ⊎ ((under ≡ locks.Held held.Alone) × (extent ≡ Log))
+IsWatchUnder under extent Alone = under ≡ locks.Held held.Alone
+IsWatchUnder under extent Dated = Unit {0}
+IsWatchUnder under extent (Indexed head) = Unit {0}
 
 -- what is known of files that are watched so before they are read: nothing is looked at of those that stay as they are
 abbrev pub IsBefore : Watch → Option Before → Type 0
 IsBefore Still before = before ≡ None
+IsBefore Alone before = before ≡ None
 IsBefore Dated before = (now : Readings) × (before ≡ Some (readings.Dated now))
 IsBefore Undated before = (now : Readings) × (before ≡ Some (readings.Undated now))
 IsBefore (Indexed head) before = before ≡ Some (readings.Indexed head)

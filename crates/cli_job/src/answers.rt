@@ -1,7 +1,9 @@
 //! What a command comes to.
 ghost use Rattle.std.specs.Prelude.{◌≡◌};
-ghost use Rattle.cli_job.specs.Answers.{answer_named};
+ghost use Rattle.cli_job.specs.Answers.{answer_named, answer_of_check};
 
+use cli_words::Deep;
+use sqdeepjudge::DeepVerdict;
 use thiserror::Error;
 
 /// What a command comes to.
@@ -14,7 +16,7 @@ pub enum Answer {
     Refused(Untold),
 }
 
-/// Why rows are refused behind what was printed.
+/// Why a command is refused behind what was printed.
 #[derive(Clone, Copy, Debug, PartialEq, Eq, Error)]
 pub enum Untold {
     #[error("no such table")]
@@ -22,6 +24,9 @@ pub enum Untold {
     /// Why was noted.
     #[error("not understood")]
     NotUnderstood,
+    /// The database is sound, but something isn't judged, and all was to be. What it is was noted.
+    #[error("not judged")]
+    NotJudged,
 }
 
 impl Answer {
@@ -33,6 +38,19 @@ impl Answer {
             Answer::Damaged
         } else {
             Answer::Done
+        }
+    }
+
+    /// That of a check, by what it found: where all was to be judged, refused by `NotJudged` if a database is sound of
+    /// which something isn't.
+    pub fn of_check(deep: Option<Deep>, verdict: &DeepVerdict) -> Answer
+        ensures { result ≡ answer_of_check deep verdict.now }
+    {
+        match deep {
+            Some(Deep { complete: true }) if verdict.is_in_part() => {
+                Answer::Refused(Untold::NotJudged)
+            }
+            _ => Answer::of(verdict.is_damaged()),
         }
     }
 }

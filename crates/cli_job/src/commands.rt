@@ -4,6 +4,7 @@ ghost use Rattle.cli_show.specs.Contents.{AreGiven, contents_of};
 ghost use Rattle.cli_show.specs.Errors.{IfRefused};
 ghost use Rattle.cli_job.specs.Commands.{ChecksFiles, Finds, IsDamage, IsPartShown, IsPartUnshown, PrintsRows};
 ghost use Rattle.cli_job.specs.Commands.{IsFoundAt, PrintsDeleted, PrintsPlaces, SurveysFiles, prints_meanwhile};
+ghost use Rattle.cli_job.specs.Answers.{deep_of};
 ghost use Rattle.cli_job.specs.Opened.{reads_logs};
 
 use cli_dump::{Printed, Wanted, show_deleted, show_places, show_rows};
@@ -13,7 +14,7 @@ use cli_show::{
     show_whole_log, survey_files,
 };
 use cli_show_deep::{DeepFinding, judged_as};
-use cli_words::{Options, Part};
+use cli_words::{Deep, Options, Part};
 use sqview::FileBytes;
 use std::alloc::Global;
 use std::io::Write;
@@ -25,7 +26,7 @@ const PIECE: usize = 32_768;
 #[derive(Clone, Copy, Debug)]
 pub enum Command<'a> {
     /// A check; deep: also of what the pages hold.
-    Check { asked: Asked, deep: bool },
+    Check { asked: Asked, deep: Option<Deep> },
     /// What each page is used for.
     Pages(Asked),
     /// Another part.
@@ -86,6 +87,16 @@ impl Command<'_> {
             },
             Command::Rows(_) | Command::Places(_) => Wants::UNCOUNTED,
             Command::Deleted { .. } => Wants::PAGES,
+        }
+    }
+
+    /// Which deep check it is, if it is one.
+    pub fn deep(&self) -> Option<Deep>
+        ensures { result ≡ deep_of self.entry.now }
+    {
+        match self {
+            Command::Check { deep, .. } => *deep,
+            _ => None,
         }
     }
 
@@ -152,13 +163,13 @@ pub(crate) fn find<F: FileBytes + Drop, W: Write>(
 fn checked<F: FileBytes + Drop>(
     alloc: Global,
     asked: Asked,
-    deep: bool,
+    deep: Option<Deep>,
     files: Contents<F>,
 ) -> Result<Finding<F>, Refusal>
     ensures { ChecksFiles F.bytes F.gives_bytes asked deep files result }
 {
     let Contents { db, wal, journal } = files;
-    match judged_as(alloc, asked, deep, db, wal, journal) {
+    match judged_as(alloc, asked, deep.is_some(), db, wal, journal) {
         Ok(found) => Ok(Finding::Checked(found)),
         Err(refusal) => Err(refusal),
     }

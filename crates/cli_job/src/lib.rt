@@ -10,6 +10,7 @@ mod metered;
 mod opening;
 mod outputs;
 mod sources;
+mod twice;
 
 pub use answers::{Answer, Untold};
 pub use attempts::{Begun, Until};
@@ -18,4 +19,5 @@ pub use jobs::{Counted, Job};
 pub use metered::{Metered, all_ahead, all_metered, both_ahead};
 pub use opening::{open_all, open_seen};
 pub use outputs::{judge_name, kept, named};
-pub use sources::{Before, Extent, Source, Watch, alone, source_of, wait_for};
+pub use sources::{Before, Extent, Source, Watch, alone, before_of, source_of, wait_for};
+pub use twice::{Again, Given, WhileSame};

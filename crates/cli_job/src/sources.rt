@@ -8,7 +8,8 @@ ghost use Rattle.cli_job.specs.internal.Watches.{AreUndated, IsUndated, StandsYe
 
 use cli_facts::{Front, Notes, Reading, Readings, Refusal, SystemFile, read_or_zeros, unchanged};
 use cli_files::{
-    Paths, as_before, is_index_live, look_at, paths_of, readings_of, time_to_wait, told,
+    Paths, as_before, is_index_live, is_journal_hot, look_at, paths_of, readings_of, time_to_wait,
+    told,
 };
 use cli_held::{Held, Locks, frames_named};
 use cli_words::Options;
@@ -42,6 +43,8 @@ pub enum Watch {
     /// By what they are before and afterwards, but for when they were changed: an opening may give a journal its owner.
     /// The database file can't be changed; where its journal is, a writer is alive, and that file is the database.
     Undated,
+    /// Not at all: the database file alone is the database, and can't be changed. No journal is current.
+    Alone,
     /// By the index of the log, which a live connection keeps: up to the front that it named first, the log and what is
     /// read of the database file stay until the log is begun anew, or frames behind that front are to be copied.
     Indexed(IndexHead),
@@ -150,23 +153,38 @@ where
     look_at(rt, paths.wal.as_str()).is_ok() || names_log(rt, paths.db.as_str()).unwrap_or(true)
 }
 
-/// How files are watched under these locks, and the front of the log that its index names, where it is needed.
+/// Whether no connection that comes might use a write-ahead log, and no journal is hot.
+fn has_cold_journal<R: Files>(rt: &R, paths: &Paths) -> bool
+where
+    R::File: SystemFile,
+{
+    !may_have_log(rt, paths) && !is_journal_hot(rt, paths)
+}
+
+/// How files are watched under these locks, and the front of the log that its index names, where it is needed. Where no
+/// journal is current, the file alone is the database; one that isn't hot is shown with all of a log, and is watched.
 fn watch_under<R: Files + Clock, E: Write>(
     rt: &R,
     paths: &Paths,
-    locks: Locks,
+    of: (Extent, Locks),
     notes: &mut Notes<'_, E>,
 ) -> Result<(Watch, Option<u32>), Refusal>
 where
     R::File: SystemFile,
     ensures under { IfOk result (λ found. IsFrontUnder found.0 found.1) }
-    ensures watch { IfOk result (λ found. IsWatchUnder locks found.0) }
+    ensures watch { IfOk result (λ found. IsWatchUnder of.1 of.0 found.0) }
     ensures refused { IfErr result (λ refusal. (refusal ≡ Refusal.InUse) ⊎ IsFromSystem refusal) }
 {
-    match locks {
-        Locks::Held(Held::Log | Held::Everything) => Ok((Watch::Still, None)),
-        Locks::Held(Held::Front) => Ok((Watch::Still, Some(front_by_index(rt, paths, notes)?))),
-        Locks::Held(Held::File) if !may_have_log(rt, paths) => Ok((Watch::Undated, None)),
+    match of {
+        (_, Locks::Held(Held::Log | Held::Everything)) => Ok((Watch::Still, None)),
+        (_, Locks::Held(Held::Front)) => {
+            Ok((Watch::Still, Some(front_by_index(rt, paths, notes)?)))
+        }
+        (_, Locks::Held(Held::File)) if !may_have_log(rt, paths) => Ok((Watch::Undated, None)),
+        (Extent::Log, Locks::Held(Held::Alone)) if has_cold_journal(rt, paths) => {
+            Ok((Watch::Undated, None))
+        }
+        (_, Locks::Held(Held::Alone)) if !may_have_log(rt, paths) => Ok((Watch::Alone, Some(0))),
         _ => match live_head(rt, paths) {
             Some(head) => Ok((Watch::Indexed(head), Some(head.frames))),
             None => Ok((Watch::Dated, None)),
@@ -193,7 +211,8 @@ fn reads_past(extent: Extent, asked: Option<u32>) -> bool
 }
 
 /// How files are watched for a reading, and up to which front their log is read. Of all of a log, which may change
-/// where it may be begun anew, no front is taken; and where earlier commits are read, an index isn't enough. Refused by
+/// where it may be begun anew, no front is taken, but where the file alone is the database; and where earlier commits
+/// are read, an index isn't enough. Refused by
 /// `NoSuchCommit` where the commit that is asked for is behind the front.
 fn read_to(
     extent: Extent,
@@ -208,6 +227,7 @@ fn read_to(
     let (watch, front) = of;
     match (extent, watch) {
         (Extent::Log, Watch::Still) if front != Some(0) => Ok((Watch::Still, None)),
+        (Extent::Log, Watch::Undated | Watch::Alone) => Ok((watch, front)),
         (Extent::Log, _) => Ok((Watch::Dated, None)),
         (_, Watch::Indexed(_)) if reads_past(extent, asked) => Ok((Watch::Dated, None)),
         _ if is_behind(asked, front) => Err(Refusal::NoSuchCommit),
@@ -228,12 +248,12 @@ pub fn source_of<'a, R: Files + AllocGlobal + Clock, E: Write>(
 where
     R::File: SystemFile,
     ensures source { IfOk result (IsSourceOf of.entry.0 of.entry.1 extent) }
-    ensures watch { IfOk result (λ source. IsWatchUnder locks source.watch) }
+    ensures watch { IfOk result (λ source. IsWatchUnder locks extent source.watch) }
     ensures refused { IfErr result (IsUnsourced of.entry.1.at) }
 {
     let (file, options) = of;
     let paths = paths_of(rt, file, notes)?;
-    let under = watch_under(rt, &paths, locks, notes)?;
+    let under = watch_under(rt, &paths, (extent, locks), notes)?;
     match read_to(extent, options.at, under) {
         Ok((watch, front)) => Ok(Source {
             file,
@@ -279,7 +299,7 @@ pub enum Before {
 
 /// What the files are now; none where they stay so. Where only the logs are read, the database file needn't be
 /// readable.
-pub(crate) fn before_of<R: Files, E: Write>(
+pub fn before_of<R: Files, E: Write>(
     rt: &R,
     paths: &Paths,
     watch: Watch,
@@ -292,7 +312,7 @@ where
     ensures refused { IfErr result IsFromSystem }
 {
     match watch {
-        Watch::Still => Ok(None),
+        Watch::Still | Watch::Alone => Ok(None),
         Watch::Dated => Ok(Some(Before::Dated(readings_of(rt, paths, only_logs, notes)?))),
         Watch::Undated => Ok(Some(Before::Undated(readings_of(rt, paths, only_logs, notes)?))),
         Watch::Indexed(head) => Ok(Some(Before::Indexed(head))),

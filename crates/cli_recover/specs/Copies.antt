@@ -27,7 +27,7 @@ use Rattle.cli_show.specs.Contents.{AreGiven}
 use Rattle.cli_show.specs.Errors.{IfRefused}
 use Rattle.cli_show.specs.Limits.{limits_named}
 use Rattle.cli_show.specs.Logs.{ReplayFound}
-use Rattle.cli_show.specs.Views.{AskedShows}
+use Rattle.cli_show.specs.Views.{WholeShows}
 use Rattle.cli_show.specs.declared.contents.Contents.{Contents}
 use Rattle.cli_show.specs.declared.error.ShowError.{ShowError}
 use Rattle.cli_job.specs.Opened.{AreOpenedFor, IsUnopenedFor}
@@ -53,7 +53,7 @@ ArePages d pages text = (length d ≡ pages) × (text ≡ concat d)
 abbrev pub HasFold : (front : Option ℕ) → (size : ℕ) → (db wal journal : List ℕ) → Outcome → (text : List ℕ) → Type 0
 HasFold front size db wal journal outcomes.NoFront text = (front ≡ None) × IsFront size wal 0 × (text ≡ db)
 HasFold front size db wal journal (outcomes.Folded frames pages) text =
-    IsFoldedTo front size wal frames × (d : Database) × AskedShows (commit_of None front) size db wal journal d × ArePages d pages text
+    IsFoldedTo front size wal frames × (d : Database) × WholeShows (commit_of None front) size db wal journal d × ArePages d pages text
 HasFold front size db wal journal _ text = ⊥
 
 -- Of a hot journal that is replayed: the pages of the database that it restores.

@@ -31,7 +31,7 @@ use cli_job::{
     Answer, Before, Job, Metered, all_ahead, all_metered, both_ahead, judge_name, kept, open_seen,
     wait_for,
 };
-use cli_show::{Contents, ShowError, limits_of, replayed, view_of};
+use cli_show::{Contents, ShowError, limits_of, replayed, whole_view_of};
 use cli_words::{Commit, Options};
 use sqpage::PageSource;
 use sqval::Limits;
@@ -268,7 +268,7 @@ fn at_commit<'a, F: FileBytes + Drop, M: Count>(
         (F.bytes files.entry.journal.file)) }
 {
     let Contents { db, wal, journal } = all_ahead(alloc, files, PIECE)?;
-    match view_of(alloc, limits, db, wal, journal, Commit::At(frame)) {
+    match whole_view_of(alloc, limits, db, wal, journal, Commit::At(frame)) {
         Ok(view) => {
             let pages = view.count();
             Ok((folded_as(frame, pages), Content::Pages(view)))
@@ -427,7 +427,7 @@ fn rolled_back<'a, F: FileBytes + Drop, M: Count>(
     let mut files = files;
     let records = replayed(alloc, &mut files.journal)?.count();
     let Contents { db, wal, journal } = all_ahead(alloc, files, PIECE)?;
-    match view_of(alloc, limits, db, wal, journal, Commit::Last) {
+    match whole_view_of(alloc, limits, db, wal, journal, Commit::Last) {
         Ok(view) => {
             let pages = view.count();
             Ok((Outcome::RolledBack { records, pages }, Content::Pages(view)))

@@ -1,5 +1,5 @@
 -- What a diff comes to, by what was shown of the files that were opened for it.
-use Rattle.std.proofs.Common.{◌≡◌, ◌⊎◌, inl, inr, ⊎_elim, ℕ, Bool, true, false, List, Option, sym, subst}
+use Rattle.std.proofs.Common.{◌≡◌, ◌⊎◌, inl, inr, ⊎_elim, ℕ, Bool, true, false, List, Option, map, sym, subst}
 use Rattle.std.specs.Prelude.{Result, Ok, Err, IfErr, IfOk, IsErrAnd}
 use Rattle.cli_words.specs.declared.requests.Between.{Between}
 use Rattle.cli_words.specs.declared.requests.Compared.{Compared}
@@ -12,16 +12,19 @@ use Rattle.cli_files.specs.Refusals.{IsFromWatch}
 use Rattle.cli_files.specs.declared.opened_file.OpenedFile.{OpenedFile}
 use Rattle.cli_show.specs.Contents.{AreGiven, AreUnread, contents_of}
 use Rattle.cli_show.specs.declared.contents.Contents.{Contents}
+use Rattle.sqval.specs.Limits.{Bounds}
+use Rattle.cli_show.specs.Limits.{limits_named}
+use Rattle.cli_dump.specs.Begins.{IsFirstCommit, IsNoFirstCommit}
 use Rattle.cli_dump.specs.Changes.{AreChangesShown, IsUncompared}
 use Rattle.cli_dump.specs.DeletedChanges.{AreDeletedChangesShown, IsUnbetween}
 use Rattle.cli_dump.specs.History.{IsHistoryRefused, IsHistoryShown}
 use Rattle.cli_dump.specs.declared.rows.Printed.{Printed}
 use Rattle.cli_job.specs.Opened.{AreOpenedFor}
 use Rattle.cli_job.specs.declared.sources.Source.{Source}
-use Rattle.cli_report.specs.Diffs.{ComparesOpened, Diffs, FollowsOpened, RowsOpened, ShowsBetween, ShowsChanges, ShowsDeleted, ShowsHistory, lent_bytes}
+use Rattle.cli_report.specs.Diffs.{ComparesOpened, Diffs, DiffsFrom, FirstOpened, FollowsOpened, IsFirstUnopened, IsUndiffed, IsUnwritten, NamesFrom, RowsOpened, ShowsBetween, ShowsChanges, ShowsDeleted, ShowsHistory, lent_bytes}
 use Rattle.cli_report.specs.internal.Diffs.{AreNew, Compares, files_ahead}
 use Rattle.cli_report.specs.declared.difference.Difference.{Difference}
-use Rattle.cli_report.specs.declared.difference.Difference.TheVariants.{Rows}
+use Rattle.cli_report.specs.declared.difference.Difference.TheVariants.{Rows, Deleted}
 
 -- what holds of an answer, for what follows from that
 pub if_ok : {A E : Type 0} {P Q : A → Type 0} (answer : Result A E) → ((value : A) → P value → Q value) → IfOk answer P → IfOk answer Q
@@ -68,15 +71,55 @@ module _ (options : Options) (from to : Contents (List ℕ)) (before after : Opt
   deleted_shown between (Err refusal) _ is = is
 
 module _ {F : Type 0} (bytes : OpenedFile F → List ℕ) (gives : OpenedFile F → Type 0) (source : Source) where
+  -- it is refused before anything is compared
+  pub from_undiffed : (difference : Difference) (refusal : Refusal) → IsUndiffed bytes gives source refusal → DiffsFrom bytes gives source difference (Err refusal)
+  from_undiffed (Rows compared) refusal is = inr (inr (inl is))
+  from_undiffed (Deleted between) refusal is = inr is
+
+  pub from_refused : (difference : Difference) (found : Result Printed Refusal) → IsErrAnd found (IsUndiffed bytes gives source)
+      → DiffsFrom bytes gives source difference found
+  from_refused difference (Ok printed) is = absurd is
+  from_refused difference (Err refusal) is = from_undiffed difference refusal is
+
   -- what was shown stands, or the watch refuses it
-  pub diffs_stand : (difference : Difference) (found answer : Result Printed Refusal) → Diffs bytes gives source difference found
-      → (answer ≡ found) ⊎ IsErrAnd answer IsFromWatch → Diffs bytes gives source difference answer
-  diffs_stand difference found answer diffs =
-      ⊎_elim (λ e. subst (λ (r : Result Printed Refusal). Diffs bytes gives source difference r) (sym e) diffs) (watched answer)
+  pub from_stands : (difference : Difference) (found answer : Result Printed Refusal) → DiffsFrom bytes gives source difference found
+      → (answer ≡ found) ⊎ IsErrAnd answer IsFromWatch → DiffsFrom bytes gives source difference answer
+  from_stands difference found answer diffs =
+      ⊎_elim (λ e. subst (λ (r : Result Printed Refusal). DiffsFrom bytes gives source difference r) (sym e) diffs) (watched answer)
     where
-      watched : (answer : Result Printed Refusal) → IsErrAnd answer IsFromWatch → Diffs bytes gives source difference answer
+      watched : (answer : Result Printed Refusal) → IsErrAnd answer IsFromWatch → DiffsFrom bytes gives source difference answer
       watched (Ok printed) is = absurd is
-      watched (Err refusal) is = inr (inr is)
+      watched (Err refusal) is = from_undiffed difference refusal (inr is)
+
+  -- those of rows, from the first commit that is known, or why it isn't found
+  module _ (compared : Compared) (unnamed : ¬ NamesFrom (map (λ w. w.now) compared.tables.options.now)) where
+    pub from_first : (found : Result Printed Refusal) (first : ℕ) → FirstOpened bytes gives source first → Diffs bytes gives source (Rows (record compared { from = first })) found
+        → DiffsFrom bytes gives source (Rows compared) found
+    from_first found first opened diffs = inr (inl (unnamed, (first, (opened, inl diffs))))
+
+    pub from_unwritten : (printed : Printed) (first : ℕ) → FirstOpened bytes gives source first → IsUnwritten printed → DiffsFrom bytes gives source (Rows compared) (Ok printed)
+    from_unwritten printed first opened failed = inr (inl (unnamed, (first, (opened, inr failed))))
+
+  pub from_unfound : (compared : Compared) (refusal : Refusal) → IsUndiffed bytes gives source refusal ⊎ IsFirstUnopened bytes gives source refusal
+      → DiffsFrom bytes gives source (Rows compared) (Err refusal)
+  from_unfound compared refusal is = inr (inr is)
+
+  -- the first commit that is known, of files that were opened
+  module _ (limits : Bounds) (same : limits ≡ limits_named source.options.large) (files : Contents (OpenedFile F)) (opened : AreOpenedFor false source files) where
+    pub first_opened : (found : Result ℕ Refusal) → (AreGiven gives files → IfOk found (IsFirstCommit limits (lent_bytes (contents_of bytes files))))
+        → IfOk found (FirstOpened bytes gives source)
+    first_opened (Ok first) is =
+        record { files = files; opened = opened; begins = λ given. subst (λ (l : Bounds). IsFirstCommit l (lent_bytes (contents_of bytes files)) first) same (is given) }
+    first_opened (Err _) is = tt
+
+    pub first_unopened : (found : Result ℕ Refusal) → (AreGiven gives files → IfErr found (IsNoFirstCommit limits (lent_bytes (contents_of bytes files))))
+        → IfErr found (λ refusal. IsUndiffed bytes gives source refusal ⊎ IsFirstUnopened bytes gives source refusal)
+    first_unopened (Ok _) is = tt
+    first_unopened (Err refusal) is = inr (record {
+      files = files;
+      opened = opened;
+      none = λ given. subst (λ (l : Bounds). IsNoFirstCommit l (lent_bytes (contents_of bytes files)) refusal) same (is given);
+    })
 
   -- the changes of each commit
   pub follows : (compared : Compared) (files : Contents (OpenedFile F)) (found : Result Printed Refusal) (before after : Option (List ℕ)) → AreOpenedFor false source files

@@ -2,3 +2,4 @@ pub mod DiffsOfFiles
 pub mod PagesWhole
 pub mod ReportsOfFiles
 pub mod ScriptsOfFound
+pub mod WordsOfDiff

@@ -1,16 +1,21 @@
 -- What a diff comes to, by the changes of the files that were opened for it (own).
-use Rattle.std.specs.Prelude.{◌⊎◌, ℕ, Bool, true, false, List, Option, Result, Ok, Err, IsErrAnd}
+use Rattle.std.specs.Prelude.{◌≢◌, ◌⊎◌, ℕ, Bool, true, false, List, map, codes, Contains, Option, Result, Ok, Err, IsOkAnd, IsErrAnd}
+use Rattle.cli_words.specs.Line.{IsNamed}
 use Rattle.cli_words.specs.declared.requests.Between.{Between}
 use Rattle.cli_words.specs.declared.requests.Compared.{Compared}
 use Rattle.cli_words.specs.declared.requests.Options.{Options}
 use Rattle.cli_facts.specs.declared.outcome.Refusal.{Refusal}
+use Rattle.cli_facts.specs.declared.outcome.Refusal.TheVariants.{CommitOverwritten}
 use Rattle.cli_files.specs.Refusals.{IsFromWatch}
 use Rattle.cli_files.specs.declared.opened_file.OpenedFile.{OpenedFile}
 use Rattle.cli_show.specs.Contents.{AreGiven, contents_of}
+use Rattle.cli_show.specs.Limits.{limits_named}
 use Rattle.cli_show.specs.declared.contents.Contents.{Contents}
 use Rattle.cli_show.specs.declared.error.ShowError.{ShowError}
 use Rattle.cli_show.specs.declared.error.ShowError.TheVariants as errors
+use Rattle.cli_show_rows.specs.Stops.{IsWriteError}
 use Rattle.cli_history.specs.declared.files.Files.{Files}
+use Rattle.cli_dump.specs.Begins.{IsFirstCommit, IsNoFirstCommit}
 use Rattle.cli_dump.specs.Changes.{AreChangesShown, IsUncompared}
 use Rattle.cli_dump.specs.DeletedChanges.{AreDeletedChangesShown, IsUnbetween}
 use Rattle.cli_dump.specs.History.{IsHistoryRefused, IsHistoryShown}
@@ -82,6 +87,46 @@ IsUndiffed bytes gives source refusal = IsUnopenedFor bytes gives source refusal
 abbrev pub Diffs : {F : Type 0} → (bytes : OpenedFile F → List ℕ) → (gives : OpenedFile F → Type 0) → Source → Difference → Result Printed Refusal → Type 0
 Diffs bytes gives source difference found = DiffsOpened bytes gives source difference found ⊎ IsErrAnd found (IsUndiffed bytes gives source)
 
+-- the words name a commit to begin at
+abbrev pub NamesFrom : (words : List (List ℕ)) → Type 0
+NamesFrom words = (word : List ℕ) × Contains words word × IsNamed (codes "--from") word
+
+-- the first commit that is known, of files that were opened for a source
+pub record FirstOpened {F : Type 0} (bytes : OpenedFile F → List ℕ) (gives : OpenedFile F → Type 0) (source : Source) (first : ℕ) : Type 0 where
+  pub files : Contents (OpenedFile F)
+  pub opened : AreOpenedFor false source files
+  pub begins : AreGiven gives files → IsFirstCommit (limits_named source.options.large) (lent_bytes (contents_of bytes files)) first
+
+-- it isn't found of such files
+pub record IsFirstUnopened {F : Type 0} (bytes : OpenedFile F → List ℕ) (gives : OpenedFile F → Type 0) (source : Source) (refusal : Refusal) : Type 0 where
+  pub files : Contents (OpenedFile F)
+  pub opened : AreOpenedFor false source files
+  pub none : AreGiven gives files → IsNoFirstCommit (limits_named source.options.large) (lent_bytes (contents_of bytes files)) refusal
+
+-- they begin at the commit that the words name, or at 0, if that isn't refused as overwritten, or is the first one that is
+-- known
+abbrev pub MayBegin : {F : Type 0} → (bytes : OpenedFile F → List ℕ) → (gives : OpenedFile F → Type 0) → Source → Compared → Result Printed Refusal → Type 0
+MayBegin bytes gives source compared found =
+    NamesFrom (map (λ w. w.now) compared.tables.options.now) ⊎ (found ≢ Err CommitOverwritten) ⊎ FirstOpened bytes gives source 0
+
+-- the writer failed
+abbrev pub IsUnwritten : Printed → Type 0
+IsUnwritten printed = IsErrAnd printed.ended IsWriteError
+
+-- those of rows begin at the first commit that is known, behind a line that says so; or the writer failed at it
+abbrev pub BeginsAt : {F : Type 0} → (bytes : OpenedFile F → List ℕ) → (gives : OpenedFile F → Type 0) → Source → Compared → (first : ℕ) → Result Printed Refusal → Type 0
+BeginsAt bytes gives source compared first found =
+    FirstOpened bytes gives source first × (Diffs bytes gives source (Rows (record compared { from = first })) found ⊎ IsOkAnd found IsUnwritten)
+
+-- What is printed of the changes of a database. If the words name no commit, and 0 is refused as overwritten, those of
+-- rows begin at the first commit that is known; or this is why that isn't found.
+abbrev pub DiffsFrom : {F : Type 0} → (bytes : OpenedFile F → List ℕ) → (gives : OpenedFile F → Type 0) → Source → Difference → Result Printed Refusal → Type 0
+DiffsFrom bytes gives source (Deleted between) found = Diffs bytes gives source (Deleted between) found
+DiffsFrom bytes gives source (Rows compared) found =
+    (Diffs bytes gives source (Rows compared) found × MayBegin bytes gives source compared found)
+    ⊎ ((¬ NamesFrom (map (λ w. w.now) compared.tables.options.now)) × ((first : ℕ) × BeginsAt bytes gives source compared first found))
+    ⊎ IsErrAnd found (λ refusal. IsUndiffed bytes gives source refusal ⊎ IsFirstUnopened bytes gives source refusal)
+
 -- what comes of it
 abbrev pub answer_of_printed : Result Printed Refusal → Result Answer ShowError
 answer_of_printed (Ok printed) = answer_of_rows printed.ended
@@ -90,4 +135,4 @@ answer_of_printed (Err refusal) = Err (errors.Refused refusal)
 -- What is told of a diff is what comes of its changes.
 abbrev pub DiffsTo : {F : Type 0} → (bytes : OpenedFile F → List ℕ) → (gives : OpenedFile F → Type 0) → Source → Difference → Result Answer ShowError → Type 0
 DiffsTo bytes gives source difference answer =
-    (found : Result Printed Refusal) × Diffs bytes gives source difference found × Tells (answer_of_printed found) answer
+    (found : Result Printed Refusal) × DiffsFrom bytes gives source difference found × Tells (answer_of_printed found) answer

@@ -1,23 +1,28 @@
 //! What `diff` prints.
-ghost use Rattle.std.specs.Prelude.{◌≡◌, IfErr, IfOk, false, true};
+ghost use Rattle.std.specs.Prelude.{◌≡◌, ◌⊎◌, ◌↔◌, IfErr, IfOk, IsTrue, codes, false, map, true};
+ghost use Rattle.cli_words.specs.Line.{IsNamed};
 ghost use Rattle.cli_files.specs.Files.{opened_bytes};
 ghost use Rattle.cli_job.specs.Opened.{AreOpenedFor, GivesBytes, IsUnopenedFor};
 ghost use Rattle.cli_show.specs.Contents.{AreGiven, contents_of};
-ghost use Rattle.cli_report.specs.Diffs.{Diffs, DiffsTo, ShowsBetween};
+ghost use Rattle.cli_report.specs.Diffs.{Diffs, DiffsFrom, DiffsTo, FirstOpened, IsFirstUnopened, IsUndiffed};
+ghost use Rattle.cli_report.specs.Diffs.{IsUnwritten, NamesFrom, ShowsBetween};
 ghost use Rattle.cli_report.specs.internal.Diffs.{AreNew, Compares, files_ahead};
 
 use crate::difference::Difference;
 use crate::rows::{KEPT, write_printed};
-use cli_dump::{Printed, show_changes, show_deleted_changes, show_history};
+use cli_dump::{
+    Printed, first_commit, show_changes, show_deleted_changes, show_history, write_first,
+};
 use cli_facts::{Notes, Refusal, SystemFile};
 use cli_files::{Count, OpenedFile};
 use cli_history::Files as Lent;
 use cli_job::{Answer, Job, Wants, open_all};
-use cli_show::{Contents, ShowError, read_ahead};
+use cli_show::{Contents, ShowError, limits_of, read_ahead};
+use cli_show_rows::Stop;
 use cli_words::{Compared, Options};
 use sqview::{FileBytes, ReadAhead};
 use std::alloc::Global;
-use std::io::{BufWriter, Write};
+use std::io::{self, BufWriter, Write};
 use std::rt::Files;
 use std::time::Clock;
 
@@ -63,17 +68,142 @@ fn changes_standing<R: Files + AllocGlobal + Clock, M: Count, W: Write, E: Write
 ) -> Result<Printed, Refusal>
 where
     R::File: SystemFile,
-    ensures { Diffs (opened_bytes R.File.bytes)
+    ensures { DiffsFrom (opened_bytes R.File.bytes)
         (GivesBytes R.File.bytes R.File.keeps_word R.File.never_fails) job.entry.now.source.now
         difference.entry result }
 {
     let before = job.before(false, notes)?;
-    let printed = changes_now(job, difference, out, notes);
+    let printed = changes_from(job, difference, out, notes);
     let front = match &printed {
         Ok(printed) => printed.front,
         Err(_) => None,
     };
     job.standing(&before, (false, front), printed, notes)
+}
+
+/// Whether a word names a commit to begin at.
+fn is_from(word: &str) -> bool
+    ensures yes { IsTrue result → IsNamed (codes "--from") word.now }
+    ensures not { result ≡ false → ¬ IsNamed (codes "--from") word.now }
+{
+    word == "--from" || word.strip_prefix("--from=").is_some()
+}
+
+/// Whether one of these does.
+fn names_from(words: &[&str]) -> bool
+    ensures yes { IsTrue result → NamesFrom (map (λ w. w.now) words.entry.now) }
+    ensures not { result ≡ false → ¬ NamesFrom (map (λ w. w.now) words.entry.now) }
+{
+    for word in words {
+        if is_from(word) {
+            return true;
+        }
+    }
+    false
+}
+
+/// Whether changes aren't printed as it isn't known which database was there at a commit.
+fn is_overwritten(printed: &Result<Printed, Refusal>) -> bool
+    ensures { IsTrue result ↔ (printed.now ≡ Err Refusal.CommitOverwritten) }
+{
+    matches!(printed, Err(Refusal::CommitOverwritten))
+}
+
+/// What came of printing changes from the commit that is asked for. If none is named, and it isn't known which database
+/// was there at 0, they begin at the first commit that is known, and the first line says so.
+fn changes_from<R: Files + AllocGlobal + Clock, M: Count, W: Write, E: Write>(
+    job: &Job<'_, R, M>,
+    difference: Difference<'_>,
+    out: &mut W,
+    notes: &mut Notes<'_, E>,
+) -> Result<Printed, Refusal>
+where
+    R::File: SystemFile,
+    ensures { DiffsFrom (opened_bytes R.File.bytes)
+        (GivesBytes R.File.bytes R.File.keeps_word R.File.never_fails) job.entry.now.source.now
+        difference.entry result }
+{
+    match difference {
+        Difference::Rows(compared) => rows_from(job, compared, out, notes),
+        Difference::Deleted(_) => changes_now(job, difference, out, notes),
+    }
+}
+
+/// The same of rows.
+fn rows_from<R: Files + AllocGlobal + Clock, M: Count, W: Write, E: Write>(
+    job: &Job<'_, R, M>,
+    compared: Compared<'_>,
+    out: &mut W,
+    notes: &mut Notes<'_, E>,
+) -> Result<Printed, Refusal>
+where
+    R::File: SystemFile,
+    ensures { DiffsFrom (opened_bytes R.File.bytes)
+        (GivesBytes R.File.bytes R.File.keeps_word R.File.never_fails) job.entry.now.source.now
+        (Difference.Rows compared.entry) result }
+{
+    let printed = changes_now(job, Difference::Rows(compared), out, notes);
+    if names_from(compared.tables.options) {
+        return printed;
+    }
+    if !is_overwritten(&printed) {
+        return printed;
+    }
+    match first_known(job, notes) {
+        Ok(from) => {
+            if from == 0 {
+                return printed;
+            }
+            match write_first(out, compared.form, from) {
+                Ok(()) => changes_now(
+                    job,
+                    Difference::Rows(Compared { from, ..compared }),
+                    out,
+                    notes,
+                ),
+                Err(error) => Ok(not_begun(error)),
+            }
+        }
+        Err(refusal) => Err(refusal),
+    }
+}
+
+/// What comes of changes whose first line isn't written.
+fn not_begun(error: io::Error) -> Printed
+    ensures { IsUnwritten result }
+{
+    Printed {
+        front: None,
+        ended: Err(Stop::Write(error)),
+    }
+}
+
+/// The first commit of the log at which it is known which database was there, of files as they are now.
+fn first_known<R: Files + AllocGlobal + Clock, M: Count, E: Write>(
+    job: &Job<'_, R, M>,
+    notes: &mut Notes<'_, E>,
+) -> Result<u32, Refusal>
+where
+    R::File: SystemFile,
+    ensures first { IfOk result (FirstOpened (opened_bytes R.File.bytes)
+        (GivesBytes R.File.bytes R.File.keeps_word R.File.never_fails) job.entry.now.source.now) }
+    ensures refused { IfErr result (λ refusal. IsUndiffed (opened_bytes R.File.bytes)
+        (GivesBytes R.File.bytes R.File.keeps_word R.File.never_fails) job.entry.now.source.now refusal
+        ⊎ IsFirstUnopened (opened_bytes R.File.bytes)
+        (GivesBytes R.File.bytes R.File.keeps_word R.File.never_fails) job.entry.now.source.now refusal) }
+{
+    let (paths, options) = (&job.source.paths, job.source.options);
+    match open_all(job.rt, paths, options.super_journal, options.front, notes) {
+        Ok(files) => {
+            let lent = Lent {
+                db: &files.db,
+                wal: &files.wal,
+                journal: &files.journal,
+            };
+            first_commit(job.rt.alloc(), limits_of(options), lent)
+        }
+        Err(refusal) => Err(refusal),
+    }
 }
 
 /// The same of files that are opened for it.

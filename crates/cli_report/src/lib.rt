@@ -4,6 +4,7 @@
 
 mod difference;
 mod diffs;
+mod overwritten;
 mod pages;
 mod reports;
 mod rows;
@@ -11,6 +12,7 @@ mod salvages;
 
 pub use difference::Difference;
 pub use diffs::print_diff;
+pub use overwritten::tell_overwritten;
 pub use pages::Template;
 pub use reports::{VERSION, report_to, write_report};
 pub use rows::{KEPT, write_printed};

@@ -1,6 +1,6 @@
 -- What is found of the view that is asked for is found of the files.
 use Rattle.std.proofs.Common.{◌≡◌, ◌⊎◌, ℕ, List, Bool, inl, inr, refl, sym, ap, subst}
-use Rattle.std.specs.Prelude.{Option, None, Some, Result, Ok, Err, IfOk, IfErr}
+use Rattle.std.specs.Prelude.{Option, None, Some, Result, Ok, Err, IfOk, IfErr, IfSome}
 use Rattle.sqval.specs.Limits.{Bounds}
 use Rattle.sqview.specs.LogView.{pages_of}
 use Rattle.sqview.specs.Verdicts.{IsVerdictWith, IsUnjudgedWith, verdict_without}
@@ -11,6 +11,7 @@ use Rattle.sqview.specs.declared.verdict.Verdict.TheVariants.{Damaged}
 use Rattle.sqview.specs.declared.view.View.{View}
 use Rattle.sqview.specs.declared.view_error.ViewError.{ViewError}
 use Rattle.sqview.specs.declared.view_error.ViewError.TheVariants as views
+use Rattle.sqpast.specs.declared.used.Counts.{Counts}
 use Rattle.sqpast.specs.declared.past_error.PastError.TheVariants.{Refused as Why}
 use Rattle.cli_words.specs.declared.requests.Commit.{Commit}
 use Rattle.cli_facts.specs.Fronts.{IsFrontOf}
@@ -46,6 +47,15 @@ refused_by : (P : Refusal → Type 0) (q : Result Verdict JudgeError) (r : Resul
 refused_by P q (Ok x) is refused = tt
 refused_by P q (Err e) is refused =
     subst P (sym is.2) (subst (λ (o : Result Verdict JudgeError). IfErr o (λ e. P (refusal_of_judge e))) is.1 refused)
+
+-- beside these counts, or none
+pub counted_by : (P : Counts → Type 0) (counts : Counts) (r : Result Finding Refusal) → P counts → IfOk r (λ x. x.counts ≡ Some counts) → IfOk r (λ x. IfSome x.counts P)
+counted_by P counts (Ok x) holds is = subst (λ (o : Option Counts). IfSome o P) (sym is) holds
+counted_by P counts (Err e) holds is = tt
+
+pub uncounted_by : (P : Counts → Type 0) (r : Result Finding Refusal) → IfOk r (λ x. x.counts ≡ None) → IfOk r (λ x. IfSome x.counts P)
+uncounted_by P (Ok x) is = subst (λ (o : Option Counts). IfSome o P) (sym is) tt
+uncounted_by P (Err e) is = tt
 
 all_ok : (P : Verdict → Type 0) (q : Result Verdict JudgeError) → ((x : Verdict) → P x) → IfOk q P
 all_ok P (Ok x) all = all x

@@ -1,18 +1,13 @@
 -- What is found of files, by what is found in their view.
-use Rattle.std.proofs.Common.{◌≡◌, Bool, ℕ, ◌≤◌, List, [], length, refl, sym, subst, inl, inr}
+use Rattle.std.proofs.Common.{◌≡◌, Bool, ℕ, ◌≤◌, List, take, refl, sym, ◌∙◌, ap, subst, inl, inr}
 use Rattle.std.specs.Prelude.{Result, Ok, Err, IfOk, IfErr}
 use Rattle.sqval.specs.Limits.{Bounds}
-use Rattle.sqjournal.specs.Journal.{IsHot}
-use Rattle.sqview.specs.At.{ViewsAt}
-use Rattle.sqview.specs.LogView.{Views, StandsAt, IsAlone, pages_of}
-use Rattle.sqview.specs.Origins.{AreFramePlaces, AreJournalPlaces}
+use Rattle.sqview.specs.LogView.{pages_of}
 use Rattle.sqview.specs.Shapes.{Shape, shape_of}
 use Rattle.sqview.specs.declared.view.View.{View}
-use Rattle.sqpast.specs.Files.{PastViews}
 use Rattle.sqpast.specs.declared.past_error.PastError.{PastError}
 use Rattle.sqpast.specs.declared.past_error.PastError.TheVariants.{Refused as Why, CommitOverwritten as Overwritten}
 use Rattle.cli_words.specs.declared.requests.Commit.{Commit}
-use Rattle.cli_words.specs.declared.requests.Commit.TheVariants.{Last, Front, At}
 use Rattle.sqview.specs.declared.view_error.ViewError.TheVariants as views
 use Rattle.cli_facts.specs.declared.outcome.Refusal.{Refusal}
 use Rattle.cli_facts.specs.declared.outcome.Refusal.TheVariants.{AutoVacuum, NoSuchPage, NoMemory}
@@ -30,40 +25,17 @@ use Rattle.cli_show.proofs.AskedFronts.{asked_read, shows_asked}
 module _ {F : Type 0} (limits : Bounds) (bytes : F → List ℕ) (db wal journal : List ℕ) (v now : View F) (same : shape_of bytes now ≡ shape_of bytes v) where
   -- a view that shows the same is the one that is asked for, too
   same_view : (at : Commit) → IsAskedView limits bytes at db wal journal v → IsAskedView limits bytes at db wal journal now
-  same_view Last is = record {
-    shows = subst (λ (s : Shape). Views s.page_size db wal journal (pages_in s)) (sym same) is.shows;
-    one = is.one;
-    short = is.short;
-    within = is.within;
-    headed = is.headed;
-    stands = subst (λ (s : Shape). StandsAt wal journal s.front) (sym same) is.stands;
-    unplaced = subst (λ (s : Shape). IsAlone wal journal → s.places ≡ []) (sym same) is.unplaced;
-    placed = subst (λ (s : Shape). (¬ IsAlone wal journal) → length s.places ≡ s.count) (sym same) is.placed;
-    framed = subst (λ (s : Shape). 1 ≤ s.front → AreFramePlaces s.page_size wal s.front s.count s.places) (sym same) is.framed;
-    recorded = subst (λ (s : Shape). IsHot journal → AreJournalPlaces journal s.count s.places) (sym same) is.recorded;
-  }
-  same_view (Front m) is = record {
-    shows = subst (λ (s : Shape). ViewsAt m s.page_size db wal journal (pages_in s)) (sym same) is.shows;
-    stands = subst (λ (s : Shape). s.front ≡ m) (sym same) is.stands;
-    one = is.one;
-    short = is.short;
-    within = is.within;
-    headed = is.headed;
-    unplaced = subst (λ (s : Shape). m ≡ 0 → s.places ≡ []) (sym same) is.unplaced;
-    placed = subst (λ (s : Shape). 1 ≤ m → length s.places ≡ s.count) (sym same) is.placed;
-    framed = subst (λ (s : Shape). 1 ≤ m → AreFramePlaces s.page_size wal m s.count s.places) (sym same) is.framed;
-  }
-  same_view (At m) is = record {
-    shows = subst (λ (s : Shape). PastViews m s.page_size db wal journal (pages_in s)) (sym same) is.shows;
-    stands = subst (λ (s : Shape). s.front ≡ m) (sym same) is.stands;
-    one = is.one;
-    short = is.short;
-    within = is.within;
-    headed = is.headed;
-    unplaced = subst (λ (s : Shape). m ≡ 0 → s.places ≡ []) (sym same) is.unplaced;
-    placed = subst (λ (s : Shape). 1 ≤ m → length s.places ≡ s.count) (sym same) is.placed;
-    framed = subst (λ (s : Shape). 1 ≤ m → AreFramePlaces s.page_size wal m s.count s.places) (sym same) is.framed;
-  }
+  same_view at is = (
+    is.0,
+    is.1,
+    record {
+      pages = ap (λ (s : Shape). pages_in s) same ∙ is.2.pages;
+      within = subst (λ (s : Shape). s.count ≤ is.0.count) (sym same) is.2.within;
+      places = subst (λ (s : Shape). s.places ≡ take s.count is.0.places.items) (sym same) is.2.places;
+      sizes = (ap (λ (s : Shape). s.page_size) same ∙ is.2.sizes.0, ap (λ (s : Shape). s.front) same ∙ is.2.sizes.1);
+      files = (ap (λ (s : Shape). s.db) same ∙ is.2.files.0, ap (λ (s : Shape). s.log) same ∙ is.2.files.1);
+    },
+  )
 
 -- what is found without a view
 module _ {F : Type 0} (maps : Bool) (limits : Bounds) (bytes : F → List ℕ) (at : Commit) (files : Contents (List ℕ)) where

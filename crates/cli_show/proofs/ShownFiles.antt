@@ -17,7 +17,7 @@ use Rattle.cli_show.specs.Errors.{IfRefused}
 use Rattle.cli_show.specs.Logs.{ReplayFound, IsUnreadLog}
 use Rattle.cli_show.specs.Shown.{IsPageUnread, HasHeader, IsHeaderUnshown, IsPageUnshown}
 use Rattle.cli_show.specs.internal.Shown.{IsHeaderUnread}
-use Rattle.cli_show.specs.Views.{AskedShows}
+use Rattle.cli_show.specs.Views.{WholeShows}
 use Rattle.cli_show.specs.declared.error.ShowError.{ShowError}
 use Rattle.cli_show.specs.declared.error.ShowError.TheVariants.{Refused, Unwritten}
 
@@ -44,7 +44,7 @@ header_refused faults.Fraction header b refused is = refused.2 is.fractions
 header_refused faults.Reserved header b refused is = refused.3 is.room
 header_refused _ header b refused is = refused
 
-module _ (options : Options) (db wal journal : List ℕ) (size : ℕ) (d : Database) (shows : AskedShows (commit_named options) size db wal journal d) where
+module _ (options : Options) (db wal journal : List ℕ) (size : ℕ) (d : Database) (shows : WholeShows (commit_named options) size db wal journal d) where
   pub header_unshown : (refusal : Refusal) → IsHeaderUnread d refusal → IsHeaderUnshown options db wal journal refusal
   header_unshown NotADatabase unread = inr (size, d, shows, unread)
   header_unshown NoMemory unread = tt

@@ -11,6 +11,8 @@ use Rattle.sqview.specs.declared.verdict.Verdict.{Verdict}
 use Rattle.sqview.specs.declared.verdict.Verdict.TheVariants.{Clean, Damaged}
 use Rattle.sqview.specs.declared.view.View.{View}
 use Rattle.sqview.specs.declared.view_error.ViewError.TheVariants as views
+use Rattle.sqpast.specs.Used.{used_part, AreCounts, IsUsedPart}
+use Rattle.sqpast.specs.declared.used.Counts.{Counts}
 use Rattle.sqpast.specs.Files.{PastViews, PastRefusedWithin, IsPastShownWithin}
 use Rattle.sqpast.specs.declared.past_error.PastError.{PastError}
 use Rattle.sqpast.specs.declared.past_error.PastError.TheVariants.{Refused}
@@ -26,16 +28,28 @@ use Rattle.cli_show.specs.Limits.{limits_named}
 
 -- the database of these files there, of pages of this size: at a commit that is asked for the one that was there,
 -- whatever was copied into the file since
-abbrev pub AskedShows : (at : Commit) → (size : ℕ) → (db wal journal : List ℕ) → Database → Type 0
-AskedShows Last size db wal journal d = Views size db wal journal d
-AskedShows (Front m) size db wal journal d = ViewsAt m size db wal journal d
-AskedShows (At m) size db wal journal d = PastViews m size db wal journal d
+abbrev pub WholeShows : (at : Commit) → (size : ℕ) → (db wal journal : List ℕ) → Database → Type 0
+WholeShows Last size db wal journal d = Views size db wal journal d
+WholeShows (Front m) size db wal journal d = ViewsAt m size db wal journal d
+WholeShows (At m) size db wal journal d = PastViews m size db wal journal d
 
--- a view of them there
+-- the pages of it that SQLite would use
+abbrev pub AskedShows : (at : Commit) → (size : ℕ) → (db wal journal : List ℕ) → Database → Type 0
+AskedShows at size db wal journal d = (whole : Database) × WholeShows at size db wal journal whole × (d ≡ used_part whole)
+
+-- how many pages it has, and how many its header says
+abbrev pub AreAskedCounts : (at : Commit) → (db wal journal : List ℕ) → Counts → Type 0
+AreAskedCounts at db wal journal counts = (size : ℕ) × (whole : Database) × WholeShows at size db wal journal whole × AreCounts whole counts
+
+-- a view of the whole database there
+abbrev pub IsWholeView : {F : Type 0} → (limits : Bounds) (bytes : F → List ℕ) → (at : Commit) → (db wal journal : List ℕ) → View F → Type 0
+IsWholeView limits bytes Last db wal journal v = IsShownWithin limits bytes db wal journal v
+IsWholeView limits bytes (Front m) db wal journal v = IsShownAtWithin limits bytes m db wal journal v
+IsWholeView limits bytes (At m) db wal journal v = IsPastShownWithin limits bytes m db wal journal v
+
+-- a view of the pages of it that SQLite would use
 abbrev pub IsAskedView : {F : Type 0} → (limits : Bounds) (bytes : F → List ℕ) → (at : Commit) → (db wal journal : List ℕ) → View F → Type 0
-IsAskedView limits bytes Last db wal journal v = IsShownWithin limits bytes db wal journal v
-IsAskedView limits bytes (Front m) db wal journal v = IsShownAtWithin limits bytes m db wal journal v
-IsAskedView limits bytes (At m) db wal journal v = IsPastShownWithin limits bytes m db wal journal v
+IsAskedView {F} limits bytes at db wal journal v = (whole : View F) × IsWholeView limits bytes at db wal journal whole × IsUsedPart bytes whole v
 
 -- why there is none
 abbrev pub AskedRefused : (limits : Bounds) → (at : Commit) → (db wal journal : List ℕ) → PastError → Type 0
@@ -44,6 +58,11 @@ AskedRefused limits Last db wal journal past.CommitOverwritten = ⊥
 AskedRefused limits (Front m) db wal journal (Refused error) = AtRefusedWithin limits m db wal journal error
 AskedRefused limits (Front m) db wal journal past.CommitOverwritten = ⊥
 AskedRefused limits (At m) db wal journal error = PastRefusedWithin limits m db wal journal error
+
+abbrev pub WholeAnswer : {F : Type 0} → (limits : Bounds) (bytes : F → List ℕ) → (at : Commit) → (db wal journal : List ℕ)
+    → Result (View F) PastError → Type 0
+WholeAnswer limits bytes at db wal journal (Ok v) = IsWholeView limits bytes at db wal journal v
+WholeAnswer limits bytes at db wal journal (Err error) = AskedRefused limits at db wal journal error
 
 abbrev pub AskedAnswer : {F : Type 0} → (limits : Bounds) (bytes : F → List ℕ) → (at : Commit) → (db wal journal : List ℕ)
     → Result (View F) PastError → Type 0

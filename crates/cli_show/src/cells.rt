@@ -17,13 +17,13 @@ ghost use Rattle.cli_show.specs.Shown.{IsHeaderText, IsPageUnread, ShowsHeader, 
 ghost use Rattle.cli_show.specs.internal.Shown.{IsHeaderUnread};
 ghost use Rattle.cli_show.specs.Shown.{IsHeaderUnshown, IsPageUnshown};
 ghost use Rattle.sqpage.specs.Source.{KeepsPages};
-ghost use Rattle.cli_show.specs.Views.{IsAskedView, IsUnasked};
+ghost use Rattle.cli_show.specs.Views.{IsWholeView, IsUnasked};
 
 use crate::contents::Contents;
 use crate::error::ShowError;
 use crate::limits::limits_of;
 use crate::payloads::Payloads;
-use crate::views::view_of;
+use crate::views::whole_view_of;
 use cli_facts::{Front, Refusal};
 use cli_text::{
     Unfit, number, write_bytes, write_cell, write_facts, write_header, write_page, write_record,
@@ -92,21 +92,21 @@ pub fn usable_size(first: &[u8]) -> u32
     if usable < 480 { size } else { usable }
 }
 
-/// The view of files that is asked for.
+/// The view of files that is asked for, with all its pages.
 fn asked_view<F: FileBytes + Drop>(
     alloc: Global,
     files: Contents<F>,
     options: Options,
 ) -> Result<View<F>, Refusal>
     ensures answer { AreGiven F.gives_bytes files → MatchResult result
-        (IsAskedView (limits_named options.large) F.bytes (commit_named options) (F.bytes files.db) (F.bytes files.wal)
+        (IsWholeView (limits_named options.large) F.bytes (commit_named options) (F.bytes files.db) (F.bytes files.wal)
         (F.bytes files.journal))
         (IsUnasked options (F.bytes files.db) (F.bytes files.wal) (F.bytes files.journal)) }
     ensures still_gives { AreGiven F.gives_bytes files
         → IfOk result (λ view. F.gives_bytes view.db × F.gives_bytes view.log) }
 {
     let Contents { db, wal, journal } = files;
-    match view_of(
+    match whole_view_of(
         alloc,
         limits_of(options),
         db,

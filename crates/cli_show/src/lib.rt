@@ -27,4 +27,4 @@ pub use names::Names;
 pub use records::Records;
 pub use report::{ReportFacts, facts_of, write_report_facts};
 pub use surveys::{Found, Surveyed, survey_files, write_pages, write_verdict};
-pub use views::{Asked, Finding, judged, view_of};
+pub use views::{Asked, Finding, Used, judged, used_view_of, view_of, whole_view_of};

@@ -1,9 +1,12 @@
 -- What a deep check finds of the view that is asked for is found of the files.
-use Rattle.std.proofs.Common.{◌≡◌, ◌⊎◌, ⊎_elim, ℕ, List, Bool, inl, inr, refl, sym, subst}
-use Rattle.std.specs.Prelude.{Option, None, Result, Ok, Err, IfOk, IfErr}
+use Rattle.std.proofs.Common.{◌≡◌, ◌∙◌, ◌≤◌, ◌<◌, ◌*◌, ◌-◌, ◌⊎◌, ⊎_elim, ℕ, List, Bool, true, false, length, get_or, take, inl, inr, refl, sym, ap, subst, arith}
+use Rattle.std.proofs.lemmas.List.{get_or-take}
+use Rattle.std.specs.Prelude.{◌↔◌, Option, None, Some, Result, Ok, Err, IfOk, IfErr, IfSome}
 use Rattle.sqval.specs.Database.{Database}
 use Rattle.sqval.specs.Limits.{Bounds}
+use Rattle.sqview.specs.Laid.{place_of}
 use Rattle.sqview.specs.LogView.{pages_of}
+use Rattle.sqview.proofs.openings.PagesOfView.{length_laid}
 use Rattle.sqview.specs.Verdicts.{IsUnjudgedWith}
 use Rattle.sqview.specs.declared.judge_error.JudgeError.{JudgeError}
 use Rattle.sqview.specs.declared.judge_error.JudgeError.TheVariants as judgments
@@ -12,30 +15,38 @@ use Rattle.sqview.specs.declared.verdict.Verdict.TheVariants as plain
 use Rattle.sqview.specs.declared.view.View.{View}
 use Rattle.sqview.specs.declared.view_error.ViewError.{ViewError}
 use Rattle.sqview.specs.declared.view_error.ViewError.TheVariants as views
+use Rattle.sqpast.specs.Used.{IsUsedPart}
+use Rattle.sqpast.specs.declared.used.Counts.{Counts}
 use Rattle.sqpast.specs.declared.past_error.PastError.TheVariants.{Refused as Why}
 use Rattle.cli_words.specs.declared.requests.Commit.{Commit}
+use Rattle.cli_words.specs.declared.requests.Commit.TheVariants.{Last, Front, At}
 use Rattle.cli_facts.specs.Fronts.{IsFrontOf}
 use Rattle.cli_facts.specs.internal.Refusals.{refusal_of_judge}
-use Rattle.cli_facts.specs.declared.fronts.Front.{Front}
+use Rattle.cli_facts.specs.declared.fronts.Front.{Front as LogFront}
 use Rattle.cli_facts.specs.declared.outcome.Refusal.{Refusal}
 use Rattle.cli_show.specs.Fronts.{IsAskedFront}
-use Rattle.cli_show.specs.Views.{IsAskedView, AskedRefused, IsHeadless, IsNotFound}
+use Rattle.cli_show.specs.Views.{IsAskedView, IsWholeView, AskedRefused, IsHeadless, IsNotFound}
 use Rattle.cli_show.proofs.AskedFronts.{asked_read, front_asked, shows_asked}
-use Rattle.cli_show_deep.specs.Found.{IsFoundDeep, IsHeadlessDeep}
-use Rattle.sqdeepjudge.specs.Verdicts.{FindsInside, FindsSchema, FindsDeep, verdict_as}
+use Rattle.cli_show_deep.specs.Found.{HasPage, IsFoundAs, IsFoundDeep, IsHeadlessDeep, IsMissingFound, IsWholeOrCut}
+use Rattle.cli_show_deep.specs.internal.Plain.{IsPlain}
+use Rattle.sqdeepjudge.specs.Missing.{FindsCut, IsLeast, IsMissing, IsMissingOf, cut_of}
+use Rattle.sqdeepjudge.proofs.MissingPages.{least_same, missing_at, missing_now}
+use Rattle.sqdeepjudge.specs.Verdicts.{FindsInside, FindsSchema, FindsDeep}
 use Rattle.sqdeepjudge.specs.Verdicts.{deep_without}
 use Rattle.cli_show_deep.specs.declared.found.DeepFinding.{DeepFinding}
+use Rattle.sqdeepjudge.specs.declared.verdict.Damage.TheVariants.{Cut, Check, Inner, Schema, Content, Row}
 use Rattle.sqdeepjudge.specs.declared.verdict.DeepVerdict.{DeepVerdict}
+use Rattle.sqdeepjudge.specs.declared.verdict.DeepVerdict.TheVariants as deep
 
-found_by : (P : DeepVerdict → Type 0) (front : Option Front) (q : Result DeepVerdict JudgeError) (r : Result DeepFinding Refusal)
+found_by : (P : DeepVerdict → Type 0) (front : Option LogFront) (q : Result DeepVerdict JudgeError) (r : Result DeepFinding Refusal)
     → IfOk r (λ x. (q ≡ Ok x.verdict) × (x.front ≡ front)) → IfOk q P → IfOk r (λ x. P x.verdict)
 found_by P front q (Ok x) is found = subst (λ (o : Result DeepVerdict JudgeError). IfOk o P) is.0 found
 found_by P front q (Err e) is found = tt
 
-front_by : (Q : Option Front → DeepVerdict → Type 0) (front : Option Front) (q : Result DeepVerdict JudgeError) (r : Result DeepFinding Refusal)
+front_by : (Q : Option LogFront → DeepVerdict → Type 0) (front : Option LogFront) (q : Result DeepVerdict JudgeError) (r : Result DeepFinding Refusal)
     → IfOk r (λ x. (q ≡ Ok x.verdict) × (x.front ≡ front)) → IfOk q (Q front) → IfOk r (λ x. Q x.front x.verdict)
 front_by Q front q (Ok x) is found =
-    subst (λ (f : Option Front). Q f x.verdict) (sym is.1) (subst (λ (o : Result DeepVerdict JudgeError). IfOk o (Q front)) is.0 found)
+    subst (λ (f : Option LogFront). Q f x.verdict) (sym is.1) (subst (λ (o : Result DeepVerdict JudgeError). IfOk o (Q front)) is.0 found)
 front_by Q front q (Err e) is found = tt
 
 refused_by : (P : Refusal → Type 0) (q : Result DeepVerdict JudgeError) (r : Result DeepFinding Refusal)
@@ -44,16 +55,56 @@ refused_by P q (Ok x) is refused = tt
 refused_by P q (Err e) is refused =
     subst P (sym is.2) (subst (λ (o : Result DeepVerdict JudgeError). IfErr o (λ e. P (refusal_of_judge e))) is.1 refused)
 
+-- beside these counts, or none
+pub counted_by : (P : Counts → Type 0) (counts : Counts) (r : Result DeepFinding Refusal) → P counts → IfOk r (λ x. x.counts ≡ Some counts) → IfOk r (λ x. IfSome x.counts P)
+counted_by P counts (Ok x) holds is = subst (λ (o : Option Counts). IfSome o P) (sym is) holds
+counted_by P counts (Err e) holds is = tt
+
+pub uncounted_by : (P : Counts → Type 0) (r : Result DeepFinding Refusal) → IfOk r (λ x. x.counts ≡ None) → IfOk r (λ x. IfSome x.counts P)
+uncounted_by P (Ok x) is = subst (λ (o : Option Counts). IfSome o P) (sym is) tt
+uncounted_by P (Err e) is = tt
+
 all_ok : (P : DeepVerdict → Type 0) (q : Result DeepVerdict JudgeError) → ((x : DeepVerdict) → P x) → IfOk q P
 all_ok P (Ok x) all = all x
 all_ok P (Err e) all = tt
 
+-- a page's place in the log is the same in a part that ends behind it
+same_place : (places wholes : List ℕ) (count p : ℕ) → places ≡ take count wholes → 1 ≤ p → p ≤ count → place_of places p ≡ place_of wholes p
+same_place places wholes count p is one le =
+    ap (λ (l : List ℕ). get_or l (p - 1) 0) is ∙ get_or-take count wholes (p - 1) 0 (omega (arith, one, le))
+
 -- of a view
 module _ {F : Type 0} (maps : Bool) (limits : Bounds) (bytes : F → List ℕ) (db wal journal : List ℕ) where
-  found_of : (at : Commit) (v : View F) (q : Result DeepVerdict JudgeError) → IsAskedView limits bytes at db wal journal v → IfOk q (FindsDeep maps (pages_of bytes v) v.page_size)
+  missing_whole : (at : Commit) (v : View F) (long p : ℕ) → IsWholeView limits bytes at db wal journal v → 1 ≤ p → p ≤ v.count
+      → IsMissingOf v long p ↔ IsMissing (HasPage at v.page_size wal journal) v.page_size long p
+  missing_whole Last v long p shown one le = missing_now limits bytes db wal journal v shown p one le long
+  missing_whole (Front m) v long p shown one le = missing_at v long wal m p shown.unplaced shown.framed one le
+  missing_whole (At m) v long p shown one le = missing_at v long wal m p shown.unplaced shown.framed one le
+
+  missing_of : (at : Commit) (v : View F) (long p : ℕ) → IsAskedView limits bytes at db wal journal v → 1 ≤ p → p ≤ v.count
+      → IsMissingOf v long p ↔ IsMissing (HasPage at v.page_size wal journal) v.page_size long p
+  missing_of at v long p shown one le =
+      let whole : View F = shown.0 in
+      let part : IsUsedPart bytes whole v = shown.2 in
+      let same : place_of v.places.items p ≡ place_of whole.places.items p = same_place v.places.items whole.places.items v.count p part.places one le in
+      let within = part.within in
+      subst (λ (n : ℕ). ((place_of v.places.items p ≡ 0) × (long < p * n)) ↔ IsMissing (HasPage at n wal journal) n long p) (sym part.sizes.0)
+      (subst (λ (k : ℕ). ((k ≡ 0) × (long < p * whole.page_size)) ↔ IsMissing (HasPage at whole.page_size wal journal) whole.page_size long p) (sym same)
+      (missing_whole at whole long p shown.1 one (omega (arith, le, within))))
+
+  cut_of_files : (at : Commit) (v : View F) (long : ℕ) (verdict : DeepVerdict) → IsAskedView limits bytes at db wal journal v → long ≡ length db
+      → FindsCut (IsMissingOf v long) (length (pages_of bytes v)) verdict → IsWholeOrCut at v.page_size db wal journal (pages_of bytes v) verdict
+  cut_of_files at v long verdict shown is finds =
+      subst (λ (n : ℕ). FindsCut (IsMissing (HasPage at v.page_size wal journal) v.page_size n) (length (pages_of bytes v)) verdict) is
+      (least_same (IsMissingOf v long) (IsMissing (HasPage at v.page_size wal journal) v.page_size long) (length (pages_of bytes v)) (cut_of verdict)
+      (λ p one le. missing_of at v long p shown one (let n = length_laid v.page_size v.count (bytes v.db) (bytes v.log) v.places.items in omega (arith, n, le))) finds)
+
+  found_of : (at : Commit) (v : View F) (long : ℕ) (q : Result DeepVerdict JudgeError) → IsAskedView limits bytes at db wal journal v → long ≡ length db
+      → IfOk q (FindsDeep maps (pages_of bytes v) v.page_size) → IfOk q (FindsCut (IsMissingOf v long) (length (pages_of bytes v)))
       → IfOk q (IsFoundDeep maps limits at db wal journal)
-  found_of at v (Ok verdict) shown finds = inl (v.page_size, pages_of bytes v, shows_asked limits bytes db wal journal v at shown, finds)
-  found_of at v (Err e) shown finds = tt
+  found_of at v long (Ok verdict) shown is finds cut =
+      inl (v.page_size, pages_of bytes v, shows_asked limits bytes db wal journal v at shown, finds, cut_of_files at v long verdict shown is cut)
+  found_of at v long (Err e) shown is finds cut = tt
 
   unjudged_of : (at : Commit) (v : View F) (q : Result DeepVerdict JudgeError) → IsAskedView limits bytes at db wal journal v → IfErr q (IsUnjudgedWith maps (pages_of bytes v))
       → IfErr q (λ e. IsNotFound maps limits at db wal journal (refusal_of_judge e))
@@ -65,9 +116,10 @@ module _ {F : Type 0} (maps : Bool) (limits : Bounds) (bytes : F → List ℕ) (
   unjudged_of at v (Err judgments.Unread) shown refused = absurd refused
   unjudged_of at v (Err judgments.NoSuchCommit) shown refused = absurd refused
 
-  module _ (at : Commit) (v : View F) (front : Option Front) (q : Result DeepVerdict JudgeError) (r : Result DeepFinding Refusal) (shown : IsAskedView limits bytes at db wal journal v) where
-    pub view_found : IfOk r (λ x. (q ≡ Ok x.verdict) × (x.front ≡ front)) → IfOk q (FindsDeep maps (pages_of bytes v) v.page_size) → IfOk r (λ x. IsFoundDeep maps limits at db wal journal x.verdict)
-    view_found is finds = found_by (IsFoundDeep maps limits at db wal journal) front q r is (found_of at v q shown finds)
+  module _ (at : Commit) (v : View F) (front : Option LogFront) (q : Result DeepVerdict JudgeError) (r : Result DeepFinding Refusal) (shown : IsAskedView limits bytes at db wal journal v) where
+    pub view_found : (long : ℕ) → long ≡ length db → IfOk r (λ x. (q ≡ Ok x.verdict) × (x.front ≡ front)) → IfOk q (FindsDeep maps (pages_of bytes v) v.page_size)
+        → IfOk q (FindsCut (IsMissingOf v long) (length (pages_of bytes v))) → IfOk r (λ x. IsFoundDeep maps limits at db wal journal x.verdict)
+    view_found long same is finds cut = found_by (IsFoundDeep maps limits at db wal journal) front q r is (found_of at v long q shown same finds cut)
 
     pub view_front : IfOk r (λ x. (q ≡ Ok x.verdict) × (x.front ≡ front)) → IsFrontOf v.front v.page_size front
         → IfOk r (λ x. IsAskedFront at wal journal x.front ⊎ ((x.front ≡ None) × IsHeadlessDeep limits at db wal journal x.verdict))
@@ -103,7 +155,7 @@ module _ (maps : Bool) (limits : Bounds) (at : Commit) (db wal journal : List �
   weaker (Err e) is = tt
 
   beside : (q : Result DeepVerdict JudgeError) → IfOk q (IsHeadlessDeep limits at db wal journal)
-      → IfOk q (λ verdict. IsAskedFront at wal journal None ⊎ (Rattle.std.proofs.Common.◌≡◌ {A = Option Front} None None × IsHeadlessDeep limits at db wal journal verdict))
+      → IfOk q (λ verdict. IsAskedFront at wal journal None ⊎ (Rattle.std.proofs.Common.◌≡◌ {A = Option LogFront} None None × IsHeadlessDeep limits at db wal journal verdict))
   beside (Ok verdict) is = inr (refl, is)
   beside (Err e) is = tt
 
@@ -123,14 +175,66 @@ module _ (maps : Bool) (limits : Bounds) (at : Commit) (db wal journal : List �
     none_refused is = refused_by (IsNotFound maps limits at db wal journal) q r is
         (subst (λ (o : Result DeepVerdict JudgeError). IfErr o (λ e. IsNotFound maps limits at db wal journal (refusal_of_judge e))) (sym same) (unviewed error refused))
 
--- a check that isn't deep finds no header as a deep one does
-pub headless_as : (limits : Bounds) (at : Commit) (db wal journal : List ℕ) (verdict : Verdict) → IsHeadless limits at db wal journal verdict → IsHeadlessDeep limits at db wal journal (verdict_as verdict)
-headless_as limits at db wal journal (plain.Clean report) is = is
-headless_as limits at db wal journal (plain.Damaged e) is = is
+-- a fault of the file's own header is found by a check that isn't deep, too
+headless_plain : (maps : Bool) (limits : Bounds) (at : Commit) (db wal journal : List ℕ) (verdict : DeepVerdict)
+    → IsHeadlessDeep limits at db wal journal verdict → IsFoundAs false maps limits at db wal journal verdict
+headless_plain maps limits at db wal journal (deep.Damaged (Check e)) is = (plain.Damaged e, refl, inr is)
+headless_plain maps limits at db wal journal (deep.Damaged (Cut p)) is = absurd is
+headless_plain maps limits at db wal journal (deep.Damaged (Inner e)) is = absurd is
+headless_plain maps limits at db wal journal (deep.Damaged (Schema e)) is = absurd is
+headless_plain maps limits at db wal journal (deep.Damaged (Content e)) is = absurd is
+headless_plain maps limits at db wal journal (deep.Damaged (Row e)) is = absurd is
+headless_plain maps limits at db wal journal (deep.Clean report) is = absurd is
+headless_plain maps limits at db wal journal (deep.Sound report schema unjudged) is = absurd is
 
-pub front_as : (limits : Bounds) (at : Commit) (db wal journal : List ℕ) (verdict : Verdict) (front : Option Front)
-    → IsAskedFront at wal journal front ⊎ ((front ≡ None) × IsHeadless limits at db wal journal verdict)
-    → IsAskedFront at wal journal front ⊎ ((front ≡ None) × IsHeadlessDeep limits at db wal journal (verdict_as verdict))
-front_as limits at db wal journal verdict front is = ⊎_elim
-    (λ asked. inl asked)
-    (λ none. inr (none.0, headless_as limits at db wal journal verdict none.1)) is
+if_headless : (P Q : DeepVerdict → Type 0) (q : Result DeepVerdict JudgeError) → ((x : DeepVerdict) → P x → Q x) → IfOk q P → IfOk q Q
+if_headless P Q (Ok x) f h = f x h
+if_headless P Q (Err e) f h = tt
+
+-- what a check that isn't deep finds of a view
+module _ {F : Type 0} (maps : Bool) (limits : Bounds) (bytes : F → List ℕ) (db wal journal : List ℕ) (at : Commit) (v : View F) (shown : IsAskedView limits bytes at db wal journal v) where
+  plain_of : (verdict : DeepVerdict) → IsPlain maps (pages_of bytes v) v.page_size verdict → IsFoundAs false maps limits at db wal journal verdict
+  plain_of verdict is = (is.0, is.1, inl (v.page_size, pages_of bytes v, shows_asked limits bytes db wal journal v at shown, is.2))
+
+  pub plain_found : (front : Option LogFront) (q : Result DeepVerdict JudgeError) (r : Result DeepFinding Refusal) → IfOk r (λ x. (q ≡ Ok x.verdict) × (x.front ≡ front))
+      → IfOk q (IsPlain maps (pages_of bytes v) v.page_size) → IfOk r (λ x. IsFoundAs false maps limits at db wal journal x.verdict)
+  plain_found front q r is finds = found_by (IsFoundAs false maps limits at db wal journal) front q r is
+      (if_headless (IsPlain maps (pages_of bytes v) v.page_size) (IsFoundAs false maps limits at db wal journal) q plain_of finds)
+
+  missing_there : (long : ℕ) (missing : Option ℕ) → long ≡ length db → IsLeast (IsMissingOf v long) (length (pages_of bytes v)) missing
+      → IsLeast (IsMissing (HasPage at v.page_size wal journal) v.page_size (length db)) (length (pages_of bytes v)) missing
+  missing_there long missing is least =
+      subst (λ (n : ℕ). IsLeast (IsMissing (HasPage at v.page_size wal journal) v.page_size n) (length (pages_of bytes v)) missing) is
+      (least_same (IsMissingOf v long) (IsMissing (HasPage at v.page_size wal journal) v.page_size long) (length (pages_of bytes v)) missing
+      (λ p one le. missing_of maps limits bytes db wal journal at v long p shown one (let n = length_laid v.page_size v.count (bytes v.db) (bytes v.log) v.places.items in omega (arith, n, le))) least)
+
+  pub missing_found : (long : ℕ) (missing : Option ℕ) (r : Result DeepFinding Refusal) → long ≡ length db → IsLeast (IsMissingOf v long) (length (pages_of bytes v)) missing
+      → IfOk r (λ x. x.missing ≡ missing) → IfOk r (IsMissingFound false limits at db wal journal)
+  missing_found long missing (Ok x) is least told = inl (
+    v.page_size,
+    pages_of bytes v,
+    shows_asked limits bytes db wal journal v at shown,
+    subst (λ (m : Option ℕ). IsLeast (IsMissing (HasPage at v.page_size wal journal) v.page_size (length db)) (length (pages_of bytes v)) m) (sym told) (missing_there long missing is least),
+  )
+  missing_found long missing (Err e) is least told = tt
+
+-- where there is no view
+module _ (maps : Bool) (limits : Bounds) (at : Commit) (db wal journal : List ℕ) (error : ViewError) (q : Result DeepVerdict JudgeError) (r : Result DeepFinding Refusal)
+    (refused : AskedRefused limits at db wal journal (Why error)) (same : q ≡ deep_without error) (is : IfOk r (λ x. (q ≡ Ok x.verdict) × (x.front ≡ None))) where
+  headless_here : IfOk r (λ x. IsHeadlessDeep limits at db wal journal x.verdict)
+  headless_here = found_by (IsHeadlessDeep limits at db wal journal) None q r is
+      (subst (λ (o : Result DeepVerdict JudgeError). IfOk o (IsHeadlessDeep limits at db wal journal)) (sym same) (headless maps limits at db wal journal error refused))
+
+  pub none_plain : IfOk r (λ x. IsFoundAs false maps limits at db wal journal x.verdict)
+  none_plain = of_verdict r headless_here
+    where
+      of_verdict : (r : Result DeepFinding Refusal) → IfOk r (λ x. IsHeadlessDeep limits at db wal journal x.verdict) → IfOk r (λ x. IsFoundAs false maps limits at db wal journal x.verdict)
+      of_verdict (Ok x) h = headless_plain maps limits at db wal journal x.verdict h
+      of_verdict (Err e) h = tt
+
+  pub none_missing : IfOk r (λ x. x.missing ≡ None) → IfOk r (IsMissingFound false limits at db wal journal)
+  none_missing told = of_verdict r told headless_here
+    where
+      of_verdict : (r : Result DeepFinding Refusal) → IfOk r (λ x. x.missing ≡ None) → IfOk r (λ x. IsHeadlessDeep limits at db wal journal x.verdict) → IfOk r (IsMissingFound false limits at db wal journal)
+      of_verdict (Ok x) told h = inr (told, h)
+      of_verdict (Err e) told h = tt

@@ -1,3 +1,4 @@
 mod DeepFindings
+mod NamesOfObjects
 mod NumberFacts
 mod ThingsJoined

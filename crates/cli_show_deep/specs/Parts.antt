@@ -1,6 +1,8 @@
 -- How it is printed what a deep check doesn't judge of a sound database (own).
 use Rattle.std.specs.Prelude.{ℕ, ◌==◌, if◌then◌else◌, List, [], ◌++◌, length, map, take, slice_get, Option, Some, None, codes}
 use Rattle.std.specs.Fmt.{decimal}
+use Rattle.std.specs.Str.{is_utf8}
+use Rattle.hex.specs.Hex.{encode_lower}
 use Rattle.sqcheck.specs.declared.report.Report.{Report}
 use Rattle.sqschema.specs.declared.check.Schema.{Schema}
 use Rattle.sqschema.specs.declared.item.Item.{Item}
@@ -60,17 +62,25 @@ line_head r =
 abbrev pub part_line : Report → Schema → List NotJudged → List ℕ
 part_line r schema all = line_head r ++ (shares_text schema all ++ (nevers_text all ++ codes "\n"))
 
+-- bytes as a string of hex
+abbrev pub hex_string : List ℕ → List ℕ
+hex_string bytes = codes "\"hex:" ++ (encode_lower bytes ++ codes "\"")
+
+-- a name of the schema as a string of JSON: its bytes as hex where they aren't UTF-8
+abbrev pub name_string : List ℕ → List ℕ
+name_string name = if is_utf8 name then json_string name else hex_string name
+
 -- the name of what isn't judged: of a CHECK and of a foreign key its number in its table, from 0
 abbrev pub part_name : Kind → (number : ℕ) → (name : List ℕ) → List ℕ
 part_name Check number name = codes "\"" ++ (decimal number ++ codes "\"")
 part_name ForeignKey number name = codes "\"" ++ (decimal number ++ codes "\"")
-part_name kind number name = json_string name
+part_name kind number name = name_string name
 
 -- one thing that isn't, of this object, as an object
 abbrev pub thing_object : (name table : List ℕ) → NotJudged → List ℕ
 thing_object name table it =
     codes "{\"kind\":\"" ++ (kind_word it.kind ++ (codes "\",\"name\":" ++ (part_name it.kind it.number name
-    ++ (codes ",\"table\":" ++ (json_string table ++ (codes ",\"why\":\"" ++ (why_word it.why ++ codes "\"}")))))))
+    ++ (codes ",\"table\":" ++ (name_string table ++ (codes ",\"why\":\"" ++ (why_word it.why ++ codes "\"}")))))))
 
 abbrev pub thing_of : Option Item → NotJudged → List ℕ
 thing_of (Some x) it = thing_object x.name.items x.table.items it
@@ -83,12 +93,15 @@ thing_text schema it = thing_of (slice_get schema.items.items it.row) it
 abbrev pub most_listed : ℕ
 most_listed = 1000
 
--- the first members of the object
-abbrev pub part_head : Report → List ℕ
-part_head r =
+-- the first members of the object: the counts, and how many cells have a text that isn't one in the encoding
+abbrev pub part_counts : Report → List ℕ
+part_counts r =
     codes "{\"check\":\"clean\",\"records\":\"sound\",\"schema\":\"sound\",\"indexes\":\"in part\",\"pages\":" ++ (decimal r.pages
     ++ (codes ",\"trees\":" ++ (decimal r.trees ++ (codes ",\"b-tree\":" ++ (decimal r.btree ++ (codes ",\"overflow\":" ++ (decimal r.overflow
-    ++ (codes ",\"free\":" ++ (decimal r.free ++ codes ",\"not_judged\":[")))))))))
+    ++ (codes ",\"free\":" ++ (decimal r.free ++ codes ",\"ill_formed\":")))))))))
+
+abbrev pub part_head : Report → (ill_formed : ℕ) → List ℕ
+part_head r ill_formed = part_counts r ++ (decimal ill_formed ++ codes ",\"not_judged\":[")
 
 -- what stands between two of them
 abbrev pub comma : List ℕ
@@ -99,6 +112,6 @@ abbrev pub part_end : List NotJudged → List ℕ
 part_end all = codes "],\"not_judged_count\":" ++ (decimal (length all) ++ codes "}\n")
 
 -- the same as an object, with the first thousand things that aren't judged, and how many there are
-abbrev pub part_object : Report → Schema → List NotJudged → List ℕ
-part_object r schema all =
-    part_head r ++ (joined comma (map (thing_text schema) (take most_listed all)) ++ part_end all)
+abbrev pub part_object : Report → Schema → List NotJudged → (ill_formed : ℕ) → List ℕ
+part_object r schema all ill_formed =
+    part_head r ill_formed ++ (joined comma (map (thing_text schema) (take most_listed all)) ++ part_end all)

@@ -1,16 +1,20 @@
 //! What a deep check finds of files.
-ghost use Rattle.std.specs.Prelude.{◌≡◌, ◌⊎◌, Err, IfErr, IfOk, None, Ok};
+ghost use Rattle.std.specs.Prelude.{◌≡◌, ◌⊎◌, Err, IfErr, IfOk, IfSome, None, Ok, false};
 ghost use Rattle.cli_facts.specs.internal.Refusals.{refusal_of_judge};
 ghost use Rattle.sqview.specs.declared.judge_error.JudgeError.{JudgeError};
 ghost use Rattle.cli_show.specs.Fronts.{IsAskedFront};
-ghost use Rattle.cli_show.specs.Views.{IsNotFound};
-ghost use Rattle.cli_show_deep.specs.Found.{IsFoundAs, IsFoundDeep, IsHeadlessDeep};
+ghost use Rattle.cli_show.specs.Views.{AreAskedCounts, IsNotFound};
+ghost use Rattle.cli_show_deep.specs.Found.{IsFoundAs, IsFoundDeep, IsHeadlessDeep, IsMissingFound};
+ghost use Rattle.cli_show_deep.specs.internal.Plain.{IsPlain};
+ghost use Rattle.sqview.specs.LogView.{pages_of};
+ghost use Rattle.sqview.specs.Verdicts.{IsUnjudgedWith};
 
 use cli_facts::{Front, Refusal};
-use cli_show::{Asked, judged, view_of};
-use sqdeepjudge::{DeepVerdict, deep_without, judge_deep};
-use sqpast::PastError;
-use sqview::{FileBytes, JudgeError};
+use cli_show::{Asked, Used, used_view_of};
+use sqcheck::Options as Maps;
+use sqdeepjudge::{DeepVerdict, deep_without, first_missing, judge_deep};
+use sqpast::{Counts, PastError};
+use sqview::{FileBytes, JudgeError, View, judge_view_with};
 use std::alloc::Global;
 
 /// What is found of a file with its logs, and the front of the log, if a frame of one counts.
@@ -18,19 +22,51 @@ use std::alloc::Global;
 pub struct DeepFinding {
     pub verdict: DeepVerdict,
     pub front: Option<Front>,
+    /// How many pages the database has, by its log and by its header; none where there is no view.
+    pub counts: Option<Counts>,
+    /// The least page that is missing, from 1; none by a deep check, whose verdict is that fault.
+    pub missing: Option<u32>,
 }
 
-/// What is found, or why nothing is, beside this front.
-fn as_found(
+/// What is told of a view beside its verdict.
+#[derive(Clone, Copy)]
+struct Beside {
     front: Option<Front>,
-    found: Result<DeepVerdict, JudgeError>,
-) -> Result<DeepFinding, Refusal>
-    ensures ok { IfOk result (λ finding. (found ≡ Ok finding.verdict) × (finding.front ≡ front)) }
+    counts: Option<Counts>,
+    missing: Option<u32>,
+}
+
+impl Beside {
+    /// Where there is no view.
+    const NONE: Beside = Beside {
+        front: None,
+        counts: None,
+        missing: None,
+    };
+}
+
+/// What is found, or why nothing is, beside this.
+fn as_found(beside: Beside, found: Result<DeepVerdict, JudgeError>) -> Result<DeepFinding, Refusal>
+    ensures ok { IfOk result (λ finding. (found ≡ Ok finding.verdict) × (finding.front ≡ beside.front)) }
+    ensures counts { IfOk result (λ finding. finding.counts ≡ beside.counts) }
+    ensures missing { IfOk result (λ finding. finding.missing ≡ beside.missing) }
     ensures err { IfErr result (λ refusal. (error : JudgeError) × (found ≡ Err error)
         × (refusal ≡ refusal_of_judge error)) }
 {
     match found {
-        Ok(verdict) => Ok(DeepFinding { verdict, front }),
+        Ok(verdict) => {
+            let Beside {
+                front,
+                counts,
+                missing,
+            } = beside;
+            Ok(DeepFinding {
+                verdict,
+                front,
+                counts,
+                missing,
+            })
+        }
         Err(error) => Err(Refusal::from(error)),
     }
 }
@@ -51,20 +87,89 @@ fn judged_deep<F: FileBytes + Drop>(
         × IsHeadlessDeep asked.limits asked.at (F.bytes db) (F.bytes wal) (F.bytes journal) found.verdict)) }
     ensures refused { F.gives_bytes db × F.gives_bytes wal × F.gives_bytes journal → IfErr result
         (IsNotFound asked.maps.pointer_maps asked.limits asked.at (F.bytes db) (F.bytes wal) (F.bytes journal)) }
+    ensures counts { F.gives_bytes db × F.gives_bytes wal × F.gives_bytes journal → IfOk result (λ found.
+        IfSome found.counts (AreAskedCounts asked.at (F.bytes db) (F.bytes wal) (F.bytes journal))) }
+    ensures missing { IfOk result (λ found. found.missing ≡ None) }
 {
-    match view_of(alloc, asked.limits, db, wal, journal, asked.at) {
-        Ok(mut view) => {
+    let long = db.len();
+    match used_view_of(alloc, asked.limits, db, wal, journal, asked.at) {
+        Ok(used) => {
+            let Used { mut view, counts } = used;
             let front = Front::of_view(&view);
-            as_found(front, judge_deep(alloc, &mut view, asked.maps))
+            let found = judge_deep(alloc, &mut view, long, asked.maps);
+            let beside = Beside {
+                front,
+                counts: Some(counts),
+                missing: None,
+            };
+            as_found(beside, found)
         }
-        Err(PastError::Refused(error)) => as_found(None, deep_without(error)),
+        Err(PastError::Refused(error)) => as_found(Beside::NONE, deep_without(error)),
         Err(PastError::CommitOverwritten) => Err(Refusal::CommitOverwritten),
     }
 }
 
-/// What a check, or a deep one, finds of a file with its logs, and the front at which that view stands; none where
-/// the file's own header names no database. Refused as the view is, by `AutoVacuum` where pointer maps aren't asked
-/// for, and by `FileFailed` where a file could not be read.
+/// The verdict of a check that isn't deep, on a view.
+fn judge_plain<F: FileBytes>(
+    alloc: Global,
+    view: &mut View<F>,
+    maps: Maps,
+) -> Result<DeepVerdict, JudgeError>
+    ensures found { F.reads_right view.old.db × F.reads_right view.old.log
+        → IfOk result (IsPlain maps.pointer_maps (pages_of F.bytes view.old) view.old.page_size) }
+    ensures refused { F.gives_bytes view.old.db × F.gives_bytes view.old.log
+        → IfErr result (IsUnjudgedWith maps.pointer_maps (pages_of F.bytes view.old)) }
+{
+    match judge_view_with(alloc, view, maps) {
+        Ok(verdict) => Ok(DeepVerdict::of(verdict)),
+        Err(error) => Err(error),
+    }
+}
+
+/// What a check that isn't deep finds, as `judged_as` gives it.
+fn judged_plain<F: FileBytes + Drop>(
+    alloc: Global,
+    asked: Asked,
+    db: F,
+    wal: F,
+    journal: F,
+) -> Result<DeepFinding, Refusal>
+    ensures found { F.gives_bytes db × F.gives_bytes wal × F.gives_bytes journal → IfOk result (λ found.
+        IsFoundAs false asked.maps.pointer_maps asked.limits asked.at (F.bytes db) (F.bytes wal) (F.bytes journal)
+        found.verdict) }
+    ensures front { F.gives_bytes db × F.gives_bytes wal × F.gives_bytes journal → IfOk result (λ found.
+        IsAskedFront asked.at (F.bytes wal) (F.bytes journal) found.front ⊎ ((found.front ≡ None)
+        × IsHeadlessDeep asked.limits asked.at (F.bytes db) (F.bytes wal) (F.bytes journal) found.verdict)) }
+    ensures refused { F.gives_bytes db × F.gives_bytes wal × F.gives_bytes journal → IfErr result
+        (IsNotFound asked.maps.pointer_maps asked.limits asked.at (F.bytes db) (F.bytes wal) (F.bytes journal)) }
+    ensures counts { F.gives_bytes db × F.gives_bytes wal × F.gives_bytes journal → IfOk result (λ found.
+        IfSome found.counts (AreAskedCounts asked.at (F.bytes db) (F.bytes wal) (F.bytes journal))) }
+    ensures missing { F.gives_bytes db × F.gives_bytes wal × F.gives_bytes journal → IfOk result
+        (IsMissingFound false asked.limits asked.at (F.bytes db) (F.bytes wal) (F.bytes journal)) }
+{
+    let long = db.len();
+    match used_view_of(alloc, asked.limits, db, wal, journal, asked.at) {
+        Ok(used) => {
+            let Used { mut view, counts } = used;
+            let front = Front::of_view(&view);
+            let missing = first_missing(&view, long);
+            let found = judge_plain(alloc, &mut view, asked.maps);
+            let beside = Beside {
+                front,
+                counts: Some(counts),
+                missing,
+            };
+            as_found(beside, found)
+        }
+        Err(PastError::Refused(error)) => as_found(Beside::NONE, deep_without(error)),
+        Err(PastError::CommitOverwritten) => Err(Refusal::CommitOverwritten),
+    }
+}
+
+/// What a check, or a deep one, finds of the pages of a file with its logs that SQLite would use, the front at which
+/// that view stands, and how many pages there were; by one that isn't deep also the least page that is missing. None of
+/// these if the file's own header names no database. Refused as the view is, by `AutoVacuum` if pointer maps aren't
+/// asked for, and by `FileFailed` where a file could not be read.
 pub fn judged_as<F: FileBytes + Drop>(
     alloc: Global,
     asked: Asked,
@@ -81,15 +186,14 @@ pub fn judged_as<F: FileBytes + Drop>(
         × IsHeadlessDeep asked.limits asked.at (F.bytes db) (F.bytes wal) (F.bytes journal) found.verdict)) }
     ensures refused { F.gives_bytes db × F.gives_bytes wal × F.gives_bytes journal → IfErr result
         (IsNotFound asked.maps.pointer_maps asked.limits asked.at (F.bytes db) (F.bytes wal) (F.bytes journal)) }
+    ensures counts { F.gives_bytes db × F.gives_bytes wal × F.gives_bytes journal → IfOk result (λ found.
+        IfSome found.counts (AreAskedCounts asked.at (F.bytes db) (F.bytes wal) (F.bytes journal))) }
+    ensures missing { F.gives_bytes db × F.gives_bytes wal × F.gives_bytes journal → IfOk result
+        (IsMissingFound deep asked.limits asked.at (F.bytes db) (F.bytes wal) (F.bytes journal)) }
 {
     if deep {
-        return judged_deep(alloc, asked, db, wal, journal);
-    }
-    match judged(alloc, asked, db, wal, journal) {
-        Ok(found) => Ok(DeepFinding {
-            verdict: DeepVerdict::of(found.verdict),
-            front: found.front,
-        }),
-        Err(refusal) => Err(refusal),
+        judged_deep(alloc, asked, db, wal, journal)
+    } else {
+        judged_plain(alloc, asked, db, wal, journal)
     }
 }

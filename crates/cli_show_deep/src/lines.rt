@@ -1,7 +1,8 @@
 //! How it is printed what a deep check finds.
 ghost use Rattle.std.specs.Prelude.{OnOk};
 ghost use Rattle.std.specs.Io.KnownBytes.{Appends};
-ghost use Rattle.cli_show_deep.specs.Lines.{content_text, found_text, inner_text, schema_text, sound_text};
+ghost use Rattle.cli_show_deep.specs.Lines.{content_text, cut_text, found_text, inner_text, schema_text, sound_text};
+ghost use Rattle.cli_show_deep.specs.Lines.{clean_counts, clean_object, clean_text, damage_object, damage_text};
 ghost use Rattle.cli_show_deep.specs.Lines.{place_text, table_row_text, whole_or_part};
 
 use crate::parts::{write_part_line, write_part_object};
@@ -10,13 +11,19 @@ use cli_words::Style;
 use sqcheck::Report;
 use sqcontents::{ContentError, TableRowError};
 use sqdeep::InnerError;
-use sqdeepjudge::{Damage, DeepVerdict, NotJudged};
+use sqdeepjudge::{Damage, DeepVerdict, Unjudged};
+use sqpage::CheckError;
 use sqschema::{ObjectError, Schema};
 use std::io::{self, Write};
 
 /// A database of which all is judged, and sound.
-fn write_sound<W: Write>(out: &mut W, style: Style, report: &Report) -> io::Result<()>
-    ensures { OnOk result (Appends (W.contents out.old) (W.contents out.new) (sound_text style report.now)) }
+fn write_sound<W: Write>(
+    out: &mut W,
+    style: Style,
+    report: &Report,
+    ill_formed: u64,
+) -> io::Result<()>
+    ensures { OnOk result (Appends (W.contents out.old) (W.contents out.new) (sound_text style report.now ill_formed)) }
 {
     let Report {
         pages,
@@ -42,6 +49,7 @@ fn write_sound<W: Write>(out: &mut W, style: Style, report: &Report) -> io::Resu
                 number("b-tree", btree),
                 number("overflow", overflow),
                 number("free", free),
+                number("ill_formed", ill_formed),
             ];
             write_facts(out, style, &facts)
         }
@@ -54,17 +62,101 @@ fn write_whole_or_part<W: Write>(
     style: Style,
     report: &Report,
     schema: &Schema,
-    all: &[NotJudged],
+    unjudged: &Unjudged,
 ) -> io::Result<()>
     ensures { OnOk result (Appends (W.contents out.old) (W.contents out.new) (whole_or_part style report.now
-        schema.now all.now)) }
+        schema.now unjudged.now.all.items unjudged.now.ill_formed)) }
 {
+    let (all, ill_formed) = (unjudged.all.as_slice(), unjudged.ill_formed);
     if all.is_empty() {
-        return write_sound(out, style, report);
+        return write_sound(out, style, report, ill_formed);
     }
     match style {
         Style::Lines => write_part_line(out, report, schema, all),
-        Style::Json => write_part_object(out, report, schema, all),
+        Style::Json => write_part_object(out, report, schema, all, ill_formed),
+    }
+}
+
+/// The counts at the front of the object of a well-formed database of which a page is missing.
+fn write_clean_counts<W: Write>(out: &mut W, report: &Report) -> io::Result<()>
+    ensures { OnOk result (Appends (W.contents out.old) (W.contents out.new) (clean_counts report.now)) }
+{
+    let Report {
+        pages,
+        trees,
+        btree,
+        overflow,
+        free,
+    } = *report;
+    write!(
+        out,
+        "{{\"check\":\"clean\",\"pages\":{pages},\"trees\":{trees},\"b-tree\":{btree},\
+         \"overflow\":{overflow},\"free\":{free},\"missing\":"
+    )
+}
+
+/// A well-formed database of which this page is the least that is missing, as an object.
+fn write_clean_object<W: Write>(out: &mut W, report: &Report, page: u32) -> io::Result<()>
+    ensures { OnOk result (Appends (W.contents out.old) (W.contents out.new) (clean_object report.now page)) }
+{
+    write_clean_counts(out, report)?;
+    writeln!(out, "{page}}}")
+}
+
+/// A well-formed database, and in an object the least page that is missing.
+fn write_clean<W: Write>(
+    out: &mut W,
+    style: Style,
+    report: &Report,
+    missing: Option<u32>,
+) -> io::Result<()>
+    ensures { OnOk result (Appends (W.contents out.old) (W.contents out.new) (clean_text style report.now missing)) }
+{
+    match missing {
+        None => write_report(out, style, report),
+        Some(page) => match style {
+            Style::Lines => write_report(out, Style::Lines, report),
+            Style::Json => write_clean_object(out, report, page),
+        },
+    }
+}
+
+/// A fault at a page, where this one is the least that is missing, as an object.
+fn write_damage_object<W: Write>(out: &mut W, error: &CheckError, least: u32) -> io::Result<()>
+    ensures { OnOk result (Appends (W.contents out.old) (W.contents out.new) (damage_object error.now least)) }
+{
+    let (page, fault, name) = (error.page, error.fault.number(), error.fault.name());
+    writeln!(
+        out,
+        "{{\"page\":{page},\"fault\":{fault},\"name\":\"{name}\",\"missing\":{least}}}"
+    )
+}
+
+/// A fault at a page, and in an object the least page that is missing.
+fn write_damage<W: Write>(
+    out: &mut W,
+    style: Style,
+    error: &CheckError,
+    missing: Option<u32>,
+) -> io::Result<()>
+    ensures { OnOk result (Appends (W.contents out.old) (W.contents out.new) (damage_text style error.now missing)) }
+{
+    match missing {
+        None => write_fault(out, style, error),
+        Some(least) => match style {
+            Style::Lines => write_fault(out, Style::Lines, error),
+            Style::Json => write_damage_object(out, error, least),
+        },
+    }
+}
+
+/// A page that is missing.
+fn write_cut<W: Write>(out: &mut W, style: Style, page: u32) -> io::Result<()>
+    ensures { OnOk result (Appends (W.contents out.old) (W.contents out.new) (cut_text style page)) }
+{
+    match style {
+        Style::Lines => writeln!(out, "page {page}: fault 36 FileCut"),
+        Style::Json => writeln!(out, "{{\"page\":{page},\"fault\":36,\"name\":\"FileCut\"}}"),
     }
 }
 
@@ -172,16 +264,23 @@ fn write_row<W: Write>(out: &mut W, style: Style, error: &TableRowError) -> io::
     write_place(out, style, &place)
 }
 
-/// What a check found, or a deep one: a line, or an object. An error of the writer.
-pub fn write_found<W: Write>(out: &mut W, style: Style, verdict: &DeepVerdict) -> io::Result<()>
-    ensures { OnOk result (Appends (W.contents out.old) (W.contents out.new) (found_text style verdict.now)) }
+/// What a check found, or a deep one: a line, or an object. That of a check that isn't deep also has the least page
+/// that is missing. An error of the writer.
+pub fn write_found<W: Write>(
+    out: &mut W,
+    style: Style,
+    verdict: &DeepVerdict,
+    missing: Option<u32>,
+) -> io::Result<()>
+    ensures { OnOk result (Appends (W.contents out.old) (W.contents out.new) (found_text style verdict.now missing)) }
 {
     match verdict {
-        DeepVerdict::Clean(report) => write_report(out, style, report),
+        DeepVerdict::Clean(report) => write_clean(out, style, report, missing),
         DeepVerdict::Sound(report, schema, unjudged) => {
-            write_whole_or_part(out, style, report, schema, &unjudged.all)
+            write_whole_or_part(out, style, report, schema, unjudged)
         }
-        DeepVerdict::Damaged(Damage::Check(error)) => write_fault(out, style, error),
+        DeepVerdict::Damaged(Damage::Cut(page)) => write_cut(out, style, *page),
+        DeepVerdict::Damaged(Damage::Check(error)) => write_damage(out, style, error, missing),
         DeepVerdict::Damaged(Damage::Inner(error)) => write_inner(out, style, error),
         DeepVerdict::Damaged(Damage::Schema(error)) => write_schema(out, style, error),
         DeepVerdict::Damaged(Damage::Content(error)) => write_content(out, style, error),

@@ -1,17 +1,19 @@
 //! How it is printed what a deep check doesn't judge of a sound database.
-ghost use Rattle.std.specs.Prelude.{◌≡◌, OnOk, map, take};
+ghost use Rattle.std.specs.Prelude.{◌≡◌, ◌↔◌, IsTrue, OnOk, map, take};
+ghost use Rattle.std.specs.Str.{IsUtf8};
 ghost use Rattle.std.specs.Io.KnownBytes.{Appends};
 ghost use Rattle.cli_text.specs.Facts.{joined, separator};
 ghost use Rattle.cli_show_deep.specs.Parts.{comma, kind_word, line_head, most_listed, nevers_text, part_end};
-ghost use Rattle.cli_show_deep.specs.Parts.{part_head, part_line, part_name, part_object, shares_text, thing_object};
-ghost use Rattle.cli_show_deep.specs.Parts.{thing_text, why_word};
+ghost use Rattle.cli_show_deep.specs.Parts.{hex_string, name_string, part_counts, part_head, part_line, part_name};
+ghost use Rattle.cli_show_deep.specs.Parts.{part_object, shares_text, thing_object, thing_text, why_word};
 
 use cli_row_text::write_string;
+use cli_text::write_hex;
 use sqcheck::Report;
 use sqdeepjudge::{Kind, NotJudged, Why, objects_of, things_of};
 use sqschema::Schema;
-use std::fmt;
 use std::io::{self, Write};
+use std::{fmt, str};
 
 /// How many things that aren't judged are listed at most.
 const MOST_LISTED: usize = 1000;
@@ -144,6 +146,33 @@ fn why_word(why: Why) -> &'static str
     }
 }
 
+/// Whether a name is UTF-8.
+fn is_text(name: &[u8]) -> bool
+    ensures { IsTrue result ↔ IsUtf8 name.now }
+{
+    str::from_utf8(name).is_ok()
+}
+
+/// The bytes of a name as a string of hex.
+fn write_hex_string<W: Write>(out: &mut W, name: &[u8]) -> io::Result<()>
+    ensures { OnOk result (Appends (W.contents out.old) (W.contents out.new) (hex_string name.now)) }
+{
+    out.write_all(b"\"hex:")?;
+    write_hex(out, name)?;
+    out.write_all(b"\"")
+}
+
+/// A name of the schema as a string of JSON: its bytes as hex if they aren't UTF-8.
+fn write_name_string<W: Write>(out: &mut W, name: &[u8]) -> io::Result<()>
+    ensures { OnOk result (Appends (W.contents out.old) (W.contents out.new) (name_string name.now)) }
+{
+    if is_text(name) {
+        write_string(out, name)
+    } else {
+        write_hex_string(out, name)
+    }
+}
+
 /// The name of what isn't judged, of an object of this name.
 fn write_name<W: Write>(out: &mut W, it: NotJudged, name: &[u8]) -> io::Result<()>
     ensures { OnOk result (Appends (W.contents out.old) (W.contents out.new) (part_name it.kind it.number name.now)) }
@@ -151,7 +180,7 @@ fn write_name<W: Write>(out: &mut W, it: NotJudged, name: &[u8]) -> io::Result<(
     let number = it.number;
     match it.kind {
         Kind::Check | Kind::ForeignKey => write!(out, "\"{number}\""),
-        _ => write_string(out, name),
+        _ => write_name_string(out, name),
     }
 }
 
@@ -163,7 +192,7 @@ fn write_thing<W: Write>(out: &mut W, it: NotJudged, name: &[u8], table: &[u8]) 
     write!(out, "{{\"kind\":\"{kind}\",\"name\":")?;
     write_name(out, it, name)?;
     out.write_all(b",\"table\":")?;
-    write_string(out, table)?;
+    write_name_string(out, table)?;
     write!(out, ",\"why\":\"{why}\"}}")
 }
 
@@ -207,9 +236,9 @@ fn first_of(all: &[NotJudged]) -> &[NotJudged]
     &all[..MOST_LISTED.min(all.len())]
 }
 
-/// The first members of the object of a database of which not all is judged.
-fn write_part_head<W: Write>(out: &mut W, report: &Report) -> io::Result<()>
-    ensures { OnOk result (Appends (W.contents out.old) (W.contents out.new) (part_head report.now)) }
+/// The counts at the front of the object of a database of which not all is judged.
+fn write_part_counts<W: Write>(out: &mut W, report: &Report) -> io::Result<()>
+    ensures { OnOk result (Appends (W.contents out.old) (W.contents out.new) (part_counts report.now)) }
 {
     let Report {
         pages,
@@ -222,8 +251,16 @@ fn write_part_head<W: Write>(out: &mut W, report: &Report) -> io::Result<()>
         out,
         "{{\"check\":\"clean\",\"records\":\"sound\",\"schema\":\"sound\",\"indexes\":\"in part\",\
          \"pages\":{pages},\"trees\":{trees},\"b-tree\":{btree},\"overflow\":{overflow},\"free\":{free},\
-         \"not_judged\":["
+         \"ill_formed\":"
     )
+}
+
+/// The first members of that object.
+fn write_part_head<W: Write>(out: &mut W, report: &Report, ill_formed: u64) -> io::Result<()>
+    ensures { OnOk result (Appends (W.contents out.old) (W.contents out.new) (part_head report.now ill_formed)) }
+{
+    write_part_counts(out, report)?;
+    write!(out, "{ill_formed},\"not_judged\":[")
 }
 
 /// The end of it.
@@ -240,11 +277,12 @@ pub(crate) fn write_part_object<W: Write>(
     report: &Report,
     schema: &Schema,
     all: &[NotJudged],
+    ill_formed: u64,
 ) -> io::Result<()>
     ensures { OnOk result (Appends (W.contents out.old) (W.contents out.new) (part_object report.now schema.now
-        all.now)) }
+        all.now ill_formed)) }
 {
-    write_part_head(out, report)?;
+    write_part_head(out, report, ill_formed)?;
     write_parts(out, schema, first_of(all))?;
     write_part_end(out, all)
 }

@@ -6,12 +6,13 @@ use Rattle.sqdeep.specs.declared.text.Encoding.{Encoding as TextEncoding}
 use Rattle.cli_schema_text.specs.Comments.{count_text}
 use Rattle.cli_show_rows.specs.declared.stop.Stop.{Stop}
 use Rattle.cli_show_rows.specs.declared.stop.Stop.TheVariants.{Fault, Record, TooLong, NotUnderstood, Default, Behind, Encoding, NotNamed, LeftOut, NoSuchTable, NoMemory, Write}
-use Rattle.cli_show_rows.specs.Stops.{IsUnheaded, IsWriteError}
+use Rattle.cli_show_rows.specs.Stops.{IsEnded, IsUnheaded, IsWriteError}
 use Rattle.cli_show_rows.specs.internal.Stopping.{IsCounted}
 use Rattle.cli_show_diff.specs.declared.changes.Frame.{Frame}
 use Rattle.cli_show_diff.specs.declared.changes.Schemas.{Schemas}
 use Rattle.cli_show_diff.specs.declared.form.ChangeForm.{ChangeForm}
-use Rattle.cli_show_diff.specs.Changes.{AreFramed, AreFramedStopped}
+use Rattle.cli_show_diff.specs.Changes.{AreAskedStopped, AreFramed, AreFramedStopped}
+use Rattle.cli_show_diff.specs.Frames.{IsStopToldIn}
 use Rattle.cli_show_diff.specs.internal.Framing.{AreBegunPrinted, AreBegunStopped, IsFrameOf}
 
 -- out of memory before anything was written, or a writer that failed
@@ -48,10 +49,12 @@ module _ (d e : Database) (schemas : Schemas) (names : List (List ℕ)) (form : 
     counted = of.counted;
   }
 
-  pub begun_stopped : (stop : Stop) (before after : Option (List ℕ)) → AreBegunStopped d e schemas names form f.opening.items stop before after
-      → AreFramedStopped d e schemas names form encoding stop before after
-  begun_stopped stop before after (inl w) = inl (unwritten stop before after w)
-  begun_stopped stop before after (inr w) = inr (inr (inl (f.opening.items, w.0, of.opens, w.1, w.2)))
+  pub begun_stopped : (stop ended : Stop) (before mid after : Option (List ℕ)) → AreBegunStopped d e schemas names form f.opening.items stop before mid
+      → IsEnded (IsStopToldIn form) stop ended mid after → AreFramedStopped d e schemas names form encoding ended before after
+  begun_stopped stop ended before mid after w (inl h) = inl (unwritten ended before after h)
+  begun_stopped stop ended before mid after (inl w) (inr h) = inl (unwritten ended before after (subst IsWriteError (sym h.0) w))
+  begun_stopped stop ended before mid after (inr w) (inr h) =
+      inr (inr (inl (f.opening.items, w.0, mid, of.opens, w.1, subst (λ (s : Stop). AreAskedStopped d e schemas names form s w.0 mid) (sym h.0) w.2, h.1)))
 
 module _ (d e : Database) (schemas : Schemas) (names : List (List ℕ)) (form : ChangeForm) (encoding : TextEncoding) (left : ℕ) (before mid after : Option (List ℕ)) where
   pub some_left : (stop : Stop) → AreFramed d e schemas names form encoding left before mid → IsCounted left stop mid after

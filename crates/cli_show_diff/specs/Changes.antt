@@ -20,7 +20,7 @@ use Rattle.cli_show_diff.specs.declared.form.ChangeForm.{ChangeForm}
 use Rattle.cli_show_diff.specs.declared.pair.Pair.{Pair}
 use Rattle.cli_show_diff.specs.declared.turn.Turn.{Turn}
 use Rattle.cli_show_diff.specs.declared.turn.Side.TheVariants.{Old, New}
-use Rattle.cli_show_diff.specs.Frames.{IsClosingText, IsOpeningText, IsWritten}
+use Rattle.cli_show_diff.specs.Frames.{IsClosingText, IsOpeningText, IsStopToldIn, IsWritten}
 use Rattle.cli_show_diff.specs.LeftOut.{LeavesOut}
 use Rattle.cli_show_diff.specs.Pairs.{IsPairPrinted, IsPairStopped}
 use Rattle.cli_show_diff.specs.Turns.{AreTurnsPrinted, AreTurnsStopped, IsFound}
@@ -132,13 +132,13 @@ AreSomeLeftOut d e schemas names form encoding (LeftOut n) before after =
 AreSomeLeftOut d e schemas names form encoding _ before after = ⊥
 
 -- They weren't: the writer failed, or memory ran out before anything was written; an object can't be written; the printing stopped
--- behind what stands before; or a script leaves something out.
+-- behind what stands before, which a script tells; or a script leaves something out.
 abbrev pub AreFramedStopped : Database → Database → Schemas → (names : List (List ℕ)) → ChangeForm → Encoding → Stop → (before after : Option (List ℕ)) → Type 0
 AreFramedStopped d e schemas names form encoding stop before after =
     IsUnheaded stop before after
     ⊎ ((o : Object) × (Contains schemas.old.now o ⊎ Contains schemas.new.now o) × (¬ IsWritten form o) × (stop ≡ NotUnderstood) × (before ≡ after))
-    ⊎ ((opening : List ℕ) × (begun : Option (List ℕ)) × IsOpeningText form encoding schemas.old.now schemas.new.now opening × Appends before begun opening
-    × AreAskedStopped d e schemas names form stop begun after)
+    ⊎ ((opening : List ℕ) × (begun mid : Option (List ℕ)) × IsOpeningText form encoding schemas.old.now schemas.new.now opening × Appends before begun opening
+    × AreAskedStopped d e schemas names form stop begun mid × IsStopToldIn form mid after)
     ⊎ AreSomeLeftOut d e schemas names form encoding stop before after
 
 -- The changes between two databases were printed, whose texts are in one encoding.

@@ -1,5 +1,5 @@
 -- What stands before and behind the changes of a script (own).
-use Rattle.std.specs.Prelude.{◌≡◌, ◌≢◌, ◌⊎◌, ℕ, ◌<◌, Bool, true, false, if◌then◌else◌, MatchBool, All, List, [], ◌∷◌, ◌++◌, codes, nat_eq}
+use Rattle.std.specs.Prelude.{◌≡◌, ◌≢◌, ◌⊎◌, ℕ, ◌<◌, Bool, true, false, if◌then◌else◌, MatchBool, All, List, [], ◌∷◌, ◌++◌, codes, nat_eq, Option}
 use Rattle.std.specs.Cmp.Lexicographic.{pointwise}
 use Rattle.std.specs.List.{Contains}
 use Rattle.std.specs.Str.{str_eq_ignore_ascii_case}
@@ -11,6 +11,7 @@ use Rattle.cli_schema_text.specs.Comments.{hex_line, unnamed_text}
 use Rattle.cli_schema_text.specs.Names.{can_be_named}
 use Rattle.cli_schema_text.specs.Texts.{IsJudged, is_left_out}
 use Rattle.cli_show_rows.specs.Dumps.{IsStatementText, start_text}
+use Rattle.cli_show_rows.specs.Stops.{IsFailingWritten}
 use Rattle.cli_show_diff.specs.declared.form.ChangeForm.{ChangeForm}
 use Rattle.cli_show_diff.specs.declared.form.ChangeForm.TheVariants.{Lines, Json, Sql}
 
@@ -62,7 +63,13 @@ IsOpeningText Sql encoding olds news t = (drops : List ℕ) × AreTextsOf (IsDro
 abbrev pub IsClosingText : ChangeForm → (news : List Object) → List ℕ → Type 0
 IsClosingText Lines news t = t ≡ []
 IsClosingText (Json commit) news t = t ≡ []
-IsClosingText Sql news t = (makes : List ℕ) × AreTextsOf IsMakeText news makes × (t ≡ makes ++ codes "COMMIT;\n")
+IsClosingText Sql news t = (makes : List ℕ) × AreTextsOf IsMakeText news makes × (t ≡ codes "COMMIT;\n" ++ makes)
+
+-- That it had to stop is told in a script alone.
+abbrev pub IsStopToldIn : ChangeForm → (before after : Option (List ℕ)) → Type 0
+IsStopToldIn Lines before after = before ≡ after
+IsStopToldIn (Json commit) before after = before ≡ after
+IsStopToldIn Sql before after = IsFailingWritten before after
 
 -- An object can be written: in SQL no virtual table, whose own tables its module makes.
 abbrev pub IsWritten : ChangeForm → Object → Type 0

@@ -1,8 +1,9 @@
 //! The changes of all tables of a database, or of one of a name.
 ghost use Rattle.std.specs.Prelude.{◌≡◌, ◌≢◌, OnOk, IfOk, IfErr, MatchOption, Some};
 ghost use Rattle.sqpage.specs.Source.{KeepsPages};
-ghost use Rattle.cli_show_rows.specs.Stops.{SchemaRefused};
+ghost use Rattle.cli_show_rows.specs.Stops.{IsEnded, SchemaRefused};
 ghost use Rattle.cli_show_rows.specs.internal.Stopping.{IsCounted};
+ghost use Rattle.cli_show_diff.specs.Frames.{IsStopToldIn};
 ghost use Rattle.cli_show_rows.specs.declared.stop.Stop.{Stop};
 ghost use Rattle.cli_show_diff.specs.Changes.{AreAllPrinted, AreAllStopped, AreAskedPrinted, AreAskedStopped};
 ghost use Rattle.cli_show_diff.specs.Changes.{AreChangesPrinted, AreChangesStopped, AreFramedPrinted, AreFramedStopped};
@@ -16,7 +17,7 @@ use crate::left::left_out;
 use crate::pair::{Pair, print_pair};
 use crate::turn::{Side, Turn, print_turn};
 use cli_schema_text::write_count;
-use cli_show_rows::{Schema, Stop, listed};
+use cli_show_rows::{Schema, Stop, listed, stopped_script};
 use sqdeep::Encoding;
 use sqpage::PageSource;
 use sqtables::{Object, table_named};
@@ -277,6 +278,16 @@ fn print_begun<S: PageSource, T: PageSource, W: Write>(
     }
 }
 
+/// Ends what had to stop: a script with a statement that fails. Gives why it stopped, or that the writer fails now.
+fn stopped<W: Write>(out: &mut W, form: ChangeForm, stop: Stop) -> Stop
+    ensures { IsEnded (IsStopToldIn form) stop result (W.contents out.old) (W.contents out.new) }
+{
+    match form {
+        ChangeForm::Lines | ChangeForm::Json(_) => stop,
+        ChangeForm::Sql => stopped_script(out, stop),
+    }
+}
+
 /// Counts what is left out, if anything is.
 fn print_count<W: Write>(count: usize, out: &mut W) -> Result<(), Stop>
     ensures ok { OnOk result ((count ≡ 0) × (W.contents out.old ≡ W.contents out.new)) }
@@ -322,7 +333,7 @@ fn print_framed<S: PageSource, T: PageSource, W: Write>(
     };
     match print_begun(alloc, old, new, asked, &frame.opening, out) {
         Ok(()) => {}
-        Err(stop) => return Err(stop),
+        Err(stop) => return Err(stopped(out, asked.form, stop)),
     }
     match out.write_all(&frame.closing) {
         Ok(()) => print_count(frame.left, out),
@@ -340,7 +351,7 @@ fn print_framed<S: PageSource, T: PageSource, W: Write>(
 /// encoding isn't known or each has its own, by `NoSuchTable`, by `NotUnderstood` where it isn't known how the rows of
 /// a table WITHOUT ROWID are sorted and it has some, and in SQL where there is a virtual table, or a column of a table
 /// with changes isn't known or has a name with NUL or CR, and by faults of trees and rows behind what stands before
-/// them.
+/// them. A script that was begun then ends with a statement that fails, but behind `LeftOut`.
 pub fn print_changes<S: PageSource, T: PageSource, W: Write>(
     alloc: Global,
     old: &mut S,

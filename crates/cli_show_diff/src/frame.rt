@@ -226,13 +226,13 @@ pub(crate) fn closing_of(alloc: Global, form: ChangeForm, news: &[Object]) -> Re
         ChangeForm::Lines | ChangeForm::Json(_) => return Ok(out),
         ChangeForm::Sql => {}
     }
-    match add_makes(alloc, news, &mut out) {
-        Ok(()) => {}
-        Err(stop) => return Err(stop),
-    }
     match out.extend_from_slice(b"COMMIT;\n") {
+        Ok(()) => {}
+        Err(_) => return Err(Stop::NoMemory),
+    }
+    match add_makes(alloc, news, &mut out) {
         Ok(()) => Ok(out),
-        Err(_) => Err(Stop::NoMemory),
+        Err(stop) => Err(stop),
     }
 }
 

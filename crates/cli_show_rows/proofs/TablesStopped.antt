@@ -1,7 +1,10 @@
 -- What a stop says of a table, and of what was written.
-use Rattle.std.proofs.Common.{◌≡◌, ℕ, Bool, List, Option, Result, Ok, Err, OnOk, length, subst, sym}
+use Rattle.std.proofs.Common.{◌≡◌, ◌≤◌, ℕ, Bool, List, Option, Result, Ok, Err, OnOk, length, inl, inr, subst, sym}
 use Rattle.std.specs.Prelude.{IfErr}
-use Rattle.sqval.specs.Database.{Database}
+use Rattle.std.specs.Io.KnownBytes.{Appends}
+use Rattle.std.specs.List.{Contains}
+use Rattle.sqval.specs.Bytes.{word}
+use Rattle.sqval.specs.Database.{Database, page}
 use Rattle.sqval.specs.Record.{most_bytes}
 use Rattle.sqrows.specs.declared.rows.RowsError.{RowsError}
 use Rattle.sqrows.specs.declared.rows.RowsError.TheVariants as row_errors
@@ -12,15 +15,18 @@ use Rattle.sqtables.specs.declared.columns.Columns.{Columns}
 use Rattle.sqtables.specs.declared.list.ListError.{ListError}
 use Rattle.sqtables.specs.declared.list.ListError.TheVariants as list_errors
 use Rattle.sqtables.specs.declared.list.Object.{Object}
-use Rattle.sqtables.specs.Objects.{ListRefused}
+use Rattle.sqtables.specs.Objects.{IsTableNamed, ListRefused}
 use Rattle.cli_row_text.specs.declared.form.Form.{Form}
+use Rattle.cli_row_text.specs.declared.form.Notation.{Notation}
 use Rattle.cli_row_text.specs.declared.print.PrintError.{PrintError}
 use Rattle.cli_row_text.specs.declared.print.PrintError.TheVariants as print_errors
 use Rattle.cli_row_text.specs.Printed.{IsPrintedUntil, PrintRefused, WrittenUntil}
 use Rattle.cli_show_rows.specs.declared.stop.Stop.{Stop}
-use Rattle.cli_show_rows.specs.Schemas.{AreColumnsIn}
+use Rattle.cli_show_rows.specs.Dumps.{first_text, form_in, settings_text}
+use Rattle.cli_show_rows.specs.Schemas.{AreColumnsIn, HasObjectsRead}
 use Rattle.cli_show_rows.specs.Tables.{IsInsert, IsNameFor, leads_in}
-use Rattle.cli_show_rows.specs.Stops.{IsBegun, StopsAt, SchemaRefused, WrittenUntil as StoppedUntil}
+use Rattle.cli_show_rows.specs.Stops.{AreObjectsStopped, AreTablesStopped, IsBegun, IsEnded, IsHeadedStopped, IsNamedStopped, IsStopTold, StopsAt, SchemaRefused}
+use Rattle.cli_show_rows.specs.Stops.{WrittenUntil as StoppedUntil}
 use Rattle.cli_show_rows.specs.internal.Stopping.{stop_of_row, stop_of_print, stop_of_list}
 
 -- what follows of an answer
@@ -91,3 +97,18 @@ schema_refused d (list_errors.Tree e) h = (0, tree_fault d 1 0 e h)
 schema_refused d (list_errors.Row e) h = schema_row d h.0 e h.1
 schema_refused d (list_errors.Record e) h = h
 schema_refused d list_errors.NoMemory h = tt
+
+-- the rows of a database, or of a table, that stopped, as they are told
+pub stopped_ended : (d : Database) (notation : Notation) (old begun mid after : Option (List ℕ)) (objects : List Object) (stop ended : Stop)
+    → HasObjectsRead d objects → word (page d 1) 56 ≤ 3 → Appends old begun (first_text (form_in d notation))
+    → AreObjectsStopped d (form_in d notation) objects stop begun mid → IsEnded (IsStopTold notation) stop ended mid after → AreTablesStopped d notation ended old after
+stopped_ended d notation old begun mid after objects stop ended has encoded first stopped (inl w) = inr (inl w)
+stopped_ended d notation old begun mid after objects stop ended has encoded first stopped (inr w) =
+    inr (inr (inl (objects, begun, mid, has, encoded, first, subst (λ (s : Stop). AreObjectsStopped d (form_in d notation) objects s begun mid) (sym w.0) stopped, w.1)))
+
+pub named_ended : (d : Database) (name : List ℕ) (notation : Notation) (old begun mid after : Option (List ℕ)) (objects : List Object) (table : Object) (stop ended : Stop)
+    → HasObjectsRead d objects → Contains objects table → IsTableNamed name table → Appends old begun (settings_text notation)
+    → IsHeadedStopped d table (form_in d notation) stop begun mid → IsEnded (IsStopTold notation) stop ended mid after → IsNamedStopped d name notation ended old after
+named_ended d name notation old begun mid after objects table stop ended has among named first stopped (inl w) = inr (inr (inr w))
+named_ended d name notation old begun mid after objects table stop ended has among named first stopped (inr w) =
+    inr (inr (inl (objects, table, begun, mid, has, among, named, first, subst (λ (s : Stop). IsHeadedStopped d table (form_in d notation) s begun mid) (sym w.0) stopped, w.1)))

@@ -1,5 +1,5 @@
 -- Why not all rows are printed, and what was written until then (own).
-use Rattle.std.specs.Prelude.{◌≡◌, ◌⊎◌, ◌<◌, ◌≤◌, ℕ, true, false, List, length, map, take, slice_get, Option, Some}
+use Rattle.std.specs.Prelude.{◌≡◌, ◌⊎◌, ◌<◌, ◌≤◌, ℕ, true, false, List, length, map, take, slice_get, codes, Option, Some}
 use Rattle.std.specs.Io.KnownBytes.{Appends}
 use Rattle.std.specs.List.{Contains}
 use Rattle.std.specs.Prelude.{All}
@@ -14,7 +14,7 @@ use Rattle.sqtables.specs.declared.list.Object.{Object}
 use Rattle.sqtables.specs.Objects.{IsTableNamed}
 use Rattle.cli_row_text.specs.declared.form.Form.{Form}
 use Rattle.cli_row_text.specs.declared.form.Notation.{Notation}
-use Rattle.cli_row_text.specs.declared.form.Notation.TheVariants.{Sql}
+use Rattle.cli_row_text.specs.declared.form.Notation.TheVariants.{Json, Csv, Sql}
 use Rattle.cli_row_text.specs.Headings.{heading_text}
 use Rattle.cli_row_text.specs.Printed.{AreLines, Lacks, HasMore}
 use Rattle.cli_show_rows.specs.declared.stop.Stop.{Stop}
@@ -82,6 +82,19 @@ IsUnheaded (Write e) before after = Unit {0}
 IsUnheaded NoMemory before after = before ≡ after
 IsUnheaded _ before after = ⊥
 
+-- A script that had to stop ends with a statement that fails, so that loading it isn't green.
+abbrev pub IsFailingWritten : (before after : Option (List ℕ)) → Type 0
+IsFailingWritten before after = Appends before after (codes "SELECT sqrescue_stopped();\n")
+
+abbrev pub IsStopTold : Notation → (before after : Option (List ℕ)) → Type 0
+IsStopTold Json before after = before ≡ after
+IsStopTold Csv before after = before ≡ after
+IsStopTold Sql before after = IsFailingWritten before after
+
+-- A stop ended what was printed, which was told; or the writer failed instead.
+abbrev pub IsEnded : (told : Option (List ℕ) → Option (List ℕ) → Type 0) → (stop ended : Stop) → (before after : Option (List ℕ)) → Type 0
+IsEnded told stop ended before after = IsWriteError ended ⊎ ((ended ≡ stop) × told before after)
+
 -- The printing of a table stopped behind its heading, or before.
 abbrev pub IsHeadedStopped : Database → Object → Form → Stop → (before after : Option (List ℕ)) → Type 0
 IsHeadedStopped d table form stop before after =
@@ -100,13 +113,13 @@ SchemaRefused d NoMemory = Unit {0}
 SchemaRefused d _ = ⊥
 
 -- The printing of a table of this name stopped: the objects aren't listed, none is a table of this name, or that one isn't
--- printed to its end; or the writer failed.
+-- printed to its end, which a script tells; or the writer failed.
 abbrev pub IsNamedStopped : Database → (name : List ℕ) → Notation → Stop → (before after : Option (List ℕ)) → Type 0
 IsNamedStopped d name notation stop before after =
     (SchemaRefused d stop × (before ≡ after))
     ⊎ ((objects : List Object) × HasObjectsRead d objects × All (λ o. ¬ IsTableNamed name o) objects × (stop ≡ NoSuchTable) × (before ≡ after))
-    ⊎ ((objects : List Object) × (table : Object) × (begun : Option (List ℕ)) × HasObjectsRead d objects × Contains objects table × IsTableNamed name table
-    × Appends before begun (settings_text notation) × IsHeadedStopped d table (form_in d notation) stop begun after)
+    ⊎ ((objects : List Object) × (table : Object) × (begun mid : Option (List ℕ)) × HasObjectsRead d objects × Contains objects table × IsTableNamed name table
+    × Appends before begun (settings_text notation) × IsHeadedStopped d table (form_in d notation) stop begun mid × IsStopTold notation mid after)
     ⊎ IsWriteError stop
 
 -- The printing of a table stopped behind what makes it, or before.
@@ -146,12 +159,12 @@ AreSomeLeftOut d notation (LeftOut n) before after =
     × LeavesOutIn notation objects n × (0 < n) × Appends ended after (count_text n)
 AreSomeLeftOut d notation _ before after = ⊥
 
--- The printing of a database stopped: its objects aren't listed, or one isn't printed to its end, or the writer failed; or a
--- script leaves something out.
+-- The printing of a database stopped: its objects aren't listed, or one isn't printed to its end, which a script tells, or the
+-- writer failed; or a script leaves something out.
 abbrev pub AreTablesStopped : Database → Notation → Stop → (before after : Option (List ℕ)) → Type 0
 AreTablesStopped d notation stop before after =
     (SchemaRefused d stop × (before ≡ after))
     ⊎ IsWriteError stop
-    ⊎ ((objects : List Object) × (begun : Option (List ℕ)) × HasObjectsRead d objects × (word (page d 1) 56 ≤ 3) × Appends before begun (first_text (form_in d notation))
-    × AreObjectsStopped d (form_in d notation) objects stop begun after)
+    ⊎ ((objects : List Object) × (begun mid : Option (List ℕ)) × HasObjectsRead d objects × (word (page d 1) 56 ≤ 3) × Appends before begun (first_text (form_in d notation))
+    × AreObjectsStopped d (form_in d notation) objects stop begun mid × IsStopTold notation mid after)
     ⊎ AreSomeLeftOut d notation stop before after

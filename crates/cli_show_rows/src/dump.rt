@@ -9,11 +9,11 @@ ghost use Rattle.cli_show_rows.specs.Dumps.{IsOtherText, IsTurnTaken, IsVirtualI
 ghost use Rattle.cli_show_rows.specs.Dumps.{encoding_text, last_text, settings, settings_text, start_text, title_text};
 ghost use Rattle.cli_show_rows.specs.declared.dump.Turn.{Turn};
 ghost use Rattle.cli_show_rows.specs.Stops.{AreObjectsStopped, AreTablesStopped, IsMadeStopped, IsNamedStopped};
-ghost use Rattle.cli_show_rows.specs.Stops.{IsObjectStopped, IsTurnStopped, IsUnheaded};
+ghost use Rattle.cli_show_rows.specs.Stops.{IsEnded, IsObjectStopped, IsStopTold, IsTurnStopped, IsUnheaded};
 ghost use Rattle.cli_show_rows.specs.internal.Stopping.{IsCounted};
 
 use crate::schema::listed;
-use crate::stop::Stop;
+use crate::stop::{Stop, stopped_script};
 use crate::table::is_named_in;
 use crate::tables::print_headed;
 use crate::texts::{
@@ -348,13 +348,23 @@ fn print_count<W: Write>(count: usize, out: &mut W) -> Result<(), Stop>
     }
 }
 
+/// Ends what had to stop: a script with a statement that fails. Gives why it stopped, or that the writer fails now.
+fn stopped<W: Write>(out: &mut W, notation: Notation, stop: Stop) -> Stop
+    ensures { IsEnded (IsStopTold notation) stop result (W.contents out.old) (W.contents out.new) }
+{
+    match notation {
+        Notation::Json | Notation::Csv => stop,
+        Notation::Sql => stopped_script(out, stop),
+    }
+}
+
 /// Prints the rows of each table of a database. In SQL all of it is printed: before all else what gives a new database
 /// the encoding UTF-16 if it has that; as one transaction, of each table what makes it (`print_making`) and its rows;
 /// behind it indexes, triggers and views by their texts, and virtual tables as rows of the schema. A comment stands for
 /// each text that sqlite3's shell would read otherwise than SQLite, and is counted in the last line. In CSV a line
 /// `table,"NAME"` stands before the heading of each table. Refused as `print_table` is, by the faults of the schema, by
 /// `Encoding` if the encoding of texts isn't known, and by `LeftOut` if comments stand for texts or tables; what was
-/// printed before stands.
+/// printed before stands, and a script that was begun ends with a statement that fails, but behind `LeftOut`.
 pub fn print_tables<S: PageSource, W: Write>(
     alloc: Global,
     source: &mut S,
@@ -385,13 +395,13 @@ pub fn print_tables<S: PageSource, W: Write>(
     }
     match print_objects(alloc, source, &schema.objects, form, out) {
         Ok(()) => print_count(left, out),
-        Err(stop) => Err(stop),
+        Err(stop) => Err(stopped(out, notation, stop)),
     }
 }
 
 /// Prints the rows of the first table of this name, as SQLite compares names, behind its heading; in SQL behind what
-/// keeps foreign keys and CHECKs from being looked at. Refused as
-/// `print_table` is, by the faults of the schema, by `Encoding`, and by `NoSuchTable`.
+/// keeps foreign keys and CHECKs from being looked at. Refused as `print_table` is, by the faults of the schema, by
+/// `Encoding`, and by `NoSuchTable`; a script that was begun then ends with a statement that fails.
 pub fn print_named<S: PageSource, W: Write>(
     alloc: Global,
     source: &mut S,
@@ -417,7 +427,11 @@ pub fn print_named<S: PageSource, W: Write>(
         return Err(Stop::NoSuchTable);
     };
     match write_before_rows(out, notation) {
-        Ok(()) => print_headed(alloc, source, table, form, out),
-        Err(error) => Err(Stop::Write(error)),
+        Ok(()) => {}
+        Err(error) => return Err(Stop::Write(error)),
+    }
+    match print_headed(alloc, source, table, form, out) {
+        Ok(()) => Ok(()),
+        Err(stop) => Err(stopped(out, notation, stop)),
     }
 }

@@ -12,7 +12,7 @@ mod texts;
 pub use columns::known_columns;
 pub use dump::{print_named, print_tables, write_start};
 pub use schema::{Schema, listed, read_object};
-pub use stop::Stop;
+pub use stop::{Stop, stopped_script};
 pub use table::{print_table, rowid_name};
 pub use tables::print_headed;
 pub use texts::{

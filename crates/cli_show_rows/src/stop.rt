@@ -1,6 +1,7 @@
 //! Why not all rows are printed.
-ghost use Rattle.std.specs.Prelude.{◌≡◌};
+ghost use Rattle.std.specs.Prelude.{◌≡◌, IsTrue};
 ghost use Rattle.cli_show_rows.specs.declared.stop.Stop.TheVariants.{NoMemory, Write};
+ghost use Rattle.cli_show_rows.specs.Stops.{IsEnded, IsFailingWritten, IsWriteError};
 ghost use Rattle.cli_show_rows.specs.internal.Stopping.{stop_of_row, stop_of_print, stop_of_list};
 
 use cli_row_text::PrintError;
@@ -9,7 +10,7 @@ use sqrows::{PayloadError, RowsError};
 use sqtables::ListError;
 use sqval::RecordError;
 use std::alloc::AllocError;
-use std::io;
+use std::io::{self, Write};
 use thiserror::Error;
 
 /// Why not all is printed. What stands before it is.
@@ -51,6 +52,27 @@ pub enum Stop {
     /// A line could not be written.
     #[error("{0}")]
     Write(io::Error),
+}
+
+/// Whether the writer failed.
+fn is_unwritten(stop: &Stop) -> bool
+    ensures { IsTrue result → IsWriteError stop.now }
+{
+    matches!(stop, Stop::Write(_))
+}
+
+/// Ends a script that had to stop with a statement that fails, so that loading it isn't green. Writes nothing if the
+/// writer had failed. Gives why it stopped, or that the writer fails now.
+pub fn stopped_script<W: Write>(out: &mut W, stop: Stop) -> Stop
+    ensures { IsEnded IsFailingWritten stop result (W.contents out.old) (W.contents out.new) }
+{
+    if is_unwritten(&stop) {
+        return stop;
+    }
+    match out.write_all(b"SELECT sqrescue_stopped();\n") {
+        Ok(()) => stop,
+        Err(error) => Stop::Write(error),
+    }
 }
 
 /// Why a row isn't read.

@@ -25,7 +25,7 @@ use crate::lost::write_made;
 use crate::tables::{lost_name, print_behind, print_turn};
 use byteorder::{BigEndian, ByteOrder};
 use cli_row_text::Notation;
-use cli_show_rows::{Stop, print_tables, write_start};
+use cli_show_rows::{Stop, print_tables, stopped_script, write_start};
 use sqdeep::Encoding;
 use sqpage::{CheckError, Fault, PageSource};
 use sqsalvage::Salvage;
@@ -247,8 +247,12 @@ fn print_damaged<S: PageSource, W: Write>(
     let how = How { places, encoding };
     let target = schema_target(how);
     match print_tree(source, &mut salvage, &target, 1, &mut book, out) {
-        Ok(()) => print_rows(alloc, source, &mut salvage, &book.objects, how, out),
-        Err(stop) => Err(stop),
+        Ok(()) => {}
+        Err(stop) => return Err(stopped_script(out, stop)),
+    }
+    match print_rows(alloc, source, &mut salvage, &book.objects, how, out) {
+        Ok(left) => Ok(left),
+        Err(stop) => Err(stopped_script(out, stop)),
     }
 }
 
@@ -282,7 +286,7 @@ fn print_whole<S: PageSource, W: Write>(
 /// the last line. True where the database is well formed. Refused by `LeftOut` where something is left out, behind all
 /// of the script, by `Encoding` where it is well formed and the encoding of its texts isn't known, by PageOutside and
 /// Reserved at page 1 where there is no page or fewer than 480 bytes of one are usable, by `NoMemory`, and by an error
-/// of the writer.
+/// of the writer. A script that was begun then ends with a statement that fails, but behind `LeftOut`.
 pub fn print_salvage<S: PageSource, W: Write>(
     alloc: Global,
     source: &mut S,

@@ -3,11 +3,11 @@ use Rattle.std.proofs.Common.{◌≡◌, ◌≢◌, ◌⊎◌, inl, inr, ⊎_eli
 use Rattle.std.specs.Prelude.{true, false, Option, None, Some, is_some, codes, nat_eq, slice_get, MatchOption}
 use Rattle.std.specs.Cmp.Lexicographic.{bytes_decides, pointwise}
 use Rattle.std.proofs.lemmas.Option.{none-some}
-use Rattle.cli_words.specs.Line.{AreAmiss, AreNoDiff, AreNoReport, AreNoRows, AreNoSalvage, AreOptions, Asks, AsksAt, AsksBesides, AsksNoPart, AsksNothing}
+use Rattle.cli_words.specs.Line.{AreAmiss, AreNoCheck, AreNoDiff, AreNoReport, AreNoRows, AreNoSalvage, AreOptions, Asks, AsksAt, AsksBesides, AsksNoPart, AsksNothing}
 use Rattle.cli_words.specs.Line.{AreKnown, AsksNoCells, AsksNoForm, AsksNothingCompared, AsksText}
 use Rattle.cli_words.specs.declared.words.Own.TheVariants.{Prints, Compares}
 use Rattle.cli_words.specs.Line.{HasNoText, HasText, IsFile, NamesOfLog}
-use Rattle.cli_words.specs.internal.Line.{AskNoDiff, AskNoRows, AskNoSalvage, IsBetween, IsCompared, IsDiff, IsFormed, IsPlaced, IsReport, IsRows, IsSalvage}
+use Rattle.cli_words.specs.internal.Line.{AskNoDiff, AskNoRows, AskNoSalvage, IsBetween, IsCheck, IsCompared, IsDiff, IsFormed, IsPlaced, IsReport, IsRows, IsSalvage}
 use Rattle.cli_words.specs.declared.requests.Options.{Options}
 use Rattle.cli_words.specs.declared.requests.Request.{Request}
 
@@ -95,6 +95,34 @@ check_no_salvage command check salvage =
 pub recover_no_salvage : (command : List ℕ) → command ≡ codes "recover" → command ≢ codes "salvage"
 recover_no_salvage command recover salvage =
     let e : 114 ≡ 115 = ap (λ (l : List ℕ). get_or l 0 0) (sym recover ∙ salvage) in omega (arith, e)
+
+pub check_no_recover : (command : List ℕ) → command ≡ codes "check" → command ≢ codes "recover"
+check_no_recover command check recover =
+    let e : 99 ≡ 114 = ap (λ (l : List ℕ). get_or l 0 0) (sym check ∙ recover) in omega (arith, e)
+
+pub check_amiss : (command : List ℕ) (options : List (List ℕ)) → command ≡ codes "check" → AreNoCheck options
+    → AreAmiss command options
+check_amiss command options is none = (
+  (λ _. none),
+  (λ recover. absurd (check_no_recover command is recover)),
+  (λ report. absurd (no_check command report is)),
+  (λ rows. absurd (rows_no_check command rows is)),
+  (λ diff. absurd (check_no_diff command is diff)),
+  (λ salvage. absurd (check_no_salvage command is salvage)),
+  (λ show. absurd (not_check command show is)),
+)
+
+-- what the options of `check` are told of, as what the words ask for
+pub check_asks : (words : List (List ℕ)) (command : List ℕ) (file : Bor (List ℕ)) (options : List (List ℕ)) (o : Options)
+    (r : Option Request) → command ≡ codes "check" → slice_get words 1 ≡ Some command → IsFile words file.now
+    → AreOptions words options → AsksBesides options o
+    → MatchOption r (AreNoCheck options) (IsCheck options file o)
+    → MatchOption r (AsksNothing words command file.now) (Asks words)
+check_asks words command file options o None is second named are besides none =
+    λ _ _. (options, are, inr (check_amiss command options is none))
+check_asks words command file options o (Some request) is second named are besides (known, (deep, asks, same)) =
+    let P : Request → Type 0 = λ r. Asks words r in
+    subst P (sym same) (second ∙ ap Some is, named, (options, are, known, besides, asks))
 
 pub report_amiss : (command : List ℕ) (options : List (List ℕ)) → command ≡ codes "report" → AreNoReport options
     → AreAmiss command options

@@ -1,5 +1,5 @@
 -- What the words of a command line ask for.
-use Rattle.std.specs.Prelude.{◌≡◌, ◌≢◌, ◌⊎◌, ◌↔◌, false, IsTrue, Option, None, Some, ℕ, zero, suc, ◌-◌, ◌^◌, ◌<◌, ◌≤◌}
+use Rattle.std.specs.Prelude.{◌≡◌, ◌≢◌, ◌⊎◌, ◌↔◌, Bool, false, IsTrue, Option, None, Some, ℕ, zero, suc, ◌-◌, ◌^◌, ◌<◌, ◌≤◌}
 use Rattle.std.specs.Prelude.{List, [], ◌∷◌, ◌++◌, length, map, take, drop, slice_get, codes, unwrap_or}
 use Rattle.std.specs.Borrow.{Bor}
 use Rattle.std.specs.List.{Contains}
@@ -18,6 +18,7 @@ use Rattle.cli_words.specs.declared.requests.ChangeForm.{ChangeForm}
 use Rattle.cli_words.specs.declared.requests.ChangeForm.TheVariants as changes
 use Rattle.cli_words.specs.declared.requests.Between.{Between}
 use Rattle.cli_words.specs.declared.requests.Compared.{Compared}
+use Rattle.cli_words.specs.declared.requests.Deep.{Deep}
 use Rattle.cli_words.specs.declared.requests.Options.{Options}
 use Rattle.cli_words.specs.declared.requests.Request.{Request}
 use Rattle.cli_words.specs.declared.requests.Request.TheVariants.{Show, Check, Rows, Cells as TellsCells, Diff, DeletedDiff, Recover, Report, Salvage, Version}
@@ -110,7 +111,7 @@ IsCommon word = (word ≡ codes "-v") ⊎ (word ≡ codes "--verbose") ⊎ (word
 -- a word that is an option of this command and not of each: of `check`, `recover`, `report`, `rows`, `diff` or
 -- `salvage`
 abbrev pub IsOwn : Own → (word : List ℕ) → Type 0
-IsOwn Checks word = word ≡ codes "--deep"
+IsOwn Checks word = (word ≡ codes "--deep") ⊎ (word ≡ codes "--complete")
 IsOwn Recovers word = (word ≡ codes "--force") ⊎ IsNamed (codes "--to") word
 IsOwn Reports word = (word ≡ codes "--changes") ⊎ IsNamed (codes "--to") word
 IsOwn Prints word = (word ≡ codes "--csv") ⊎ (word ≡ codes "--sql") ⊎ (word ≡ codes "--places") ⊎ (word ≡ codes "--deleted")
@@ -265,6 +266,24 @@ AreNoDiff options =
     (¬ AreKnown Compares options) ⊎ Contains options (codes "--pointer-maps")
     ⊎ ((text : List ℕ) × HasText (codes "--at") options text) ⊎ AsksNothingCompared options
 
+-- which deep check they ask for, if any: that all is judged is asked of such a one alone
+abbrev pub AsksDeep : (options : List (List ℕ)) → Option Deep → Type 0
+AsksDeep options None = (¬ Contains options (codes "--deep")) × (¬ Contains options (codes "--complete"))
+AsksDeep options (Some deep) = Contains options (codes "--deep") × (IsTrue deep.complete ↔ Contains options (codes "--complete"))
+
+-- whether the words behind a command ask for all to be judged
+abbrev pub AsksComplete : (words : List (List ℕ)) → Bool → Type 0
+AsksComplete words complete =
+    (options : List (List ℕ)) × AreOptions words options × (IsTrue complete ↔ Contains options (codes "--complete"))
+
+-- they ask that of another check
+abbrev pub AsksNoDeep : (options : List (List ℕ)) → Type 0
+AsksNoDeep options = (¬ Contains options (codes "--deep")) × Contains options (codes "--complete")
+
+-- they can't be those of `check`: another one is among them, or they ask that of another check
+abbrev pub AreNoCheck : (options : List (List ℕ)) → Type 0
+AreNoCheck options = (¬ AreKnown Checks options) ⊎ AsksNoDeep options
+
 -- they can't be a report's: another one is among them, or the file to be made isn't named
 abbrev pub AreNoReport : (options : List (List ℕ)) → Type 0
 AreNoReport options = (¬ AreKnown Reports options) ⊎ HasNoText (codes "--to") options
@@ -308,7 +327,7 @@ Asks words (Show file part o) =
 Asks words (Check file deep o) =
     (slice_get words 1 ≡ Some (codes "check")) × IsFile words file.now
     × ((options : List (List ℕ)) × AreOptions words options × AreKnown Checks options × AsksBesides options o
-    × (IsTrue deep ↔ Contains options (codes "--deep")))
+    × AsksDeep options deep)
 Asks words (Rows file table form o) =
     (slice_get words 1 ≡ Some (codes "rows")) × IsFile words file.now
     × ((options : List (List ℕ)) × AreOptions words options × AreKnown Prints options × AsksBesides options o
@@ -344,12 +363,12 @@ Asks words Version = AsksVersion words
 abbrev pub NamesOfLog : (options : List (List ℕ)) → (frame : Option ℕ) → Type 0
 NamesOfLog options frame = (frame ≢ None) × (Contains options (codes "--log") ⊎ Contains options (codes "--commits"))
 
--- what the options of a command can't be: those of `show` ask for no part, or for one that has no commits; those of `check`
--- and `recover` have another among them; those of `recover` name pointer maps, or a commit and no file to be made; those of
--- `report` have another among them, or name no file to be made; those of `rows`, `diff` and `salvage` as above
+-- what the options of a command can't be: those of `show` ask for no part, or for one that has no commits; those of
+-- `recover` have another among them; those of `recover` name pointer maps, or a commit and no file to be made; those of
+-- `report` have another among them, or name no file to be made; those of `check`, `rows`, `diff` and `salvage` as above
 abbrev pub AreAmiss : (command : List ℕ) → (options : List (List ℕ)) → Type 0
 AreAmiss command options =
-    (command ≡ codes "check" → ¬ AreKnown Checks options)
+    (command ≡ codes "check" → AreNoCheck options)
     × (command ≡ codes "recover" → (¬ AreKnown Recovers options) ⊎ Contains options (codes "--pointer-maps")
     ⊎ (((frame : Option ℕ) → AsksAt options frame → frame ≢ None) × HasNoText (codes "--to") options))
     × (command ≡ codes "report" → AreNoReport options)

@@ -6,8 +6,8 @@ mod tables;
 mod words;
 
 pub use requests::{
-    Between, Cells, ChangeForm, Commit, Compared, Options, Part, Request, RowForm, Style,
+    Between, Cells, ChangeForm, Commit, Compared, Deep, Options, Part, Request, RowForm, Style,
     SuperJournal,
 };
 pub use tables::Tables;
-pub use words::{asked, asks_version};
+pub use words::{asked, asks_complete, asks_version};

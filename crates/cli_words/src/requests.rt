@@ -91,6 +91,13 @@ pub struct Between {
     pub to: Option<u32>,
 }
 
+/// What a deep check may be asked besides.
+#[derive(Clone, Copy, Debug, PartialEq, Eq)]
+pub struct Deep {
+    /// To refuse a database that is sound, of which something isn't judged.
+    pub complete: bool,
+}
+
 /// What each command may be asked besides.
 #[derive(Clone, Copy, Debug, PartialEq, Eq)]
 pub struct Options {
@@ -161,7 +168,7 @@ pub enum Request<'a> {
     /// To check this database file as its log has it; deep: also what its pages hold.
     Check {
         file: &'a str,
-        deep: bool,
+        deep: Option<Deep>,
         options: Options,
     },
     /// To print the rows of this database file as its log has them: of the table of this name. None: of each table.

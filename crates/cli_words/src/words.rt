@@ -3,12 +3,12 @@ ghost use Rattle.std.specs.Prelude.{◌≡◌, ◌≢◌, ◌⊎◌, ◌<◌, �
 ghost use Rattle.std.specs.Prelude.{◌↔◌, IfSome, IsTrue, MatchOption, true};
 ghost use Rattle.std.specs.List.{Contains};
 ghost use Rattle.cli_words.specs.Line.{AreKnown, AreNoReport, AreOptions, Asks, AsksBesides, AsksBoth};
-ghost use Rattle.cli_words.specs.Line.{AsksNoPart};
+ghost use Rattle.cli_words.specs.Line.{AreNoCheck, AsksComplete, AsksDeep, AsksNoDeep, AsksNoPart};
 ghost use Rattle.cli_words.specs.Line.{AsksCells, AsksForm, AsksNoCells, AsksNoForm, AsksNoPlaces, IsOwn};
 ghost use Rattle.cli_words.specs.Line.{AsksBetween, AsksChangeForm, AsksCompared, AsksFrame, AsksNoChangeForm};
 ghost use Rattle.cli_words.specs.Line.{AsksNothingCompared};
 ghost use Rattle.cli_words.specs.internal.Line.{AskNoDiff, AskNoRows, AskNoSalvage, IsBetween, IsCompared, IsDiff};
-ghost use Rattle.cli_words.specs.internal.Line.{IsFormed, IsPlaced};
+ghost use Rattle.cli_words.specs.internal.Line.{IsCheck, IsFormed, IsPlaced};
 ghost use Rattle.cli_words.specs.internal.Line.{IsReport, IsRows};
 ghost use Rattle.cli_words.specs.internal.Line.{IsSalvage};
 ghost use Rattle.cli_words.specs.declared.words.Own.{Own};
@@ -19,7 +19,8 @@ ghost use Rattle.cli_words.specs.Line.{IsPlain, MayBeAt, NamesNoFrame, NamesOfLo
 ghost use Rattle.cli_words.specs.Line.{IsPageNumber, IsVersion};
 
 use crate::requests::{
-    Between, Cells, ChangeForm, Compared, Options, Part, Request, RowForm, Style, SuperJournal,
+    Between, Cells, ChangeForm, Compared, Deep, Options, Part, Request, RowForm, Style,
+    SuperJournal,
 };
 use crate::tables::Tables;
 
@@ -110,7 +111,7 @@ fn is_own(word: &str, own: Own) -> bool
     ensures not { result ≡ false → ¬ IsOwn own word.now }
 {
     match own {
-        Own::Checks => word == "--deep",
+        Own::Checks => word == "--deep" || word == "--complete",
         Own::Recovers => word == "--force" || is_named(word, "--to"),
         Own::Reports => word == "--changes" || is_named(word, "--to"),
         Own::Prints => {
@@ -387,6 +388,42 @@ fn part_at(options: &[&str], at: Option<u32>) -> Option<Part>
     } else {
         None
     }
+}
+
+/// Whether the words behind a command ask for all to be judged.
+pub fn asks_complete(words: &[&str]) -> bool
+    ensures { AsksComplete (map (λ w. w.now) words.entry.now) result }
+{
+    stands_in(options_of(words), "--complete")
+}
+
+/// Which deep check they ask for, if any. None if they ask for all to be judged, and for no deep check.
+fn deep_of(options: &[&str]) -> Option<Option<Deep>>
+    ensures { MatchOption result (AsksNoDeep (map (λ w. w.now) options.entry.now))
+        (AsksDeep (map (λ w. w.now) options.entry.now)) }
+{
+    let deep = stands_in(options, "--deep");
+    let complete = stands_in(options, "--complete");
+    if deep {
+        return Some(Some(Deep { complete }));
+    }
+    if complete { None } else { Some(None) }
+}
+
+/// What the options of `check` ask for. None where they don't say so.
+fn check_asked<'a>(given: &'a [&'a str], file: &'a str, options: Options) -> Option<Request<'a>>
+    ensures { MatchOption result (AreNoCheck (map (λ w. w.now) given.entry.now))
+        (IsCheck (map (λ w. w.now) given.entry.now) file.entry options) }
+{
+    if !are_known(given, Own::Checks) {
+        return None;
+    }
+    let deep = deep_of(given)?;
+    Some(Request::Check {
+        file,
+        deep,
+        options,
+    })
 }
 
 /// What the options of a report ask for. None where they don't say so.
@@ -668,13 +705,8 @@ pub fn asked<'a>(words: &'a [&'a str], command: &str, file: &'a str) -> Option<R
     if command == "diff" {
         return diff_asked(given, file, options);
     }
-    if command == "check" && are_known(given, Own::Checks) {
-        let deep = stands_in(given, "--deep");
-        return Some(Request::Check {
-            file,
-            deep,
-            options,
-        });
+    if command == "check" {
+        return check_asked(given, file, options);
     }
     if command == "salvage" {
         return salvage_asked(given, file, options);

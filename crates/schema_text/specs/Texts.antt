@@ -18,14 +18,24 @@ begins_text ts = option_map_or (λ p. p.from == 0) (slice_get ts 0) false
 unfoldable pub is_ended : (bytes : List ℕ) → (all : List Piece) → (end : ℕ) → Bool
 is_ended bytes all end = list_any (λ p. is_semicolon_kind p.kind) all || end == length (text_of bytes)
 
--- The first statement of these bytes is CREATE TABLE, with these tokens and clauses. What follows its `;` isn't judged.
-pub record IsTableText (bytes : List ℕ) (ts : List Piece) (head : Head) (cs : List Clause) : Type 0 where
+-- These are the tokens of the first statement of a text, which begins with its first byte. What follows its `;` isn't
+-- judged.
+pub record IsStatement (bytes : List ℕ) (ts : List Piece) : Type 0 where
   pub pieces : List Piece
   pub end : ℕ
   pub is_reading : IsReading bytes pieces end
   pub tokens : ts ≡ first_statement (filter is_token pieces)
   pub begins : begins_text ts ≡ true
   pub ends : is_ended bytes (filter is_token pieces) end ≡ true
+
+-- an answer is this statement
+abbrev pub IsStatementHeld : List Piece → Option (List Piece) → Type 0
+IsStatementHeld ts None = ⊥
+IsStatementHeld ts (Some answer) = answer ≡ ts
+
+-- the first statement of these bytes is CREATE TABLE, with these tokens and clauses
+pub record IsTableText (bytes : List ℕ) (ts : List Piece) (head : Head) (cs : List Clause) : Type 0 where
+  pub statement : IsStatement bytes ts
   pub is_table : IsTable (text_of bytes) ts head cs
 
 -- the answer is this statement

@@ -1,18 +1,12 @@
-//! CREATE TABLE as SQLite reads it: the clauses of its text, its columns and their types.
+//! CREATE TABLE as SQLite reads it: the tokens of its text and the clauses that these make.
 #![tactic(auto)]
 
 mod clauses;
-mod columns;
-mod keys;
 mod rules;
 mod texts;
 mod tokens;
-mod types;
 
 pub use clauses::{Clause, Found, Place, Rule, Table, first_statement, table_of};
-pub use columns::{
-    Column, columns_of, is_stored, is_strict, is_without_rowid, written_default, written_type,
-};
-pub use keys::{Key, Term, keys_of, name_at, rowid_of, terms_of};
-pub use texts::{TableText, read_table};
-pub use types::{Affinity, STANDARD, Type, type_of};
+pub use rules::is_operand;
+pub use texts::{TableText, read_table, statement_of};
+pub use tokens::{depth_after, group_length, is_name, is_open, is_type_token, is_word, later};

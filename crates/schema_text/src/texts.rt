@@ -1,11 +1,13 @@
 //! The text of a table, as SQLite's loader reads it: its first statement.
 ghost use Rattle.std.specs.Prelude.{◌≡◌, ℕ, List, IfOk, IfSome};
 ghost use Rattle.std.specs.List.{list_any};
+ghost use Rattle.std.specs.Option.{option_map};
 ghost use Rattle.schema_tokens.specs.declared.kinds.Piece.{Piece};
 ghost use Rattle.schema_print.specs.declared.heads.Head.{Head};
 ghost use Rattle.schema_text.specs.Kinds.{is_semicolon_kind};
 ghost use Rattle.schema_text.specs.declared.clauses.Clause.{Clause};
-ghost use Rattle.schema_text.specs.Texts.{begins_text, is_ended, IsTableText, IsAnswered};
+ghost use Rattle.schema_text.specs.Texts.{begins_text, is_ended, IsStatement, IsStatementHeld};
+ghost use Rattle.schema_text.specs.Texts.{IsTableText, IsAnswered};
 
 use crate::clauses::{Table, first_statement, table_of};
 use crate::tokens::has_semicolon;
@@ -37,12 +39,12 @@ fn is_ended(bytes: &[u8], tokens: &[Piece], end: usize) -> bool
     has_semicolon(tokens) || end == text_of(bytes).len()
 }
 
-/// The CREATE TABLE statement that a text begins with; None if it begins with none. It takes time linear in the text.
-pub fn read_table(alloc: Global, bytes: &[u8]) -> Result<Option<TableText>, AllocError>
-    ensures found { IfOk result (λ r.
-        IfSome r (λ t. IsTableText bytes.now t.tokens.items t.table.head t.table.clauses.items)) }
-    ensures only { IfOk result (λ r. (ts : List Piece) (h : Head) (cs : List Clause)
-        → IsTableText bytes.now ts h cs → IsAnswered ts h cs r) }
+/// The tokens of the statement that a text begins with, without spaces; None if it doesn't begin with the first byte,
+/// or if a byte that begins no token comes before its end. Their places are in the text.
+pub fn statement_of(alloc: Global, bytes: &[u8]) -> Result<Option<Vec<Piece>>, AllocError>
+    ensures found { IfOk result (λ r. IfSome r (λ ts. IsStatement bytes.now ts.items)) }
+    ensures only { IfOk result (λ r. (ts : List Piece)
+        → IsStatement bytes.now ts → IsStatementHeld ts (option_map (λ v. v.items) r)) }
 {
     let reading = read(alloc, bytes)?;
     let all = tokens(alloc, &reading.pieces)?;
@@ -50,14 +52,25 @@ pub fn read_table(alloc: Global, bytes: &[u8]) -> Result<Option<TableText>, Allo
     if !begins_text(statement) || !is_ended(bytes, &all, reading.end) {
         return Ok(None);
     }
-    match table_of(alloc, text_of(bytes), statement)? {
-        Some(table) => {
-            let kept = statement.to_vec(alloc)?;
-            Ok(Some(TableText {
-                tokens: kept,
-                table,
-            }))
-        }
+    let kept = statement.to_vec(alloc)?;
+    Ok(Some(kept))
+}
+
+/// The CREATE TABLE statement that a text begins with; None if it begins with none. It takes time linear in the text.
+pub fn read_table(alloc: Global, bytes: &[u8]) -> Result<Option<TableText>, AllocError>
+    ensures found { IfOk result (λ r.
+        IfSome r (λ t. IsTableText bytes.now t.tokens.items t.table.head t.table.clauses.items)) }
+    ensures only { IfOk result (λ r. (ts : List Piece) (h : Head) (cs : List Clause)
+        → IsTableText bytes.now ts h cs → IsAnswered ts h cs r) }
+{
+    let Some(statement) = statement_of(alloc, bytes)? else {
+        return Ok(None);
+    };
+    match table_of(alloc, text_of(bytes), &statement)? {
+        Some(table) => Ok(Some(TableText {
+            tokens: statement,
+            table,
+        })),
         None => Ok(None),
     }
 }

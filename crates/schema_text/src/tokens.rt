@@ -153,7 +153,8 @@ pub fn has_semicolon(tokens: &[Piece]) -> bool
     tokens.iter().any(is_semicolon)
 }
 
-fn depth_after(kind: Kind, depth: usize) -> usize
+/// In how many parentheses the next token is.
+pub fn depth_after(kind: Kind, depth: usize) -> usize
     requires { depth < 2 ^ 63 }
     ensures { result ≡ deeper kind depth }
 {

@@ -10,9 +10,9 @@ use Rattle.sqcrash_store.specs.Judged.{Judged}
 use Rattle.sqcrash_store.specs.Points.{is_point, is_judged}
 use Rattle.sqcrash_store.specs.Refused.{HasRoom, GoesAll, call_count, point_count}
 use Rattle.sqcrash_store.specs.Rigs.{RigState, NotesBy, JudgesAsked, JudgesWhere, PlaysOne, PlaysAll}
-use Rattle.sqcrash_store.specs.States.{AreStates, SaysAny, SaysWhere, TakeState, TakesAll, is_call, is_first, is_mark, none_taken}
+use Rattle.sqcrash_store.specs.States.{TakeState, TakesAll, is_call, is_first, is_mark}
 use Rattle.sqcrash_store.specs.Surveys.{Judging, drawn_count}
-use Rattle.sqcrash_store.specs.Tallies.{with_claim, with_point}
+use Rattle.sqcrash_store.specs.Tallies.{with_claim_of, with_point}
 use Rattle.sqcrash_store.specs.declared.plan.Plan.{Plan}
 use Rattle.sqcrash_store.specs.declared.tally.Tally.{Tally}
 use Rattle.sqcrash_store.specs.declared.verdict.Answer.{Answer}
@@ -132,7 +132,7 @@ module _ (Says : List (Option (List ℕ)) → Answer → Type 0) (j : Judging) w
       let judged = is.2 in
       let survey = is.3 in
       let pointed = with_point rig.tally in
-      let claimed = with_claim pointed found in
+      let claimed = with_claim_of pointed found in
       let few = judged_few j.plan.image survey.drawn judged survey.once in
       record {
         points = ap (λ (t : Tally). t.points) is.4 ∙ points_images claimed judged ∙ points_claim pointed found;
@@ -218,27 +218,3 @@ pub taken_all : (Says : List (Option (List ℕ)) → Answer → Type 0) (b : Lis
     → GoesAll b calls old.store new.store
 taken_all Says b [] old new is = ap (λ (s : TakeState). s.store) is
 taken_all Says b (c ∷ calls) old new is = (is.0.store, is.1.goes, taken_all Says b calls is.0 new is.2)
-
--- what a command may say of a run's states it may say where it may say anything
-any_where : (Says : List (Option (List ℕ)) → Answer → Type 0) (asked : Bool) (s : StoreState) (old new : List Answer) → SaysWhere Says asked s old new → SaysWhere SaysAny asked s old new
-any_where Says false s old new is = is
-any_where Says true s old new is = record { image = is.image; present = is.present; answer = is.answer; says = tt; added = is.added }
-
-any_all : (Says : List (Option (List ℕ)) → Answer → Type 0) (b : List ℕ) (calls : List Call) (old new : TakeState) → TakesAll Says b calls old new → TakesAll SaysAny b calls old new
-any_all Says b [] old new is = is
-any_all Says b (c ∷ calls) old new is =
-    let mid = is.0 in
-    let one = is.1 in (
-      mid,
-      record {
-        begun = one.begun;
-        begins = any_where Says (is_first old.states c.action) old.store old.states one.begun one.begins;
-        goes = one.goes;
-        marks = any_where Says (is_mark c.action) mid.store one.begun mid.states one.marks;
-      },
-      any_all Says b calls mid new is.2,
-    )
-
-pub states_said : (Says : List (Option (List ℕ)) → Answer → Type 0) (plan : Plan) (b : List ℕ) (calls : List Call) (states : List Answer) → AreStates Says plan b calls states
-    → AreStates SaysAny plan b calls states
-states_said Says plan b calls states is = (is.0, any_all Says b calls (none_taken plan) is.0 is.1, is.2)

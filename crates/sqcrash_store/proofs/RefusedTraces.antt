@@ -26,51 +26,53 @@ use Rattle.sqcrash_store.proofs.CountedRecords.{CountsAll, counts_all, fits_itse
 pub split_at : (calls : List Call) (i : ℕ) (d : Call) → i < length calls → calls ≡ take i calls ++ get_or calls i d ∷ drop (i + 1) calls
 split_at calls i d below = sym (ap (λ (l : List Call). take i calls ++ l) (sym (drop_more calls i d below)) ∙ take-append-drop i calls)
 
--- no memory refuses any trace
-pub of_memory : (plan : Plan) (b : List ℕ) (refusal : Refusal) → IsOfMemory refusal → TraceRefused plan b refusal
-of_memory plan b refusal is = subst (λ (x : Refusal). TraceRefused plan b x) (sym is) tt
-
--- and a writer one of which the command is asked
-pub of_writer : (plan : Plan) (b : List ℕ) (t : Trace) (refusal : Refusal) → IsTrace b t → 0 < call_count t.calls.items → IsOfWriter refusal → TraceRefused plan b refusal
-of_writer plan b t refusal trace some is = elim is [
-  | inl memory ↦ of_memory plan b refusal memory
-  | inr unwritten ↦ subst (λ (x : Refusal). TraceRefused plan b x) (sym unwritten) (t, trace, some)
-]
-
--- a name that is none
-pub of_names : (plan : Plan) (b : List ℕ) (t : Trace) (refusal : Refusal) → IsTrace b t → NamesRefused (names_told b t.calls.items) refusal → TraceRefused plan b refusal
-of_names plan b t refusal trace is = elim is [
-  | inl memory ↦ of_memory plan b refusal memory
-  | inr name ↦ subst (λ (x : Refusal). TraceRefused plan b x) (sym name.0) (t, trace, name.1)
-]
-
--- the command, where it is asked
-pub of_judge : (plan : Plan) (b : List ℕ) (t : Trace) (names : List (List ℕ)) (refusal : Refusal) → IsTrace b t → names ≡ names_told b t.calls.items → 0 < call_count t.calls.items
-    → JudgeRefused names refusal → TraceRefused plan b refusal
-of_judge plan b t names refusal trace same some is = elim is [
-  | inl (inl (inl memory)) ↦ of_memory plan b refusal memory
-  | inl (inl (inr failed)) ↦ subst (λ (x : Refusal). TraceRefused plan b x) (sym failed) (t, trace, some)
-  | inl (inr name) ↦ subst (λ (x : Refusal). TraceRefused plan b x) (sym name.0) (t, trace, subst (λ (l : List (List ℕ)). HasNoFileName l) same name.1)
-  | inr (inl writer) ↦ of_writer plan b t refusal trace some writer
-  | inr (inr none) ↦ subst (λ (x : Refusal). TraceRefused plan b x) (sym none) (t, trace, some)
-]
-
 -- the first records are played, and the next one can't be
 pub unplayed_in : (plan : Plan) (b : List ℕ) (calls before behind : List Call) (c : Call) (s : StoreState) (refusal : Refusal) → calls ≡ before ++ c ∷ behind
     → GoesAll b before (no_store plan.sector plan.tears plan.meta) s → IsUnplayed b c s refusal → IsUnplayedIn plan b calls refusal
 unplayed_in plan b calls before behind c s refusal split goes is =
     (c.from - 40, is.0, record { before = before; call = c; behind = behind; split = split; place = refl; store = s; played = goes; refused = is.1 }, is.2)
 
-of_unplayed : (plan : Plan) (b : List ℕ) (t : Trace) (refusal : Refusal) → IsTrace b t → IsUnplayedIn plan b t.calls.items refusal → TraceRefused plan b refusal
-of_unplayed plan b t refusal trace is = subst (λ (x : Refusal). TraceRefused plan b x) (sym is.3) (t, trace, is.2)
+module _ (Says : List (Option (List ℕ)) → Answer → Type 0) where
+  -- no memory refuses any trace
+  pub of_memory : (plan : Plan) (b : List ℕ) (refusal : Refusal) → IsOfMemory refusal → TraceRefused Says plan b refusal
+  of_memory plan b refusal is = subst (λ (x : Refusal). TraceRefused Says plan b x) (sym is) tt
 
--- the states of a run aren't had
-pub of_states : (plan : Plan) (b : List ℕ) (t : Trace) (names : List (List ℕ)) (refusal : Refusal) → IsTrace b t → names ≡ names_told b t.calls.items
-    → StatesRefused plan b t.calls.items names refusal → TraceRefused plan b refusal
-of_states plan b t names refusal trace same is = elim is [
-  | inl asked ↦ of_judge plan b t names refusal trace same asked.0 asked.1
-  | inr unplayed ↦ of_unplayed plan b t refusal trace unplayed
-]
+  -- and a writer one of which the command is asked
+  pub of_writer : (plan : Plan) (b : List ℕ) (t : Trace) (refusal : Refusal) → IsTrace b t → 0 < call_count t.calls.items → IsOfWriter refusal → TraceRefused Says plan b refusal
+  of_writer plan b t refusal trace some is = elim is [
+    | inl memory ↦ of_memory plan b refusal memory
+    | inr unwritten ↦ subst (λ (x : Refusal). TraceRefused Says plan b x) (sym unwritten) (t, trace, some)
+  ]
+
+  -- a name that is none
+  pub of_names : (plan : Plan) (b : List ℕ) (t : Trace) (refusal : Refusal) → IsTrace b t → NamesRefused (names_told b t.calls.items) refusal → TraceRefused Says plan b refusal
+  of_names plan b t refusal trace is = elim is [
+    | inl memory ↦ of_memory plan b refusal memory
+    | inr name ↦ subst (λ (x : Refusal). TraceRefused Says plan b x) (sym name.0) (t, trace, name.1)
+  ]
+
+  -- the command, where it is asked
+  pub of_judge : (plan : Plan) (b : List ℕ) (t : Trace) (names : List (List ℕ)) (refusal : Refusal) → IsTrace b t → names ≡ names_told b t.calls.items → 0 < call_count t.calls.items
+      → JudgeRefused names refusal → TraceRefused Says plan b refusal
+  of_judge plan b t names refusal trace same some is = elim is [
+    | inl (inl (inl memory)) ↦ of_memory plan b refusal memory
+    | inl (inl (inr failed)) ↦ subst (λ (x : Refusal). TraceRefused Says plan b x) (sym failed) (t, trace, some)
+    | inl (inr name) ↦ subst (λ (x : Refusal). TraceRefused Says plan b x) (sym name.0) (t, trace, subst (λ (l : List (List ℕ)). HasNoFileName l) same name.1)
+    | inr (inl writer) ↦ of_writer plan b t refusal trace some writer
+    | inr (inr none) ↦ subst (λ (x : Refusal). TraceRefused Says plan b x) (sym none) (t, trace, some)
+  ]
+
+  -- a record that can't be played
+  of_unplayed : (plan : Plan) (b : List ℕ) (t : Trace) (refusal : Refusal) → IsTrace b t → IsUnplayedIn plan b t.calls.items refusal → TraceRefused Says plan b refusal
+  of_unplayed plan b t refusal trace is = subst (λ (x : Refusal). TraceRefused Says plan b x) (sym is.3) (t, trace, is.2)
+
+  -- the states of a run aren't had
+  pub of_states : (plan : Plan) (b : List ℕ) (t : Trace) (names : List (List ℕ)) (refusal : Refusal) → IsTrace b t → names ≡ names_told b t.calls.items
+      → StatesRefused plan b t.calls.items names refusal → TraceRefused Says plan b refusal
+  of_states plan b t names refusal trace same is = elim is [
+    | inl asked ↦ of_judge plan b t names refusal trace same asked.0 asked.1
+    | inr unplayed ↦ of_unplayed plan b t refusal trace unplayed
+  ]
 
 -- as many draws of each of so many records
 many_records : (d n x : ℕ) → 2 ^ 64 ≤ x → x ≤ n → 2 ^ 64 ≤ n * (d + 1)
@@ -97,10 +99,10 @@ module _ (Says : List (Option (List ℕ)) → Answer → Type 0) (j : Judging) (
     long = let e = ap (λ (l : List Call). length l) to.split in omega (arith, e, length-append before (c ∷ behind))
 
     -- a count of records is too many
-    many_of : (x : ℕ) → 2 ^ 64 ≤ x + 1 → x ≤ length before → refusal ≡ refusals.TooMany → TraceRefused j.plan j.trace refusal
+    many_of : (x : ℕ) → 2 ^ 64 ≤ x + 1 → x ≤ length before → refusal ≡ refusals.TooMany → TraceRefused Says j.plan j.trace refusal
     many_of x many less is =
         let all : 2 ^ 64 ≤ length t.calls.items * (drawn_count j.plan + 1) = many_records (drawn_count j.plan) (length t.calls.items) (x + 1) many (omega (arith, less, long)) in
-        subst (λ (r : Refusal). TraceRefused j.plan j.trace r) (sym is) (t, to.trace, all)
+        subst (λ (r : Refusal). TraceRefused Says j.plan j.trace r) (sym is) (t, to.trace, all)
 
     -- or one of images
     room_behind : length t.calls.items * (drawn_count j.plan + 1) < 2 ^ 64 → HasRoom (drawn_count j.plan + 1) mid.tally
@@ -108,29 +110,29 @@ module _ (Says : List (Option (List ℕ)) → Answer → Type 0) (j : Judging) (
         let d = drawn_count j.plan + 1 in
         let k = length before in
         let room : k * d + d < 2 ^ 64 = fits_behind d k (length t.calls.items) long fits in
-        let first : HasRoom (k * d + d) no_tally = record { images = omega (arith, room); wrong = omega (arith, room); lost = omega (arith, room); mixed = omega (arith, room); faults = omega (arith, room); unwritten = omega (arith, room) } in
+        let first : HasRoom (k * d + d) no_tally = record { images = omega (arith, room); wrong = omega (arith, room); lost = omega (arith, room); mixed = omega (arith, room); faults = omega (arith, room); claims = omega (arith, room); unwritten = omega (arith, room) } in
         counted.room d (k * d + d) (fits_itself (k * d + d)) first
 
-    no_room : ¬ HasRoom (drawn_count j.plan + 1) mid.tally → refusal ≡ refusals.TooMany → TraceRefused j.plan j.trace refusal
+    no_room : ¬ HasRoom (drawn_count j.plan + 1) mid.tally → refusal ≡ refusals.TooMany → TraceRefused Says j.plan j.trace refusal
     no_room none is =
         let n = length t.calls.items in
         let all : 2 ^ 64 ≤ n * (drawn_count j.plan + 1) = elim (cases_lt (n * (drawn_count j.plan + 1)) (2 ^ 64)) [
           | inl fits ↦ absurd (none (room_behind fits))
           | inr more ↦ more
         ] in
-        subst (λ (r : Refusal). TraceRefused j.plan j.trace r) (sym is) (t, to.trace, all)
+        subst (λ (r : Refusal). TraceRefused Says j.plan j.trace r) (sym is) (t, to.trace, all)
 
     -- what refuses its images
-    of_images : IsTrue (is_point j.plan.every c.action) → ImagesRefused (drawn_count j.plan + 1) j.names mid.tally refusal → TraceRefused j.plan j.trace refusal
+    of_images : IsTrue (is_point j.plan.every c.action) → ImagesRefused (drawn_count j.plan + 1) j.names mid.tally refusal → TraceRefused Says j.plan j.trace refusal
     of_images point is = elim is [
-      | inl judge ↦ of_judge j.plan j.trace t j.names refusal to.trace to.names (some_call t.calls.items before behind c to.split (point_is_call j.plan.every c.action point)) judge
+      | inl judge ↦ of_judge Says j.plan j.trace t j.names refusal to.trace to.names (some_call t.calls.items before behind c to.split (point_is_call j.plan.every c.action point)) judge
       | inr many ↦ no_room many.1 many.0
     ]
 
     -- what refuses the record
-    pub of_rig : RigRefused j c mid refusal → TraceRefused j.plan j.trace refusal
+    pub of_rig : RigRefused j c mid refusal → TraceRefused Says j.plan j.trace refusal
     of_rig is = elim is [
-      | inl unplayed ↦ of_unplayed j.plan j.trace t refusal to.trace (unplayed_in j.plan j.trace t.calls.items before behind c mid.store refusal to.split counted.goes unplayed)
+      | inl unplayed ↦ of_unplayed Says j.plan j.trace t refusal to.trace (unplayed_in j.plan j.trace t.calls.items before behind c mid.store refusal to.split counted.goes unplayed)
       | inr (inl many) ↦ many_of mid.played many.1 (let e = counted.played in omega (arith, e)) many.0
       | inr (inr (inl many)) ↦ many_of mid.marks many.1 (let e = counted.marks in omega (arith, e)) many.0
       | inr (inr (inr (point, inl many))) ↦ many_of mid.tally.points many.1 (let e = counted.points in omega (arith, e, count_by-le-length (λ (x : Call). is_point j.plan.every x.action) before)) many.0

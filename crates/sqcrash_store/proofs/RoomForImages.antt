@@ -6,9 +6,9 @@ use Rattle.std.proofs.lemmas.List.Sums.{length-filter, count_by-le-length}
 use Rattle.sqcrash_store.specs.Judged.{Judged}
 use Rattle.sqcrash_store.specs.Keys.{key_of}
 use Rattle.sqcrash_store.specs.Points.{is_asked}
-use Rattle.sqcrash_store.specs.Refused.{HasRoom, ImagesRefused}
+use Rattle.sqcrash_store.specs.Refused.{ClaimRefused, HasRoom, ImagesRefused}
 use Rattle.sqcrash_store.specs.Surveys.{firsts, numbered, asked_among, with_images, with_number}
-use Rattle.sqcrash_store.specs.Tallies.{with_claim, with_image, with_point}
+use Rattle.sqcrash_store.specs.Tallies.{with_claim_of, with_image, with_point}
 use Rattle.sqcrash_store.specs.declared.outcome.Refusal.{Refusal}
 use Rattle.sqcrash_store.specs.declared.tally.Tally.{Tally}
 use Rattle.sqcrash_store.specs.declared.verdict.Verdict.{Verdict}
@@ -22,28 +22,40 @@ room_fewer m n t less room = record {
   lost = omega (arith, less, room.lost);
   mixed = omega (arith, less, room.mixed);
   faults = omega (arith, less, room.faults);
+  claims = omega (arith, less, room.claims);
   unwritten = omega (arith, less, room.unwritten);
 }
 
 -- a point takes none
 pub room_point : (n : ℕ) (t : Tally) → HasRoom n t → HasRoom n (with_point t)
-room_point n t room = record { images = room.images; wrong = room.wrong; lost = room.lost; mixed = room.mixed; faults = room.faults; unwritten = room.unwritten }
+room_point n t room = record { images = room.images; wrong = room.wrong; lost = room.lost; mixed = room.mixed; faults = room.faults; claims = room.claims; unwritten = room.unwritten }
 
 -- a mark takes one at most, and is no point
-pub room_claim : (m n : ℕ) (t : Tally) (found : Option (List ℕ)) → m + 1 ≤ n → HasRoom n t → HasRoom m (with_claim t found)
+pub room_claim : (m n : ℕ) (t : Tally) (found : Option (Option (List ℕ))) → m + 1 ≤ n → HasRoom n t → HasRoom m (with_claim_of t found)
 room_claim m n t None less room = room_fewer m n t (omega (arith, less)) room
-room_claim m n t (Some shown) less room = record {
+room_claim m n t (Some None) less room = record {
   images = omega (arith, less, room.images);
   wrong = omega (arith, less, room.wrong);
   lost = omega (arith, less, room.lost);
   mixed = omega (arith, less, room.mixed);
   faults = omega (arith, less, room.faults);
+  claims = omega (arith, less, room.claims);
+  unwritten = omega (arith, less, room.unwritten);
+}
+room_claim m n t (Some (Some shown)) less room = record {
+  images = omega (arith, less, room.images);
+  wrong = omega (arith, less, room.wrong);
+  lost = omega (arith, less, room.lost);
+  mixed = omega (arith, less, room.mixed);
+  faults = omega (arith, less, room.faults);
+  claims = omega (arith, less, room.claims);
   unwritten = omega (arith, less, room.unwritten);
 }
 
-pub points_claim : (t : Tally) (found : Option (List ℕ)) → (with_claim t found).points ≡ t.points
+pub points_claim : (t : Tally) (found : Option (Option (List ℕ))) → (with_claim_of t found).points ≡ t.points
 points_claim t None = refl
-points_claim t (Some shown) = refl
+points_claim t (Some None) = refl
+points_claim t (Some (Some shown)) = refl
 
 -- an image takes one
 room_image : (m n : ℕ) (t : Tally) (v : Verdict) → m + 1 ≤ n → HasRoom n t → HasRoom m (with_image t v)
@@ -53,6 +65,7 @@ room_image m n t (Kept k) less room = record {
   lost = omega (arith, less, room.lost);
   mixed = omega (arith, less, room.mixed);
   faults = omega (arith, less, room.faults);
+  claims = omega (arith, less, room.claims);
   unwritten = omega (arith, less, room.unwritten);
 }
 room_image m n t (Lost k) less room = record {
@@ -61,6 +74,7 @@ room_image m n t (Lost k) less room = record {
   lost = omega (arith, less, room.lost);
   mixed = omega (arith, less, room.mixed);
   faults = omega (arith, less, room.faults);
+  claims = omega (arith, less, room.claims);
   unwritten = omega (arith, less, room.unwritten);
 }
 room_image m n t Mixed less room = record {
@@ -69,6 +83,7 @@ room_image m n t Mixed less room = record {
   lost = omega (arith, less, room.lost);
   mixed = omega (arith, less, room.mixed);
   faults = omega (arith, less, room.faults);
+  claims = omega (arith, less, room.claims);
   unwritten = omega (arith, less, room.unwritten);
 }
 room_image m n t Fault less room = record {
@@ -77,6 +92,7 @@ room_image m n t Fault less room = record {
   lost = omega (arith, less, room.lost);
   mixed = omega (arith, less, room.mixed);
   faults = omega (arith, less, room.faults);
+  claims = omega (arith, less, room.claims);
   unwritten = omega (arith, less, room.unwritten);
 }
 
@@ -134,15 +150,15 @@ images_at_point n names t refusal is = elim is [
   | inr many ↦ inr (many.0, λ room. many.1 (room_point n t room))
 ]
 
--- what refuses fewer refuses more
-pub images_fewer : (m n : ℕ) (names : List (List ℕ)) (t : Tally) (refusal : Refusal) → m ≤ n → ImagesRefused m names t refusal → ImagesRefused n names t refusal
-images_fewer m n names t refusal less is = elim is [
-  | inl judge ↦ inl judge
-  | inr many ↦ inr (many.0, λ room. many.1 (room_fewer m n t less room))
+-- what refuses a mark refuses it with images
+pub claim_fewer : (n : ℕ) (names : List (List ℕ)) (t : Tally) (refusal : Refusal) → 1 ≤ n → ClaimRefused t refusal → ImagesRefused n names t refusal
+claim_fewer n names t refusal less is = elim is [
+  | inl writer ↦ inl (inr (inl writer))
+  | inr many ↦ inr (many.0, λ room. many.1 (room_fewer 1 n t less room))
 ]
 
--- and behind a mark refuses one more
-pub images_at_mark : (n : ℕ) (names : List (List ℕ)) (t : Tally) (found : Option (List ℕ)) (refusal : Refusal) → ImagesRefused n names (with_claim t found) refusal → ImagesRefused (n + 1) names t refusal
+-- what refuses images behind a mark refuses one more
+pub images_at_mark : (n : ℕ) (names : List (List ℕ)) (t : Tally) (found : Option (Option (List ℕ))) (refusal : Refusal) → ImagesRefused n names (with_claim_of t found) refusal → ImagesRefused (n + 1) names t refusal
 images_at_mark n names t found refusal is = elim is [
   | inl judge ↦ inl judge
   | inr many ↦ inr (many.0, λ room. many.1 (room_claim n (n + 1) t found (omega arith) room))

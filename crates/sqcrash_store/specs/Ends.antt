@@ -4,7 +4,6 @@ use Rattle.std.specs.Io.KnownBytes.{Appends}
 use Rattle.sqcrash_store.specs.Judged.{Judged}
 use Rattle.sqcrash_store.specs.Refused.{IsOfFiles, TraceRefused}
 use Rattle.sqcrash_store.specs.Rigs.{IsJudgment}
-use Rattle.sqcrash_store.specs.States.{SaysAny}
 use Rattle.sqcrash_store.specs.Tallies.{IsClean}
 use Rattle.sqcrash_store.specs.Words.{Asks}
 use Rattle.sqcrash_store.specs.declared.commands.LineError.{LineError}
@@ -13,13 +12,18 @@ use Rattle.sqcrash_store.specs.declared.commands.Request.{Request}
 use Rattle.sqcrash_store.specs.declared.outcome.Refusal.{Refusal}
 use Rattle.sqcrash_store.specs.declared.plan.Plan.{Plan}
 use Rattle.sqcrash_store.specs.declared.tally.Tally.{Tally}
+use Rattle.sqcrash_store.specs.declared.verdict.Answer.{Answer}
 
--- What comes of the trace that is asked for: of what its file gives this is counted, which is one point or more, and all
--- lines of its judgment are written; or its file isn't read, or it is refused.
+-- a command may say anything of an image
+abbrev pub SaysAny : (image : List (Option (List ℕ))) → Answer → Type 0
+SaysAny image answer = Unit {0}
+
+-- What comes of the trace that is asked for: of what its file gives this is counted, which is one point and one image or more, and
+-- all lines of its judgment are written; or its file isn't read, or it is refused.
 abbrev pub Comes : Plan → (before after : Option (List ℕ)) → Result Tally Refusal → Type 0
 Comes plan before after (Ok tally) =
-    (b : List ℕ) × (lines : List ℕ) × (kept : List Judged) × IsJudgment SaysAny plan b tally lines kept × (0 < tally.points) × Appends before after lines
-Comes plan before after (Err refusal) = IsOfFiles refusal ⊎ ((b : List ℕ) × TraceRefused plan b refusal)
+    (b : List ℕ) × (lines : List ℕ) × (kept : List Judged) × IsJudgment SaysAny plan b tally lines kept × (0 < tally.points) × (0 < tally.images) × Appends before after lines
+Comes plan before after (Err refusal) = IsOfFiles refusal ⊎ ((b : List ℕ) × TraceRefused SaysAny plan b refusal)
 
 -- the status of what was counted: 0 where nothing is wrong, 1 where something is
 abbrev pub IsStatusOf : Tally → (status : ℕ) → Type 0

@@ -70,7 +70,7 @@ unwritten_text point mark shown = codes "point " ++ (decimal point ++ (codes ": 
 -- the last line, without its end
 abbrev pub tally_text : Tally → List ℕ
 tally_text t =
-    decimal t.points ++ (codes " points, " ++ (decimal t.images ++ (codes " images, " ++ (decimal t.lost ++ (codes " lost, " ++ (decimal t.mixed ++ (codes " mixed, " ++ (decimal t.faults ++ (codes " faults, " ++ (decimal t.unwritten ++ codes " unwritten"))))))))))
+    decimal t.points ++ (codes " points, " ++ (decimal t.images ++ (codes " images, " ++ (decimal t.lost ++ (codes " lost, " ++ (decimal t.mixed ++ (codes " mixed, " ++ (decimal t.faults ++ (codes " faults, " ++ (decimal t.unwritten ++ (codes " unwritten of " ++ (decimal t.claims ++ codes " claims"))))))))))))
 
 -- how many images more have something wrong, without the line's end
 abbrev pub more_text : ℕ → List ℕ

@@ -101,7 +101,7 @@ unwritten_object point mark shown = mark_object point mark ++ (string shown ++ (
 -- the last line, without its end
 abbrev pub tally_object : Tally → List ℕ
 tally_object t =
-    codes "{\"points\":" ++ (decimal t.points ++ (codes ",\"images\":" ++ (decimal t.images ++ (codes ",\"lost\":" ++ (decimal t.lost ++ (codes ",\"mixed\":" ++ (decimal t.mixed ++ (codes ",\"faults\":" ++ (decimal t.faults ++ (codes ",\"unwritten\":" ++ (decimal t.unwritten ++ codes "}")))))))))))
+    codes "{\"points\":" ++ (decimal t.points ++ (codes ",\"images\":" ++ (decimal t.images ++ (codes ",\"lost\":" ++ (decimal t.lost ++ (codes ",\"mixed\":" ++ (decimal t.mixed ++ (codes ",\"faults\":" ++ (decimal t.faults ++ (codes ",\"claims\":" ++ (decimal t.claims ++ (codes ",\"unwritten\":" ++ (decimal t.unwritten ++ codes "}")))))))))))))
 
 -- how many images more have something wrong, without the line's end
 abbrev pub more_object : ℕ → List ℕ

@@ -25,9 +25,10 @@ abbrev pub claim_line : Plan → (point mark : ℕ) → (shown : List ℕ) → L
 claim_line plan point mark shown = cond plan.json (unwritten_object point mark shown) (unwritten_text point mark shown ++ 10 ∷ [])
 
 -- the same if there is such a claim, as long as one more may have lines
-abbrev pub claim_lines : Plan → Tally → (mark : ℕ) → (found : Option (List ℕ)) → List ℕ
+abbrev pub claim_lines : Plan → Tally → (mark : ℕ) → (found : Option (Option (List ℕ))) → List ℕ
 claim_lines plan t mark None = []
-claim_lines plan t mark (Some shown) = cond (is_within plan.lines t.wrong) (claim_line plan t.points mark shown) []
+claim_lines plan t mark (Some None) = []
+claim_lines plan t mark (Some (Some shown)) = cond (is_within plan.lines t.wrong) (claim_line plan t.points mark shown) []
 
 -- how many images and marks with something wrong have no lines
 abbrev pub left_out : Option ℕ → (wrong : ℕ) → ℕ

@@ -1,5 +1,5 @@
 -- Why a trace is refused (own).
-use Rattle.std.specs.Prelude.{◌≡◌, ◌⊎◌, ℕ, ◌+◌, ◌-◌, ◌*◌, ◌^◌, ◌<◌, ◌≤◌, Bool, false, not, ◌&&◌, nat_eq, IsTrue, IsUtf8, List, [], ◌∷◌, ◌++◌, length, codes, Err}
+use Rattle.std.specs.Prelude.{◌≡◌, ◌⊎◌, ℕ, ◌+◌, ◌-◌, ◌*◌, ◌^◌, ◌<◌, ◌≤◌, Bool, false, not, ◌&&◌, nat_eq, IsTrue, IsUtf8, Option, List, [], ◌∷◌, ◌++◌, length, codes, Err}
 use Rattle.std.specs.List.{Contains, count_by, list_any, position_or_len}
 use Rattle.std.specs.Str.{bytes_eq}
 use Rattle.rig_store.specs.Calls.{IsTrace, TraceAnswer}
@@ -7,9 +7,10 @@ use Rattle.rig_store.specs.Stores.{StoreState, no_store, Goes, GoesRefused}
 use Rattle.rig_store.specs.declared.call.Call.{Call}
 use Rattle.rig_store.specs.declared.call.Trace.{Trace}
 use Rattle.rig_store.specs.declared.error.StoreError.{StoreError}
+use Rattle.sqcrash_store.specs.Judged.{Judged}
 use Rattle.sqcrash_store.specs.Points.{is_point}
-use Rattle.sqcrash_store.specs.Rigs.{RigState}
-use Rattle.sqcrash_store.specs.States.{AreStates, SaysAny, is_call, names_told}
+use Rattle.sqcrash_store.specs.Rigs.{RigState, PlaysAll, no_rig}
+use Rattle.sqcrash_store.specs.States.{AreStates, is_call, names_told}
 use Rattle.sqcrash_store.specs.Surveys.{Judging, drawn_count}
 use Rattle.sqcrash_store.specs.Verdicts.{AreAlike}
 use Rattle.sqcrash_store.specs.declared.outcome.Refusal.{Refusal}
@@ -100,18 +101,23 @@ point_count plan calls = count_by (λ c. is_point plan.every c.action) calls
 abbrev pub StatesRefused : Plan → List ℕ → List Call → (names : List (List ℕ)) → Refusal → Type 0
 StatesRefused plan b calls names refusal = ((0 < call_count calls) × JudgeRefused names refusal) ⊎ IsUnplayedIn plan b calls refusal
 
--- the counts of images have room for so many more
+-- the counts of images and claims have room for so many more
 pub record HasRoom (n : ℕ) (t : Tally) : Type 0 where
   pub images : t.images + n < 2 ^ 64
   pub wrong : t.wrong + n < 2 ^ 64
   pub lost : t.lost + n < 2 ^ 64
   pub mixed : t.mixed + n < 2 ^ 64
   pub faults : t.faults + n < 2 ^ 64
+  pub claims : t.claims + n < 2 ^ 64
   pub unwritten : t.unwritten + n < 2 ^ 64
 
 -- what refuses so many images more, at most
 abbrev pub ImagesRefused : (n : ℕ) → (names : List (List ℕ)) → Tally → Refusal → Type 0
 ImagesRefused n names t refusal = JudgeRefused names refusal ⊎ ((refusal ≡ refusals.TooMany) × ¬ HasRoom n t)
+
+-- what refuses one mark more: memory, a writer or a count
+abbrev pub ClaimRefused : Tally → Refusal → Type 0
+ClaimRefused t refusal = IsOfWriter refusal ⊎ ((refusal ≡ refusals.TooMany) × ¬ HasRoom 1 t)
 
 -- what refuses one point more with its mark, and what refuses one record more
 abbrev pub PointRefused : Judging → Tally → Refusal → Type 0
@@ -128,21 +134,32 @@ RigRefused j c rig refusal =
 abbrev pub IsTraceOf : List ℕ → (List Call → Type 0) → Type 0
 IsTraceOf b P = (t : Trace) × IsTrace b t × P t.calls.items
 
--- the command may have said of a run what is alike
-abbrev pub MayBeAlike : Plan → List ℕ → List Call → Type 0
-MayBeAlike plan b calls = (states : List Answer) × AreStates SaysAny plan b calls states × AreAlike states
+-- what the command says of a run is alike
+abbrev pub NamesAlike : (Says : List (Option (List ℕ)) → Answer → Type 0) → Plan → List ℕ → List Call → Type 0
+NamesAlike Says plan b calls = (states : List Answer) × AreStates Says plan b calls states × AreAlike states
 
--- Why a trace is refused: it is none; a record can't be played; a name can't be that of a file; the command names its states alike;
--- it has no point; it has
--- so many records that a count may pass 2 ^ 64 - 1; or, where the command is asked, a file, an answer or a writer failed.
-abbrev pub TraceRefused : Plan → List ℕ → Refusal → Type 0
-TraceRefused plan b (refusals.Trace e) = TraceAnswer b (Err e)
-TraceRefused plan b (refusals.Record at e) = IsTraceOf b (λ calls. IsUnplayedAt plan b calls at e)
-TraceRefused plan b refusals.Name = IsTraceOf b (λ calls. HasNoFileName (names_told b calls))
-TraceRefused plan b refusals.Alike = IsTraceOf b (λ calls. MayBeAlike plan b calls)
-TraceRefused plan b refusals.NoPoints = IsTraceOf b (λ calls. point_count plan calls ≡ 0)
-TraceRefused plan b refusals.TooMany = IsTraceOf b (λ calls. 2 ^ 64 ≤ length calls * (drawn_count plan + 1))
-TraceRefused plan b refusals.FileFailed = IsTraceOf b (λ calls. 0 < call_count calls)
-TraceRefused plan b refusals.NoAnswer = IsTraceOf b (λ calls. 0 < call_count calls)
-TraceRefused plan b refusals.Unwritten = IsTraceOf b (λ calls. 0 < call_count calls)
-TraceRefused plan b refusals.NoMemory = Unit {0}
+-- its records are judged by what the command says, and no image is
+pub record JudgesNone (Says : List (Option (List ℕ)) → Answer → Type 0) (plan : Plan) (b : List ℕ) (calls : List Call) : Type 0 where
+  pub states : List Answer
+  pub are_states : AreStates Says plan b calls states
+  pub last : RigState
+  pub told : List ℕ
+  pub kept : List Judged
+  pub judged : PlaysAll Says (record { plan = plan; trace = b; names = names_told b calls; states = states }) calls (no_rig plan) last told kept
+  pub none : last.tally.images ≡ 0
+
+-- Why a trace is refused: it is none; a record can't be played; a name can't be that of a file; the command, by what it says, names
+-- its states alike; it has no point; no image of it is judged; it has so many records that a count may pass 2 ^ 64 - 1; or, where the
+-- command is asked, a file, an answer or a writer failed.
+abbrev pub TraceRefused : (Says : List (Option (List ℕ)) → Answer → Type 0) → Plan → List ℕ → Refusal → Type 0
+TraceRefused Says plan b (refusals.Trace e) = TraceAnswer b (Err e)
+TraceRefused Says plan b (refusals.Record at e) = IsTraceOf b (λ calls. IsUnplayedAt plan b calls at e)
+TraceRefused Says plan b refusals.Name = IsTraceOf b (λ calls. HasNoFileName (names_told b calls))
+TraceRefused Says plan b refusals.Alike = IsTraceOf b (λ calls. NamesAlike Says plan b calls)
+TraceRefused Says plan b refusals.NoPoints = IsTraceOf b (λ calls. point_count plan calls ≡ 0)
+TraceRefused Says plan b refusals.NoImages = IsTraceOf b (λ calls. JudgesNone Says plan b calls)
+TraceRefused Says plan b refusals.TooMany = IsTraceOf b (λ calls. 2 ^ 64 ≤ length calls * (drawn_count plan + 1))
+TraceRefused Says plan b refusals.FileFailed = IsTraceOf b (λ calls. 0 < call_count calls)
+TraceRefused Says plan b refusals.NoAnswer = IsTraceOf b (λ calls. 0 < call_count calls)
+TraceRefused Says plan b refusals.Unwritten = IsTraceOf b (λ calls. 0 < call_count calls)
+TraceRefused Says plan b refusals.NoMemory = Unit {0}

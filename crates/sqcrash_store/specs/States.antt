@@ -10,10 +10,6 @@ use Rattle.rig_store.specs.declared.call.Call.{Call}
 use Rattle.sqcrash_store.specs.declared.plan.Plan.{Plan}
 use Rattle.sqcrash_store.specs.declared.verdict.Answer.{Answer}
 
--- a command may say anything of an image
-abbrev pub SaysAny : (image : List (Option (List ℕ))) → Answer → Type 0
-SaysAny image answer = Unit {0}
-
 -- the command is asked of the files as they are now, and its answer is one state more
 pub record SaysNow (Says : List (Option (List ℕ)) → Answer → Type 0) (s : StoreState) (old new : List Answer) : Type 0 where
   pub image : List (Option (List ℕ))

@@ -1,5 +1,5 @@
 -- The images of a point are judged, counted and told (own).
-use Rattle.std.specs.Prelude.{◌≡◌, ℕ, ◌+◌, ◌/◌, cond, not, nat_eq, List, [], ◌∷◌, ◌++◌, length, map, drop, fold, Option}
+use Rattle.std.specs.Prelude.{◌≡◌, ℕ, ◌+◌, ◌/◌, Bool, cond, not, nat_eq, List, [], ◌∷◌, ◌++◌, length, map, take, drop, fold, Option}
 use Rattle.std.specs.List.{All, filter}
 use Rattle.std.specs.String.{string_bytes}
 use Rattle.rig_store.specs.Differing.{AreDifferences}
@@ -29,6 +29,15 @@ pub record Judging : Type 0 where
 
 abbrev pub judging_of : Bench → Judging
 judging_of b = record { plan = b.plan; trace = b.trace.now; names = map (λ n. string_bytes n) b.names.now; states = b.states.now }
+
+-- How many states a crash may show after so many marks, from state 0 on: behind the last of these those up to it, and behind another
+-- call also the one at the next mark, since no later call is played then.
+abbrev pub seen_count : (is_mark : Bool) → (marks : ℕ) → ℕ
+seen_count is_mark marks = cond is_mark (marks + 1) (marks + 2)
+
+-- such a crash is judged by these
+abbrev pub seen : Judging → (is_mark : Bool) → (marks : ℕ) → Judging
+seen j is_mark marks = record j { states = take (seen_count is_mark marks) j.states }
 
 -- each name that shows another thing in an image than it would without a crash
 abbrev pub Differs : StoreState → (image : List (Option (List ℕ))) → List Difference → Type 0

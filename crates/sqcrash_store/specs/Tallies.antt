@@ -1,11 +1,11 @@
 -- What is counted of images (own).
-use Rattle.std.specs.Prelude.{◌≡◌, ℕ, ◌+◌, List, Option, Some, None}
+use Rattle.std.specs.Prelude.{◌≡◌, ℕ, ◌+◌, Bool, true, false, List, Option, Some, None}
 use Rattle.sqcrash_store.specs.declared.tally.Tally.{Tally}
 use Rattle.sqcrash_store.specs.declared.verdict.Verdict.{Verdict}
 use Rattle.sqcrash_store.specs.declared.verdict.Verdict.TheVariants.{Kept, Lost, Mixed, Fault}
 
 abbrev pub no_tally : Tally
-no_tally = record { points = 0; images = 0; wrong = 0; lost = 0; mixed = 0; faults = 0; unwritten = 0 }
+no_tally = record { points = 0; images = 0; wrong = 0; lost = 0; mixed = 0; faults = 0; claims = 0; unwritten = 0 }
 
 -- nothing is wrong
 pub record IsClean (t : Tally) : Type 0 where
@@ -24,10 +24,13 @@ with_image t (Lost k) = record t { images = t.images + 1; wrong = t.wrong + 1; l
 with_image t Mixed = record t { images = t.images + 1; wrong = t.wrong + 1; mixed = t.mixed + 1 }
 with_image t Fault = record t { images = t.images + 1; wrong = t.wrong + 1; faults = t.faults + 1 }
 
--- with one more mark that claims a commit that the files don't show; the same if there is such a claim
-abbrev pub with_unwritten : Tally → Tally
-with_unwritten t = record t { wrong = t.wrong + 1; unwritten = t.unwritten + 1 }
+-- with one more claim, which the files don't show or do
+abbrev pub with_claim : Tally → (is_unwritten : Bool) → Tally
+with_claim t false = record t { claims = t.claims + 1 }
+with_claim t true = record t { wrong = t.wrong + 1; claims = t.claims + 1; unwritten = t.unwritten + 1 }
 
-abbrev pub with_claim : Tally → (found : Option (List ℕ)) → Tally
-with_claim t None = t
-with_claim t (Some shown) = with_unwritten t
+-- the same if there is one
+abbrev pub with_claim_of : Tally → (found : Option (Option (List ℕ))) → Tally
+with_claim_of t None = t
+with_claim_of t (Some None) = with_claim t false
+with_claim_of t (Some (Some shown)) = with_claim t true

@@ -19,9 +19,9 @@ use std::alloc::Global;
 use std::io::Write;
 
 /// Judges a trace by a command, writes lines for each image with something wrong, and at the end what there was, and
-/// hands over those images that are kept. Answers what there was, which is one point or more. Refused by NoPoints if
-/// there is none, by Alike, Trace, Record, Name and TooMany, by FileFailed, NoAnswer and Unwritten once the command is
-/// asked, and by NoMemory.
+/// hands over those images that are kept. Answers what there was, which is one point and one image or more. Refused by
+/// NoPoints and NoImages if there is none, by Alike, Trace, Record, Name and TooMany, by FileFailed, NoAnswer and
+/// Unwritten once the command is asked, and by NoMemory.
 pub fn judge_trace<J: Judge, O: Write>(
     alloc: Global,
     plan: Plan,
@@ -34,7 +34,8 @@ pub fn judge_trace<J: Judge, O: Write>(
         × Appends (O.contents out.old) (O.contents out.new) lines
         × Keeps (J.kept judge.old) (J.kept judge.new) kept) }
     ensures some { IfOk result (λ tally. 0 < tally.points) }
-    ensures refused { IfErr result (TraceRefused plan bytes.now) }
+    ensures images { IfOk result (λ tally. 0 < tally.images) }
+    ensures refused { IfErr result (TraceRefused J.says plan bytes.now) }
 {
     let trace = Trace::read(alloc, bytes)?;
     let names = take_names(alloc, bytes, &trace.calls)?;
@@ -56,6 +57,9 @@ pub fn judge_trace<J: Judge, O: Write>(
     let tally = rig.tally();
     if tally.points == 0 {
         return Err(Refusal::NoPoints);
+    }
+    if tally.has_no_image() {
+        return Err(Refusal::NoImages);
     }
     write_last(out, plan, tally)?;
     Ok(tally)

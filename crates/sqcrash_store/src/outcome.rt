@@ -26,6 +26,9 @@ pub enum Refusal {
     /// No record of the trace is a point.
     #[error("no marks, so that nothing would be judged; --every judges after each call")]
     NoPoints,
+    /// No image was judged: the points or the image that are asked for aren't there.
+    #[error("no such points or images, so that nothing would be judged")]
+    NoImages,
     /// The command names all states alike.
     #[error("the command names all states alike, so that nothing lost or mixed would be found")]
     Alike,

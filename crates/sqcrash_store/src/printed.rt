@@ -95,7 +95,7 @@ pub fn write_claim<O: Write>(
     shown: &str,
 ) -> io::Result<()>
     ensures { OnOk result (Appends (O.contents out.old) (O.contents out.new)
-        (claim_lines plan before mark (Some shown.now))) }
+        (claim_lines plan before mark (Some (Some shown.now)))) }
 {
     if !is_within(plan.lines, before.wrong) {
         return Ok(());
@@ -160,13 +160,14 @@ impl fmt::Display for TallyObject {
             lost,
             mixed,
             faults,
+            claims,
             unwritten,
             ..
         } = self.0;
         write!(
             f,
             "{{\"points\":{points},\"images\":{images},\"lost\":{lost},\"mixed\":{mixed},\"faults\":{faults},\
-             \"unwritten\":{unwritten}}}"
+             \"claims\":{claims},\"unwritten\":{unwritten}}}"
         )
     }
 }

@@ -8,7 +8,7 @@ use crate::claim::judge_claim;
 use crate::crash::Crash;
 use crate::outcome::{Refusal, more};
 use crate::plan::Plan;
-use crate::states::play;
+use crate::states::{is_mark, play};
 use crate::survey::{Bench, Point, survey};
 use crate::tally::Tally;
 use rig_store::{Action, Call, Store};
@@ -136,7 +136,8 @@ impl Rig {
             },
         };
         let claimed = judge_claim(bench, call, self.marks, tally, out)?;
-        self.tally = survey(judge, bench, &point, claimed, out)?;
+        let seen = bench.seen(is_mark(call), self.marks);
+        self.tally = survey(judge, &seen, &point, claimed, out)?;
         Ok(())
     }
 

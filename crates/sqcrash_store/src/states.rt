@@ -106,7 +106,7 @@ fn is_first(states: &[Answer], call: &Call) -> bool
 }
 
 /// Whether it is a mark.
-fn is_mark(call: &Call) -> bool
+pub fn is_mark(call: &Call) -> bool
     ensures { result ≡ is_mark call.now.action }
 {
     call.action == Action::Mark

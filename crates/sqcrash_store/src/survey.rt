@@ -1,5 +1,6 @@
 //! The images of a point are judged, counted, told and kept (own).
-ghost use Rattle.std.specs.Prelude.{◌≡◌, ◌≤◌, ◌^◌, ◌||◌, ◌++◌, List, [], ◌∷◌, OnOk, IfOk, IfErr, MatchResult, map};
+ghost use Rattle.std.specs.Prelude.{◌≡◌, ◌≤◌, ◌^◌, ◌||◌, ◌+◌, ◌++◌, List, [], ◌∷◌, OnOk, IfOk, IfErr, MatchResult};
+ghost use Rattle.std.specs.Prelude.{map, take};
 ghost use Rattle.std.specs.Io.KnownBytes.{Appends};
 ghost use Rattle.std.specs.String.{string_bytes};
 ghost use Rattle.rand_pcg.specs.Lcg.{increment_of, started};
@@ -12,7 +13,7 @@ ghost use Rattle.sqcrash_store.specs.Keys.{key_of};
 ghost use Rattle.sqcrash_store.specs.Printed.{lines_of};
 ghost use Rattle.sqcrash_store.specs.Refused.{ImagesRefused, IsOfMemory, JudgeRefused, PutRefused};
 ghost use Rattle.sqcrash_store.specs.Surveys.{IsJudged, IsSurvey, drawn_count, judging_of, lines_from};
-ghost use Rattle.sqcrash_store.specs.Surveys.{third_of, with_images};
+ghost use Rattle.sqcrash_store.specs.Surveys.{seen_count, third_of, with_images};
 ghost use Rattle.sqcrash_store.specs.Tallies.{with_image};
 ghost use Rattle.sqcrash_store.specs.Verdicts.{is_wrong};
 ghost use Rattle.sqcrash_store.specs.declared.outcome.Refusal.TheVariants.{TooMany};
@@ -46,6 +47,49 @@ pub struct Bench<'a> {
     pub names: &'a [String],
     /// What the command said of the files at the beginning and at each mark.
     pub states: &'a [Answer],
+}
+
+/// The first of some states, `marks` and so many more.
+fn first_states(states: &[Answer], marks: u64, more: usize) -> &[Answer]
+    requires { more ≤ 2 }
+    ensures { result.now ≡ take (marks + more) states.now }
+{
+    if marks >= states.len() as u64 {
+        return states;
+    }
+    let count = marks as usize + more;
+    if count >= states.len() {
+        return states;
+    }
+    &states[..count]
+}
+
+/// The states that a crash may show after so many marks, the last of which it is behind or not.
+fn seen_states(states: &[Answer], is_mark: bool, marks: u64) -> &[Answer]
+    ensures { result.now ≡ take (seen_count is_mark marks) states.now }
+{
+    if is_mark {
+        return first_states(states, marks, 1);
+    }
+    first_states(states, marks, 2)
+}
+
+impl<'a> Bench<'a> {
+    ghost use Rattle.std.specs.Prelude.{◌≡◌};
+    ghost use Rattle.sqcrash_store.specs.Surveys.{judging_of, seen};
+
+    /// The same for a crash after so many marks, the last of which it is behind or not.
+    pub fn seen(&self, is_mark: bool, marks: u64) -> Bench<'a>
+        ensures { judging_of result ≡ seen (judging_of self.now) is_mark marks }
+    {
+        Bench {
+            alloc: self.alloc,
+            plan: self.plan,
+            trace: self.trace,
+            names: self.names,
+            states: seen_states(self.states, is_mark, marks),
+        }
+    }
 }
 
 /// A point of a run.

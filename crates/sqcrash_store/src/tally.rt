@@ -3,7 +3,7 @@ use crate::outcome::{Refusal, more};
 use crate::verdict::Verdict;
 use std::fmt;
 
-/// How many points, images and marks with something wrong there were, and how many points and images in all.
+/// How many points, images and claims of marks were judged, and what was wrong with these.
 #[derive(Clone, Copy, Debug, PartialEq, Eq)]
 pub struct Tally {
     pub points: u64,
@@ -16,14 +16,16 @@ pub struct Tally {
     pub mixed: u64,
     /// Files that aren't sound.
     pub faults: u64,
-    /// Marks that claim a commit that the files don't show.
+    /// Marks that claim a commit.
+    pub claims: u64,
+    /// Those of them whose commit the files don't show.
     pub unwritten: u64,
 }
 
 impl Tally {
     ghost use Rattle.std.specs.Prelude.{◌≡◌, ◌↔◌, IsTrue, MatchResult};
     ghost use Rattle.sqcrash_store.specs.Refused.{HasRoom, IsTooMany};
-    ghost use Rattle.sqcrash_store.specs.Tallies.{no_tally, with_point, with_image, with_unwritten, IsClean};
+    ghost use Rattle.sqcrash_store.specs.Tallies.{no_tally, with_point, with_image, with_claim, IsClean};
     ghost use Rattle.sqcrash_store.specs.declared.outcome.Refusal.TheVariants.{TooMany};
 
     /// None.
@@ -37,8 +39,16 @@ impl Tally {
             lost: 0,
             mixed: 0,
             faults: 0,
+            claims: 0,
             unwritten: 0,
         }
+    }
+
+    /// Whether no image was judged.
+    pub fn has_no_image(&self) -> bool
+        ensures { IsTrue result ↔ (self.now.images ≡ 0) }
+    {
+        self.images == 0
     }
 
     /// Whether nothing is wrong.
@@ -72,11 +82,16 @@ impl Tally {
         Ok(self)
     }
 
-    /// With one more mark that claims a commit that the files don't show. TooMany where a count has no next number.
-    pub fn with_unwritten(mut self) -> Result<Tally, Refusal>
-        ensures { MatchResult result (λ t. t ≡ with_unwritten self)
+    /// With one more mark that claims a commit, which the files don't show or do. TooMany where a count has no next
+    /// number.
+    pub fn with_claim(mut self, is_unwritten: bool) -> Result<Tally, Refusal>
+        ensures { MatchResult result (λ t. t ≡ with_claim self is_unwritten)
             (λ refusal. (refusal ≡ TooMany) × ¬ HasRoom 1 self) }
     {
+        self.claims = more(self.claims)?;
+        if !is_unwritten {
+            return Ok(self);
+        }
         self.unwritten = more(self.unwritten)?;
         self.wrong = more(self.wrong)?;
         Ok(self)
@@ -92,8 +107,14 @@ impl fmt::Display for Tally {
     fn fmt<W: fmt::Write>(&self, f: &mut fmt::Formatter<W>) -> fmt::Result {
         write!(
             f,
-            "{} points, {} images, {} lost, {} mixed, {} faults, {} unwritten",
-            self.points, self.images, self.lost, self.mixed, self.faults, self.unwritten
+            "{} points, {} images, {} lost, {} mixed, {} faults, {} unwritten of {} claims",
+            self.points,
+            self.images,
+            self.lost,
+            self.mixed,
+            self.faults,
+            self.unwritten,
+            self.claims
         )
     }
 }

@@ -8,7 +8,8 @@ use Rattle.sqval.specs.Serial.{body_size, held, IsInternal}
 use Rattle.sqval.specs.Record.{HasHeader}
 use Rattle.sqdeep.specs.declared.text.Encoding.{Encoding}
 use Rattle.sqdeep.specs.Texts.{IsTextIn}
-use Rattle.sqdeep.specs.Records.{IsFormed, IsFormedRecord}
+use Rattle.sqdeep.specs.Records.{IsFormed}
+use Rattle.sqdeep.specs.internal.Judging.{IsFormedRecord}
 use Rattle.sqdeep.specs.internal.Columns.{AreFormedColumns}
 
 formed_if : (encoding : Encoding) (b : Bool) (x y : Datum) → (b ≡ true → IsFormed encoding x) → (b ≡ false → IsFormed encoding y)

@@ -6,3 +6,4 @@ pub mod SoundTrees
 pub mod Refusals
 pub mod RootsOfTrees
 pub mod FormedColumns
+pub mod IllFormedCells

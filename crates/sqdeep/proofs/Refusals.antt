@@ -9,7 +9,6 @@ use Rattle.sqpage.specs.declared.cell.Cell.{Cell}
 use Rattle.sqpage.specs.declared.fault.CheckError.{CheckError}
 use Rattle.sqpage.specs.Header.{half}
 use Rattle.sqpage.specs.Layout.{Span, AreFreeblocks}
-use Rattle.sqpage.specs.Lists.{Every}
 use Rattle.sqpage.specs.Page.{Page}
 use Rattle.sqpage.specs.Source.{UnlessUnread}
 use Rattle.sqcheck.specs.Places.{IsCellAt, page_as}
@@ -22,10 +21,9 @@ use Rattle.sqdeep.specs.declared.fault.DeepError.{DeepError}
 use Rattle.sqdeep.specs.declared.fault.DeepError.TheVariants.{Check, Inner}
 use Rattle.sqdeep.specs.declared.fault.InnerFault.{InnerFault}
 use Rattle.sqdeep.specs.declared.fault.InnerFault.TheVariants as faults
-use Rattle.sqdeep.specs.declared.text.Encoding.{Encoding}
 use Rattle.sqdeep.specs.Headers.{HasKnownNumbers, HeaderRefused}
 use Rattle.sqdeep.specs.Pages.{IsTidyPage, AreSpaced, PageRefused}
-use Rattle.sqdeep.specs.Records.{encoding_of, IsFormed, IsSoundCell, CellRefused}
+use Rattle.sqdeep.specs.Records.{IsSoundCell, CellRefused}
 use Rattle.sqdeep.specs.Inside.{IsSoundInside, StandsInside, DeepRefused, RefutesSound}
 use Rattle.sqdeep.specs.internal.Judging.{IsCutOff, Tells}
 
@@ -51,7 +49,7 @@ blocks_once used least at (x ∷ xs) (y ∷ ys) h k =
     let size : x.size ≡ y.size = h.2.size ∙ ap (λ n. half used (n + 2)) start ∙ sym k.2.size in
     ap (λ b. b ∷ xs) (span_once x y start size) ∙ ap (λ bs. y ∷ bs) (blocks_once used (suc at) (half used at) xs ys h.3 k.3)
 
-values_once : (bytes : List ℕ) (u v : List Datum) → IsRecord u bytes → IsRecord v bytes → u ≡ v
+pub values_once : (bytes : List ℕ) (u v : List Datum) → IsRecord u bytes → IsRecord v bytes → u ≡ v
 values_once bytes u v h k = sym (record_only h.types h.bodies bytes u h.reads h) ∙ record_only h.types h.bodies bytes v h.reads k
 
 header_none : (d : Database) (fault : InnerFault) → HasKnownNumbers d → HeaderRefused d fault → ⊥
@@ -67,25 +65,21 @@ page_none b root faults.FreeblockGap h (blocks, has, never) =
     never (subst (AreSpaced (suc (Rattle.sqpage.specs.Page.content_start_in b.used b.number))) (blocks_once b.used (Rattle.sqpage.specs.Page.content_start_in b.used b.number) (half b.used (Rattle.sqpage.specs.Page.head_at b.number + 1)) h.spaced.0 blocks h.spaced.1 has) h.spaced.2)
 page_none b root _ h r = r
 
-cell_none : (encoding : Encoding) (d : Database) (b : Page) (i : ℕ) (cell : Cell) (fault : InnerFault) → IsCellAt b i cell → IsSoundCell encoding d cell → CellRefused encoding d cell fault → ⊥
-cell_none encoding d b i cell faults.ShortCell at h r = let room = h.room in omega (arith, room, r)
-cell_none encoding d b i cell faults.TooLong at h (some, more) = let short = (h.holds some).short in omega (arith, short, more)
-cell_none encoding d b i cell faults.NotRecord at h (some, bytes, payload, never) =
+cell_none : (d : Database) (b : Page) (i : ℕ) (cell : Cell) (fault : InnerFault) → IsCellAt b i cell → IsSoundCell d cell → CellRefused d cell fault → ⊥
+cell_none d b i cell faults.ShortCell at h r = let room = h.room in omega (arith, room, r)
+cell_none d b i cell faults.TooLong at h (some, more) = let short = (h.holds some).short in omega (arith, short, more)
+cell_none d b i cell faults.NotRecord at h (some, bytes, payload, never) =
     let has = h.holds some in
     let same : has.bytes ≡ bytes = row_once d b i has.bytes bytes (record { cell = cell; is = at; payload = has.payload }) (record { cell = cell; is = at; payload = payload }) in
-    never has.formed.0 (subst (IsRecord has.formed.0) same has.formed.1)
-cell_none encoding d b i cell faults.TextForm at h (some, bytes, values, payload, read, never) =
-    let has = h.holds some in
-    let same : has.bytes ≡ bytes = row_once d b i has.bytes bytes (record { cell = cell; is = at; payload = has.payload }) (record { cell = cell; is = at; payload = payload }) in
-    never (subst (Every (IsFormed encoding)) (values_once bytes has.formed.0 values (subst (IsRecord has.formed.0) same has.formed.1) read) has.formed.2)
-cell_none encoding d b i cell _ at h r = r
+    never has.values (subst (IsRecord has.values) same has.read)
+cell_none d b i cell _ at h r = r
 
 -- No fault stands in a sound database.
 pub none_inside : (d : Database) (fault : InnerFault) (p : ℕ) (cell : Option ℕ) → IsSoundInside d → StandsInside d fault p cell → ⊥
 none_inside d fault p None h (inl r) = header_none d fault h.header r.1
 none_inside d fault p None h (inr (inl (kind, root, of_tree, r))) = page_none (page_as d kind p) root fault (h.pages kind root p of_tree) r
 none_inside d fault p None h (inr (inr (e, (auto, root, q, none, behind)))) = (let first = h.roots auto p q root none in omega (arith, first, behind))
-none_inside d fault p (Some i) h (kind, root, cell, of_tree, at, r) = cell_none (encoding_of d) d (page_as d kind p) i cell fault at (h.cells kind root p i cell of_tree at) r
+none_inside d fault p (Some i) h (kind, root, cell, of_tree, at, r) = cell_none d (page_as d kind p) i cell fault at (h.cells kind root p i cell of_tree at) r
 
 -- So a refusal refutes that the database is sound.
 pub refuted : (given : Type 0) (maps : Bool) (d : Database) (size : ℕ) (e : DeepError) → DeepRefused given maps d size e → RefutesSound maps d size e

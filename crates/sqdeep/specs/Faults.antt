@@ -14,7 +14,6 @@ number_of faults.RootBehind = 35
 number_of faults.ShortCell = 40
 number_of faults.TooLong = 41
 number_of faults.NotRecord = 42
-number_of faults.TextForm = 43
 
 -- own: the name of a fault in a report
 abbrev pub name_of : InnerFault → List ℕ
@@ -27,4 +26,3 @@ name_of faults.RootBehind = codes "RootBehind"
 name_of faults.ShortCell = codes "ShortCell"
 name_of faults.TooLong = codes "TooLong"
 name_of faults.NotRecord = codes "NotRecord"
-name_of faults.TextForm = codes "TextForm"

@@ -17,7 +17,7 @@ use Rattle.sqdeep.specs.declared.fault.DeepError.{DeepError}
 use Rattle.sqdeep.specs.declared.fault.DeepError.TheVariants.{Check, Inner}
 use Rattle.sqdeep.specs.Headers.{HasKnownNumbers, HeaderRefused}
 use Rattle.sqdeep.specs.Pages.{IsTidyPage, PageRefused}
-use Rattle.sqdeep.specs.Records.{encoding_of, IsSoundCell, CellRefused}
+use Rattle.sqdeep.specs.Records.{IsSoundCell, CellRefused}
 
 -- page p is one of this kind in the tree with this root
 abbrev pub IsOfTree : Database → (kind : Kind) → (root p : ℕ) → Type 0
@@ -44,7 +44,7 @@ pub record IsSoundInside (d : Database) : Type 0 where
   pub header : HasKnownNumbers d
   pub roots : AreRootsFirst d
   pub pages : (kind : Kind) (root p : ℕ) → IsOfTree d kind root p → IsTidyPage (page_as d kind p) root
-  pub cells : (kind : Kind) (root p i : ℕ) (cell : Cell) → IsOfTree d kind root p → IsCellAt (page_as d kind p) i cell → IsSoundCell (encoding_of d) d cell
+  pub cells : (kind : Kind) (root p i : ℕ) (cell : Cell) → IsOfTree d kind root p → IsCellAt (page_as d kind p) i cell → IsSoundCell d cell
 
 -- A fault of a page, at page 1 one of the header, at a root that it stands behind others, or one of cell i of a page.
 abbrev pub StandsInside : Database → InnerFault → (p : ℕ) → (cell : Option ℕ) → Type 0
@@ -52,7 +52,7 @@ StandsInside d fault p None =
     ((p ≡ 1) × HeaderRefused d fault)
     ⊎ ((kind : Kind) × (root : ℕ) × IsOfTree d kind root p × PageRefused (page_as d kind p) root fault)
     ⊎ ((fault ≡ RootBehind) × IsRootBehind d p)
-StandsInside d fault p (Some i) = (kind : Kind) × (root : ℕ) × (cell : Cell) × IsOfTree d kind root p × IsCellAt (page_as d kind p) i cell × CellRefused (encoding_of d) d cell fault
+StandsInside d fault p (Some i) = (kind : Kind) × (root : ℕ) × (cell : Cell) × IsOfTree d kind root p × IsCellAt (page_as d kind p) i cell × CellRefused d cell fault
 
 -- Why a database isn't found sound: a check refuses it, or it is well formed, and a fault stands inside.
 abbrev pub DeepRefused : (gives : Type 0) → (maps : Bool) → Database → (size : ℕ) → DeepError → Type 0

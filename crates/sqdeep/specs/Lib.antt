@@ -4,4 +4,5 @@ pub mod Records
 pub mod Pages
 pub mod Headers
 pub mod Inside
+pub mod Forms
 pub mod internal

@@ -8,7 +8,7 @@ use Rattle.sqpage.specs.declared.cell.Cell.{Cell}
 use Rattle.sqpage.specs.Lists.{Every}
 use Rattle.sqpage.specs.Chain.{payload_size, IsPayload}
 use Rattle.sqdeep.specs.declared.fault.InnerFault.{InnerFault}
-use Rattle.sqdeep.specs.declared.fault.InnerFault.TheVariants.{ShortCell, TooLong, NotRecord, TextForm}
+use Rattle.sqdeep.specs.declared.fault.InnerFault.TheVariants.{ShortCell, TooLong, NotRecord}
 use Rattle.sqdeep.specs.declared.text.Encoding.{Encoding}
 use Rattle.sqdeep.specs.Texts.{encoding_named, IsTextIn}
 
@@ -21,27 +21,32 @@ abbrev pub IsFormed : Encoding → Datum → Type 0
 IsFormed encoding (text bytes) = IsTextIn encoding bytes
 IsFormed encoding _ = Unit {0}
 
--- The bytes are a record, whose texts are formed.
-abbrev pub IsFormedRecord : Encoding → (bytes : List ℕ) → Type 0
-IsFormedRecord encoding bytes = (values : List Datum) × IsRecord values bytes × Every (IsFormed encoding) values
-
--- The cell has a payload within the limit, which is such a record.
-pub record HasFormedRecord (encoding : Encoding) (d : Database) (cell : Cell) : Type 0 where
+-- The cell has a payload within the limit, which is a record.
+pub record HasRecord (d : Database) (cell : Cell) : Type 0 where
   pub short : payload_size cell ≤ most_bytes
   pub bytes : List ℕ
   pub payload : IsPayload d cell bytes
-  pub formed : IsFormedRecord encoding bytes
+  pub values : List Datum
+  pub read : IsRecord values bytes
 
 -- A cell of a tree takes four bytes of its page (fileformat2, 1.6), and its payload, where cells of its kind have one, is
 -- a record.
-pub record IsSoundCell (encoding : Encoding) (d : Database) (cell : Cell) : Type 0 where
+pub record IsSoundCell (d : Database) (cell : Cell) : Type 0 where
   pub room : cell.at + 4 ≤ cell.usable
-  pub holds : IsSome cell.payload → HasFormedRecord encoding d cell
+  pub holds : IsSome cell.payload → HasRecord d cell
 
 -- What is wrong with a cell.
-abbrev pub CellRefused : Encoding → Database → Cell → InnerFault → Type 0
-CellRefused encoding d cell ShortCell = cell.usable < cell.at + 4
-CellRefused encoding d cell TooLong = IsSome cell.payload × (most_bytes < payload_size cell)
-CellRefused encoding d cell NotRecord = IsSome cell.payload × (bytes : List ℕ) × IsPayload d cell bytes × ((values : List Datum) → ¬ IsRecord values bytes)
-CellRefused encoding d cell TextForm = IsSome cell.payload × (bytes : List ℕ) × (values : List Datum) × IsPayload d cell bytes × IsRecord values bytes × ¬ Every (IsFormed encoding) values
-CellRefused encoding d cell _ = ⊥
+abbrev pub CellRefused : Database → Cell → InnerFault → Type 0
+CellRefused d cell ShortCell = cell.usable < cell.at + 4
+CellRefused d cell TooLong = IsSome cell.payload × (most_bytes < payload_size cell)
+CellRefused d cell NotRecord = IsSome cell.payload × (bytes : List ℕ) × IsPayload d cell bytes × ((values : List Datum) → ¬ IsRecord values bytes)
+CellRefused d cell _ = ⊥
+
+-- A text of the cell's record isn't one in the encoding.
+pub record IsIllFormed (encoding : Encoding) (d : Database) (cell : Cell) : Type 0 where
+  pub some : IsSome cell.payload
+  pub bytes : List ℕ
+  pub payload : IsPayload d cell bytes
+  pub values : List Datum
+  pub read : IsRecord values bytes
+  pub unformed : ¬ Every (IsFormed encoding) values

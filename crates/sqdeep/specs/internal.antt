@@ -2,3 +2,4 @@
 pub mod Uses
 pub mod Columns
 pub mod Judging
+pub mod IllFormed

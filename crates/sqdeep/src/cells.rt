@@ -1,14 +1,17 @@
 //! The cells of a page (fileformat2, 1.6 and 2.1).
-ghost use Rattle.std.specs.Prelude.{◌≡◌, ◌+◌, ◌<◌, ◌≤◌, ℕ, List, Some, IfSome, IfErr, OnOk, length};
+ghost use Rattle.std.specs.Prelude.{◌≡◌, ◌+◌, ◌<◌, ◌≤◌, ◌^◌, ℕ, cond, List, Some, IfSome, IfErr, IfOk, OnOk, length};
 ghost use Rattle.sqval.specs.Database.{Database};
+ghost use Rattle.sqval.specs.Datum.{Datum};
+ghost use Rattle.sqval.specs.Record.{IsRecord};
 ghost use Rattle.sqpage.specs.Chain.{payload_size, IsPayload};
 ghost use Rattle.sqpage.specs.Page.{cell_count, HasPartsOf};
 ghost use Rattle.sqpage.specs.declared.kind.Kind.{Kind};
 ghost use Rattle.sqcheck.specs.Places.{page_as};
 ghost use Rattle.sqdeep.specs.declared.fault.DeepError.TheVariants.{Inner};
-ghost use Rattle.sqdeep.specs.Records.{encoding_of, IsFormedRecord, IsSoundCell};
+ghost use Rattle.sqdeep.specs.Records.{encoding_of, IsSoundCell};
 ghost use Rattle.sqdeep.specs.internal.Judging.{SameSource, IsWithinPage, CellTells, Tells, IsOfSoundTree};
-ghost use Rattle.sqdeep.specs.internal.Judging.{AreSoundCells, PayloadTells};
+ghost use Rattle.sqdeep.specs.internal.Judging.{AreSoundCells, HasForm, HasSoundTrees, PayloadTells};
+ghost use Rattle.sqdeep.specs.internal.IllFormed.{HasCellForm, HasIllFormed};
 
 use crate::fault::{DeepError, InnerError, InnerFault};
 use crate::records::judge_record;
@@ -46,20 +49,23 @@ fn whole_of<'a>(cell: &Cell<'a>) -> Option<&'a [u8]>
     }
 }
 
-/// Judges the payload of cell `i`. Refused by TooLong, NotRecord and TextForm, the first that applies.
+/// Judges the payload of cell `i`: whether a text of the record isn't one in this encoding. Refused by TooLong and
+/// NotRecord, the first that applies.
 #[inline(always)]
-fn judge_payload(encoding: Encoding, cell: &Cell, i: usize, bytes: &[u8]) -> Result<(), DeepError>
-    ensures ok { OnOk result (IsFormedRecord encoding bytes.now) }
-    ensures err { IfErr result (PayloadTells encoding cell.now i bytes.now) }
+fn judge_payload(encoding: Encoding, cell: &Cell, i: usize, bytes: &[u8]) -> Result<bool, DeepError>
+    ensures ok { OnOk result ((values : List Datum) × IsRecord values bytes.now) }
+    ensures form { IfOk result (λ is_ill. HasForm is_ill encoding bytes.now) }
+    ensures err { IfErr result (PayloadTells cell.now i bytes.now) }
 {
     match judge_record(encoding, bytes) {
-        Ok(()) => Ok(()),
+        Ok(is_ill) => Ok(is_ill),
         Err(fault) => Err(at_cell(cell, i, fault)),
     }
 }
 
-/// Judges cell `i` of a page, and its payload where it has one. Refused by ShortCell, TooLong, NotRecord and TextForm,
-/// the first that applies, by Source and NoMemory. `content` is room for the payload.
+/// Judges cell `i` of a page, and its payload where it has one: whether a text of it isn't one in this encoding.
+/// Refused by ShortCell, TooLong and NotRecord, the first that applies, by Source and NoMemory. `content` is room for
+/// the payload.
 #[inline(always)]
 fn judge_cell<V: Snapshot, S: PageSource>(
     alloc: Global,
@@ -68,13 +74,14 @@ fn judge_cell<V: Snapshot, S: PageSource>(
     cell: &Cell,
     i: usize,
     content: &mut Vec<u8>,
-) -> Result<(), DeepError>
+) -> Result<bool, DeepError>
     requires cell { IsWithinPage V.size cell.now }
     requires same { SameSource V.pages V.size V.right V.given (S.pages source.old) (S.size source.old)
         (S.reads_right source.old) (S.gives_pages source.old) }
-    ensures ok { V.right → OnOk result (IsSoundCell encoding V.pages cell.now) }
+    ensures ok { V.right → OnOk result (IsSoundCell V.pages cell.now) }
+    ensures form { V.right → IfOk result (λ is_ill. HasCellForm is_ill encoding V.pages cell.now) }
     ensures err { V.right → (bytes : List ℕ) → IsPayload V.pages cell.now bytes
-        → IfErr result (λ e. CellTells V.given encoding V.pages cell.now i e) }
+        → IfErr result (λ e. CellTells V.given V.pages cell.now i e) }
     ensures same { SameSource V.pages V.size V.right V.given (S.pages source.new) (S.size source.new)
         (S.reads_right source.new) (S.gives_pages source.new) }
 {
@@ -82,7 +89,7 @@ fn judge_cell<V: Snapshot, S: PageSource>(
         return Err(at_cell(cell, i, InnerFault::ShortCell));
     }
     let Some(size) = cell.payload else {
-        return Ok(());
+        return Ok(false);
     };
     if size > MOST_BYTES as u64 {
         return Err(at_cell(cell, i, InnerFault::TooLong));
@@ -99,7 +106,16 @@ fn judge_cell<V: Snapshot, S: PageSource>(
     }
 }
 
-/// Judges the cells of a page, of which these are the parts, in the order of their pointers, as `judge_cell` does.
+/// One more of these, if there is one.
+fn one_more(count: u64, is_one: bool) -> u64
+    requires { count + 1 < 2 ^ 64 }
+    ensures { result ≡ cond is_one (count + 1) count }
+{
+    if is_one { count + 1 } else { count }
+}
+
+/// Judges the cells of a page, of which these are the parts, in the order of their pointers, as `judge_cell` does, and
+/// counts those with a text that isn't one in this encoding.
 pub(crate) fn judge_cells<V: Snapshot, S: PageSource>(
     alloc: Global,
     source: &mut S,
@@ -107,21 +123,28 @@ pub(crate) fn judge_cells<V: Snapshot, S: PageSource>(
     page: &BtreePage,
     parts: &[Parts],
     content: &mut Vec<u8>,
-) -> Result<(), DeepError>
+) -> Result<u64, DeepError>
     requires most { length page.now.used ≤ V.size }
     requires parts { HasPartsOf page.now parts.now }
     requires encoding { V.right → encoding ≡ encoding_of V.pages }
     requires same { SameSource V.pages V.size V.right V.given (S.pages source.old) (S.size source.old)
         (S.reads_right source.old) (S.gives_pages source.old) }
     ensures ok { V.right → OnOk result (AreSoundCells V.pages page.now (cell_count page.now)) }
+    ensures counted { V.right → HasSoundTrees V.pages → (kind : Kind) (root : ℕ)
+        → page.now ≡ page_as V.pages kind page.now.number → IsOfSoundTree V.pages kind root page.now.number
+        → IfOk result (λ n. (before : ℕ) → HasIllFormed V.pages page.now.number 0 before
+        → HasIllFormed V.pages page.now.number (cell_count page.now) (before + n)) }
+    ensures most { IfOk result (λ n. n ≤ cell_count page.now) }
     ensures err { V.right → (kind : Kind) (root : ℕ) → page.now ≡ page_as V.pages kind page.now.number
         → IsOfSoundTree V.pages kind root page.now.number → IfErr result (λ e. Tells V.given V.pages e) }
     ensures same { SameSource V.pages V.size V.right V.given (S.pages source.new) (S.size source.new)
         (S.reads_right source.new) (S.gives_pages source.new) }
 {
+    let mut count = 0;
     'cells: for i in 0..page.len() {
         let cell = page.cell_with(i, &parts[i]);
-        judge_cell::<V, S>(alloc, source, encoding, &cell, i, content)?;
+        let is_ill = judge_cell::<V, S>(alloc, source, encoding, &cell, i, content)?;
+        count = one_more(count, is_ill);
     }
-    Ok(())
+    Ok(count)
 }

@@ -4,6 +4,7 @@ ghost use Rattle.sqpage.specs.Freelist.{IsPage};
 ghost use Rattle.sqpage.specs.Source.{KeepsPages};
 ghost use Rattle.sqpage.specs.declared.fault.Fault.{Fault};
 ghost use Rattle.sqcheck.specs.WellFormed.{WellFormedWith, IsReport};
+ghost use Rattle.sqdeep.specs.Forms.{AreIllFormed};
 ghost use Rattle.sqdeep.specs.Inside.{IsSoundInside, DeepRefused, RefutesSound};
 ghost use Rattle.sqdeep.specs.internal.Judging.{Tells, HasSoundTrees};
 ghost use Rattle.sqdeep.specs.internal.Uses.{AreUses};
@@ -17,16 +18,27 @@ use sqpage::{CheckError, Fault, PageSource};
 use std::alloc::Global;
 use std::marker::Brand;
 
-/// Judges what the trees of a snapshot hold.
+/// What a deep check tells of a sound database.
+#[derive(Clone, Copy, Debug, PartialEq, Eq)]
+pub struct Inside {
+    pub report: Report,
+    /// How many cells have a record with a text that isn't one in the encoding that the header names. SQLite stores
+    /// such texts, as a program binds them.
+    pub ill_formed: u64,
+}
+
+/// Judges what the trees of a snapshot hold, and counts the cells with a text that isn't one in the encoding.
 fn judge_snapshot<V: Snapshot, S: PageSource>(
     alloc: Global,
     source: &mut S,
     trees: &Trees,
-) -> Result<(), DeepError>
+) -> Result<u64, DeepError>
     requires { (S.pages source.old ≡ V.pages) × (S.size source.old ≡ V.size) ×
         (V.right → S.reads_right source.old) × (V.given → S.gives_pages source.old) }
     ensures ok { V.right → HasSoundTrees V.pages → AreUses V.pages trees.now.uses.items
         → OnOk result (IsSoundInside V.pages) }
+    ensures counted { V.right → HasSoundTrees V.pages → AreUses V.pages trees.now.uses.items
+        → IfOk result (AreIllFormed V.pages) }
     ensures err { V.right → HasSoundTrees V.pages → AreUses V.pages trees.now.uses.items
         → IfErr result (λ e. Tells V.given V.pages e) }
     ensures same { (S.pages source.new ≡ V.pages) × (S.size source.new ≡ V.size) ×
@@ -46,7 +58,8 @@ fn judge_snapshot<V: Snapshot, S: PageSource>(
 }
 
 /// Whether a database is well formed, and what it holds is sound: the numbers of its header, the pages of its trees,
-/// and the records in their cells, and where its roots stand (fileformat2, 1.3, 1.6, 1.8 and 2.1). Refused first as
+/// and the records in their cells, and where its roots stand (fileformat2, 1.3, 1.6, 1.8 and 2.1); and how many cells
+/// have a text that isn't one in the database's encoding, which is no fault. Refused first as
 /// `sqcheck::check_with` does; then by the first fault of the header, at page 1; then by the first root that stands
 /// behind another page; then by the first fault of the pages of trees, by rising numbers, those of a page before those
 /// of its cells, in the order of their pointers. Refused by Source where a page could not be read, and by NoMemory. It
@@ -55,11 +68,14 @@ pub fn check_deep<S: PageSource>(
     alloc: Global,
     source: &mut S,
     options: Options,
-) -> Result<Report, DeepError>
+) -> Result<Inside, DeepError>
     // The database is well formed and sound inside, and the report is its.
-    ensures ok { S.reads_right source.old → IfOk result (λ report.
+    ensures ok { S.reads_right source.old → IfOk result (λ inside.
         (w : WellFormedWith options.pointer_maps (S.pages source.old) (S.size source.old)) ×
-        IsReport (S.pages source.old) w.places report × IsSoundInside (S.pages source.old)) }
+        IsReport (S.pages source.old) w.places inside.report × IsSoundInside (S.pages source.old)) }
+    // So many of its cells have a text that isn't one in its encoding.
+    ensures forms { S.reads_right source.old
+        → IfOk result (λ inside. AreIllFormed (S.pages source.old) inside.ill_formed) }
     // The fault stands, at the page and the cell that it names.
     ensures err { S.reads_right source.old → IfErr result (λ e. DeepRefused (S.gives_pages source.old)
         options.pointer_maps (S.pages source.old) (S.size source.old) e) }
@@ -72,6 +88,7 @@ pub fn check_deep<S: PageSource>(
         Ok(found) => found,
         Err(refusal) => return Err(DeepError::Check(refusal)),
     };
-    judge_snapshot::<Brand, S>(alloc, source, &found.trees)?;
-    Ok(found.report)
+    let ill_formed = judge_snapshot::<Brand, S>(alloc, source, &found.trees)?;
+    let report = found.report;
+    Ok(Inside { report, ill_formed })
 }

@@ -35,13 +35,10 @@ pub enum InnerFault {
     /// The payload of a cell is no record.
     #[error("a payload is no record")]
     NotRecord,
-    /// A text in a record isn't one in the encoding that the header names.
-    #[error("a text isn't one in the database's encoding")]
-    TextForm,
 }
 
 impl InnerFault {
-    /// The fault's number, from 30 to 35, and from 40 to 43 for one of a cell.
+    /// The fault's number, from 30 to 35, and from 40 to 42 for one of a cell.
     pub fn number(&self) -> u8
         ensures { result ≡ number_of self.now }
     {
@@ -55,7 +52,6 @@ impl InnerFault {
             InnerFault::ShortCell => 40,
             InnerFault::TooLong => 41,
             InnerFault::NotRecord => 42,
-            InnerFault::TextForm => 43,
         }
     }
 
@@ -73,7 +69,6 @@ impl InnerFault {
             InnerFault::ShortCell => "ShortCell",
             InnerFault::TooLong => "TooLong",
             InnerFault::NotRecord => "NotRecord",
-            InnerFault::TextForm => "TextForm",
         }
     }
 }

@@ -1,9 +1,10 @@
 //! The pages of a well-formed database, one after the other (own).
-ghost use Rattle.std.specs.Prelude.{◌≡◌, ◌↔◌, ◌*◌, ◌<◌, ◌≤◌, ℕ, Some, None, IfOk, IfErr, IsTrue, OnOk, length};
+ghost use Rattle.std.specs.Prelude.{◌≡◌, ◌↔◌, ◌*◌, ◌<◌, ◌≤◌, ◌+◌, ℕ, Some, None, IfOk, IfErr, IsTrue, OnOk, length};
 ghost use Rattle.sqpage.specs.Freelist.{IsPage, usable_size};
 ghost use Rattle.sqpage.specs.declared.kind.Kind.{Kind};
 ghost use Rattle.sqcheck.specs.Places.{page_as};
 ghost use Rattle.sqcheck.specs.WellFormed.{IsAutoVacuum};
+ghost use Rattle.sqdeep.specs.Forms.{AreIllFormed};
 ghost use Rattle.sqdeep.specs.Inside.{AreRootsFirst};
 ghost use Rattle.sqdeep.specs.declared.fault.DeepError.TheVariants.{Inner};
 ghost use Rattle.sqdeep.specs.Headers.{HasKnownNumbers};
@@ -11,6 +12,7 @@ ghost use Rattle.sqdeep.specs.Records.{encoding_of};
 ghost use Rattle.sqdeep.specs.internal.Uses.{IsUsed, AreUses};
 ghost use Rattle.sqdeep.specs.internal.Judging.{SameSource, Tells, IsOfSoundTree, SaysRoot, IsSoundPage, IsSoundAt};
 ghost use Rattle.sqdeep.specs.internal.Judging.{HasSoundTrees, IsCutOff};
+ghost use Rattle.sqdeep.specs.internal.IllFormed.{HasIllFormed};
 ghost use Rattle.sqval.specs.Database.{page};
 
 use crate::bytes::word_at;
@@ -124,20 +126,24 @@ impl<V: Snapshot> Judge<V> {
         read_page::<V, S>(source, number, &mut self.bytes)
     }
 
-    /// Judges page `number` of a tree, and its cells. Refused by EmptyPage and FreeblockGap, then at a cell as
-    /// `judge_cells` does, by Source and NoMemory.
+    /// Judges page `number` of a tree, and its cells, and counts those with a text that isn't one in the encoding.
+    /// Refused by EmptyPage and FreeblockGap, then at a cell as `judge_cells` does, by Source and NoMemory.
     fn judge_page<S: PageSource>(
         &mut self,
         alloc: Global,
         source: &mut S,
         number: u32,
         is_root: bool,
-    ) -> Result<(), DeepError>
+    ) -> Result<u64, DeepError>
         requires page { IsPage V.pages number }
         requires same { SameSource V.pages V.size V.right V.given (S.pages source.old) (S.size source.old)
             (S.reads_right source.old) (S.gives_pages source.old) }
         ensures ok { V.right → (kind : Kind) (root : ℕ) → IsOfSoundTree V.pages kind root number
             → SaysRoot is_root root number → OnOk result (IsSoundPage V.pages (page_as V.pages kind number) root) }
+        ensures counted { V.right → HasSoundTrees V.pages → (kind : Kind) (root : ℕ)
+            → IsOfSoundTree V.pages kind root number → SaysRoot is_root root number → IfOk result (λ n. (before : ℕ)
+            → HasIllFormed V.pages number 0 before → HasIllFormed V.pages (number + 1) 0 (before + n)) }
+        ensures most { IfOk result (λ n. n ≤ 65536) }
         ensures err { V.right → (kind : Kind) (root : ℕ) → IsOfSoundTree V.pages kind root number
             → SaysRoot is_root root number → IfErr result (λ e. Tells V.given V.pages e) }
         ensures same { SameSource V.pages V.size V.right V.given (S.pages source.new) (S.size source.new)
@@ -165,26 +171,30 @@ impl<V: Snapshot> Judge<V> {
         )
     }
 
-    /// Judges page `number`, where it is one of a tree.
+    /// Judges page `number`, where it is one of a tree, and counts as `judge_page` does.
     fn judge_used<S: PageSource>(
         &mut self,
         alloc: Global,
         source: &mut S,
         number: u32,
         used: Use,
-    ) -> Result<(), DeepError>
+    ) -> Result<u64, DeepError>
         requires page { IsPage V.pages number }
         requires same { SameSource V.pages V.size V.right V.given (S.pages source.old) (S.size source.old)
             (S.reads_right source.old) (S.gives_pages source.old) }
         ensures ok { V.right → HasSoundTrees V.pages → IsUsed V.pages number used
             → OnOk result (IsSoundAt V.pages number) }
+        ensures counted { V.right → HasSoundTrees V.pages → IsUsed V.pages number used
+            → IfOk result (λ n. (before : ℕ) → HasIllFormed V.pages number 0 before
+            → HasIllFormed V.pages (number + 1) 0 (before + n)) }
+        ensures most { IfOk result (λ n. n ≤ 65536) }
         ensures err { V.right → HasSoundTrees V.pages → IsUsed V.pages number used
             → IfErr result (λ e. Tells V.given V.pages e) }
         ensures same { SameSource V.pages V.size V.right V.given (S.pages source.new) (S.size source.new)
             (S.reads_right source.new) (S.gives_pages source.new) }
     {
         match used.is_root() {
-            None => Ok(()),
+            None => Ok(0),
             Some(is_root) => self.judge_page(alloc, source, number, is_root),
         }
     }
@@ -206,28 +216,33 @@ impl<V: Snapshot> Judge<V> {
         }
     }
 
-    /// Judges the pages of trees, in the order of their numbers.
+    /// Judges the pages of trees, in the order of their numbers, and counts the cells with a text that isn't one in the
+    /// encoding.
     pub fn judge_pages<S: PageSource>(
         &mut self,
         alloc: Global,
         source: &mut S,
         trees: &Trees,
-    ) -> Result<(), DeepError>
+    ) -> Result<u64, DeepError>
         requires { SameSource V.pages V.size V.right V.given (S.pages source.old) (S.size source.old)
             (S.reads_right source.old) (S.gives_pages source.old) }
         ensures ok { V.right → HasSoundTrees V.pages → AreUses V.pages trees.now.uses.items
             → OnOk result ((p : ℕ) → IsPage V.pages p → IsSoundAt V.pages p) }
+        ensures counted { V.right → HasSoundTrees V.pages → AreUses V.pages trees.now.uses.items
+            → IfOk result (AreIllFormed V.pages) }
         ensures err { V.right → HasSoundTrees V.pages → AreUses V.pages trees.now.uses.items
             → IfErr result (λ e. Tells V.given V.pages e) }
         ensures same { SameSource V.pages V.size V.right V.given (S.pages source.new) (S.size source.new)
             (S.reads_right source.new) (S.gives_pages source.new) }
     {
         let count = source.count();
+        let mut ill_formed = 0;
         'pages: for i in 0..count {
             let number = i + 1;
             let used = trees.use_of_page(number);
-            self.judge_used(alloc, source, number, used)?;
+            let more = self.judge_used(alloc, source, number, used)?;
+            ill_formed += more;
         }
-        Ok(())
+        Ok(ill_formed)
     }
 }

@@ -14,6 +14,6 @@ mod snapshot;
 mod text;
 mod trees;
 
-pub use deep::check_deep;
+pub use deep::{Inside, check_deep};
 pub use fault::{DeepError, InnerError, InnerFault};
 pub use text::Encoding;

@@ -1,10 +1,11 @@
 //! Payloads as records (fileformat2, 2.1).
-ghost use Rattle.std.specs.Prelude.{◌≡◌, ◌↔◌, IsTrue, IfErr, OnOk};
-ghost use Rattle.sqval.specs.Datum.{datum_of};
+ghost use Rattle.std.specs.Prelude.{◌≡◌, ◌↔◌, List, IsTrue, IfErr, IfOk, OnOk};
+ghost use Rattle.sqval.specs.Datum.{Datum, datum_of};
+ghost use Rattle.sqval.specs.Record.{IsRecord};
 ghost use Rattle.sqval.specs.Serial.{body_size, held};
 ghost use Rattle.sqpage.specs.Lists.{Every};
-ghost use Rattle.sqdeep.specs.Records.{IsFormed, IsFormedRecord};
-ghost use Rattle.sqdeep.specs.internal.Judging.{RecordRefused};
+ghost use Rattle.sqdeep.specs.Records.{IsFormed};
+ghost use Rattle.sqdeep.specs.internal.Judging.{HasForm, IsFormedRecord, RecordRefused};
 ghost use Rattle.sqdeep.specs.internal.Columns.{AreFormedColumns};
 
 use crate::fault::InnerFault;
@@ -98,23 +99,24 @@ fn texts_are_formed(encoding: Encoding, row: &Record) -> bool
     true
 }
 
-/// Judges a payload. Refused by TooLong, NotRecord and TextForm, the first that applies. One that is refused is read
-/// again, to tell why.
-pub(crate) fn judge_record(encoding: Encoding, bytes: &[u8]) -> Result<(), InnerFault>
-    ensures ok { OnOk result (IsFormedRecord encoding bytes.now) }
-    ensures err { IfErr result (λ fault. RecordRefused encoding bytes.now fault) }
+/// Judges a payload: whether a text of the record isn't one in this encoding. Refused by TooLong and NotRecord, the
+/// first that applies. One that isn't formed is read again, to tell why.
+pub(crate) fn judge_record(encoding: Encoding, bytes: &[u8]) -> Result<bool, InnerFault>
+    ensures ok { OnOk result ((values : List Datum) × IsRecord values bytes.now) }
+    ensures form { IfOk result (λ is_ill. HasForm is_ill encoding bytes.now) }
+    ensures err { IfErr result (λ fault. RecordRefused bytes.now fault) }
 {
     if bytes.len() > MOST_BYTES {
         return Err(InnerFault::TooLong);
     }
     if is_formed_record(encoding, bytes) {
-        return Ok(());
+        return Ok(false);
     }
     match Record::new(bytes) {
         Ok(row) => if texts_are_formed(encoding, &row) {
-            Ok(())
+            Ok(false)
         } else {
-            Err(InnerFault::TextForm)
+            Ok(true)
         },
         Err(_) => Err(InnerFault::NotRecord),
     }

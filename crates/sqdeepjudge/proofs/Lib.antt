@@ -1,3 +1,4 @@
 mod RowsOfSchema
 mod ListedByRow
 pub mod SchemaFindings
+pub mod MissingPages

@@ -228,8 +228,8 @@ module _ (maps : Bool) (d : Database) (size : ℕ) (w : WellFormedWith maps d si
     row_there : (p root i : ℕ) (cell : Cell) → IsOfTree d TableLeaf root p → IsCellAt (page_as d TableLeaf p) i cell → HasRow d (entry_of i cell)
     row_there p root i cell of_tree at =
         let has = (inside.cells TableLeaf root p i cell of_tree at).holds (subst IsSome (sym at.1.payload) refl) in (
-          record { rowid = cell.rowid; values = has.formed.0 },
-          record { bytes = has.bytes; payload = record { cell = cell; is = refl; payload = has.payload }; read = has.formed.1; rowid = refl },
+          record { rowid = cell.rowid; values = has.values },
+          record { bytes = has.bytes; payload = record { cell = cell; is = refl; payload = has.payload }; read = has.read; rowid = refl },
         )
 
     leaf_cells : (Lower : (p k : ℕ) → List Entry → Type 0) (p root : ℕ) → IsBtreePage (page_as d TableLeaf p) → IsOfTree d TableLeaf root p

@@ -1,10 +1,12 @@
 -- What is found of a schema behind a check that finds the database sound inside.
 use Rattle.std.proofs.Common.{◌≡◌, ◌⊎◌, ⊎_elim, ℕ, Bool, refl, sym, subst}
-use Rattle.std.specs.Prelude.{Result, Ok, Err, IfOk, IfErr, map}
+use Rattle.std.specs.Prelude.{None, Result, Ok, Err, IfOk, IfErr, map}
 use Rattle.sqval.specs.Database.{Database}
 use Rattle.sqcheck.specs.WellFormed.{WellFormedWith}
 use Rattle.sqcheck.specs.declared.report.Report.{Report}
+use Rattle.sqdeep.specs.Forms.{AreIllFormed}
 use Rattle.sqdeep.specs.Inside.{IsSoundInside}
+use Rattle.sqdeep.specs.declared.deep.Inside.{Inside}
 use Rattle.sqschema.specs.Schema.{IsLimit, SchemaRefused}
 use Rattle.sqschema.specs.declared.error.ReadError.{ReadError}
 use Rattle.sqschema.specs.declared.error.SchemaError.TheVariants.{Unread}
@@ -18,23 +20,37 @@ use Rattle.sqschema.specs.declared.check.Schema.{Schema as OwnSchema}
 use Rattle.sqcontents.specs.Contents.{ContentsRefused}
 use Rattle.sqcontents.specs.declared.error.ContentsError.{ContentsError}
 use Rattle.sqcontents.specs.declared.error.ContentsError.TheVariants as contents
+use Rattle.sqdeepjudge.specs.Missing.{FindsCut, IsLeast}
 use Rattle.sqdeepjudge.specs.Verdicts.{FindsInside, FindsSchema, FindsDeep}
 use Rattle.sqdeepjudge.specs.internal.Behind.{IsBehind, contents_verdict}
-use Rattle.sqdeepjudge.specs.declared.verdict.Damage.TheVariants.{Check, Inner, Schema, Content, Row}
+use Rattle.sqdeepjudge.specs.declared.verdict.Damage.TheVariants.{Cut, Check, Inner, Schema, Content, Row}
 use Rattle.sqdeepjudge.specs.declared.verdict.DeepVerdict.{DeepVerdict}
 use Rattle.sqdeepjudge.specs.declared.verdict.DeepVerdict.TheVariants as deep
 use Rattle.sqdeepjudge.proofs.RowsOfSchema.{schema_rows}
 
-pub inside_of : (maps : Bool) (d : Database) (size : ℕ) (r : Report) (q : Result DeepVerdict JudgeError)
-    → FindsWith maps d size (plain.Clean r) → IsSoundInside d → IfOk q (IsBehind r) → IfOk q (FindsInside maps d size)
-inside_of maps d size r (Ok (deep.Clean report)) found sound h = absurd h
-inside_of maps d size r (Ok (deep.Sound report schema unjudged)) found sound h = (subst (λ (x : Report). FindsWith maps d size (plain.Clean x)) (sym h) found, sound)
-inside_of maps d size r (Ok (deep.Damaged (Check e))) found sound h = absurd h
-inside_of maps d size r (Ok (deep.Damaged (Inner e))) found sound h = absurd h
-inside_of maps d size r (Ok (deep.Damaged (Schema e))) found sound h = (found.0, sound)
-inside_of maps d size r (Ok (deep.Damaged (Content e))) found sound h = (found.0, sound)
-inside_of maps d size r (Ok (deep.Damaged (Row e))) found sound h = (found.0, sound)
-inside_of maps d size r (Err e) found sound h = tt
+pub inside_of : (maps : Bool) (d : Database) (size : ℕ) (r : Inside) (q : Result DeepVerdict JudgeError)
+    → FindsWith maps d size (plain.Clean r.report) → IsSoundInside d → AreIllFormed d r.ill_formed → IfOk q (IsBehind r) → IfOk q (FindsInside maps d size)
+inside_of maps d size r (Ok (deep.Clean report)) found sound forms h = absurd h
+inside_of maps d size r (Ok (deep.Sound report schema unjudged)) found sound forms h = (subst (λ (x : Report). FindsWith maps d size (plain.Clean x)) (sym h.0) found, sound, subst (AreIllFormed d) (sym h.1) forms)
+inside_of maps d size r (Ok (deep.Damaged (Cut p))) found sound forms h = absurd h
+inside_of maps d size r (Ok (deep.Damaged (Check e))) found sound forms h = absurd h
+inside_of maps d size r (Ok (deep.Damaged (Inner e))) found sound forms h = absurd h
+inside_of maps d size r (Ok (deep.Damaged (Schema e))) found sound forms h = (found.0, sound)
+inside_of maps d size r (Ok (deep.Damaged (Content e))) found sound forms h = (found.0, sound)
+inside_of maps d size r (Ok (deep.Damaged (Row e))) found sound forms h = (found.0, sound)
+inside_of maps d size r (Err e) found sound forms h = tt
+
+-- none of these says that a page is missing
+pub cut_of_none : (Missing : ℕ → Type 0) (n : ℕ) (r : Inside) (q : Result DeepVerdict JudgeError) → IsLeast Missing n None → IfOk q (IsBehind r) → IfOk q (FindsCut Missing n)
+cut_of_none Missing n r (Ok (deep.Clean report)) none h = absurd h
+cut_of_none Missing n r (Ok (deep.Sound report schema unjudged)) none h = none
+cut_of_none Missing n r (Ok (deep.Damaged (Cut p))) none h = absurd h
+cut_of_none Missing n r (Ok (deep.Damaged (Check e))) none h = absurd h
+cut_of_none Missing n r (Ok (deep.Damaged (Inner e))) none h = absurd h
+cut_of_none Missing n r (Ok (deep.Damaged (Schema e))) none h = none
+cut_of_none Missing n r (Ok (deep.Damaged (Content e))) none h = none
+cut_of_none Missing n r (Ok (deep.Damaged (Row e))) none h = none
+cut_of_none Missing n r (Err e) none h = tt
 
 pub memory_of : (maps : Bool) (d : Database) (q : Result DeepVerdict JudgeError) → IfErr q (λ e. e ≡ judgments.NoMemory) → IfErr q (IsUnjudgedWith maps d)
 memory_of maps d (Ok verdict) h = tt
@@ -58,7 +74,7 @@ contents_found d schema (contents.Row e) is refused = (schema, is, refused)
 contents_found d schema contents.NoMemory is refused = tt
 contents_found d schema contents.Source is refused = tt
 
-pub contents_behind : (r : Report) (e : ContentsError) → IfOk (contents_verdict e) (IsBehind r)
+pub contents_behind : (r : Inside) (e : ContentsError) → IfOk (contents_verdict e) (IsBehind r)
 contents_behind r (contents.Content e) = tt
 contents_behind r (contents.Row e) = tt
 contents_behind r contents.NoMemory = tt

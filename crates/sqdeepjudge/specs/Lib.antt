@@ -1,3 +1,4 @@
 pub mod Verdicts
 pub mod NotJudged
+pub mod Missing
 pub mod internal

@@ -46,6 +46,16 @@ things_of kind all = count_by (λ it. is_same kind it.kind) all
 abbrev pub objects_of : Kind → Schema → ℕ
 objects_of kind schema = count_by (λ x. is_same kind (kind_of (seen x))) schema.items.items
 
+-- It has to be judged where all is to be: anything but the body of a view or of a trigger, which says nothing of a page.
+abbrev pub counts : Kind → Bool
+counts View = false
+counts Trigger = false
+counts _ = true
+
+-- one of these has to be
+abbrev pub lacks : List NotJudged → Bool
+lacks all = list_any (λ it. counts it.kind) all
+
 -- A token of a text is this keyword, and no name (lang_keywords).
 abbrev pub is_reserved : Tokens → Bool
 is_reserved Reserved = true

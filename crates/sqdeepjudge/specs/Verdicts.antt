@@ -2,6 +2,7 @@
 use Rattle.std.specs.Prelude.{ℕ, ◌^◌, Bool, true, false, List, Option, Some, None, map, option_map, slice_get, Result, Ok, Err}
 use Rattle.sqval.specs.Database.{Database}
 use Rattle.sqcheck.specs.WellFormed.{WellFormedWith}
+use Rattle.sqdeep.specs.Forms.{AreIllFormed}
 use Rattle.sqdeep.specs.Inside.{IsSoundInside, StandsInside}
 use Rattle.sqschema.specs.Schema.{IsSchemaOf, IsSoundSchema, StandsInSchema}
 use Rattle.sqschema.specs.declared.check.Schema.{Schema as OwnSchema}
@@ -14,8 +15,8 @@ use Rattle.sqschema.specs.Items.{seen}
 use Rattle.sqcontents.specs.Contents.{AreIndexesJudged, AreTablesJudged, ContentsRefused}
 use Rattle.sqcontents.specs.declared.error.ContentsError.TheVariants.{Content as OwnContent}
 use Rattle.sqcontents.specs.declared.error.ContentsError.TheVariants.{Row as OwnRow}
-use Rattle.sqdeepjudge.specs.NotJudged.{AreNotJudged}
-use Rattle.sqdeepjudge.specs.declared.verdict.Damage.TheVariants.{Check, Inner, Schema, Content, Row}
+use Rattle.sqdeepjudge.specs.NotJudged.{AreNotJudged, lacks}
+use Rattle.sqdeepjudge.specs.declared.verdict.Damage.TheVariants.{Cut, Check, Inner, Schema, Content, Row}
 use Rattle.sqdeepjudge.specs.declared.verdict.DeepVerdict.{DeepVerdict}
 use Rattle.sqdeepjudge.specs.declared.verdict.DeepVerdict.TheVariants as deep
 
@@ -38,11 +39,18 @@ abbrev pub is_damaged : DeepVerdict → Bool
 is_damaged (deep.Damaged damage) = true
 is_damaged _ = false
 
+-- it is sound, and something that has to be judged where all is to be isn't
+abbrev pub is_in_part : DeepVerdict → Bool
+is_in_part (deep.Sound report schema unjudged) = lacks unjudged.all.items
+is_in_part _ = false
+
 -- Of a database of pages of this size, with pointer maps or without: a check finds it well formed, and it is sound inside,
--- whatever its schema is; or a check finds damage; or it is well formed, and the fault stands inside, at the page and the cell.
+-- with so many cells that have a text that isn't one in its encoding, whatever its schema is; or a page is missing; or a check finds damage; or it is well formed, and the fault stands inside, at the page and
+-- the cell.
 abbrev pub FindsInside : (maps : Bool) → Database → (size : ℕ) → DeepVerdict → Type 0
 FindsInside maps d size (deep.Clean report) = ⊥
-FindsInside maps d size (deep.Sound report schema unjudged) = FindsWith maps d size (plain.Clean report) × IsSoundInside d
+FindsInside maps d size (deep.Sound report schema unjudged) = FindsWith maps d size (plain.Clean report) × IsSoundInside d × AreIllFormed d unjudged.ill_formed
+FindsInside maps d size (deep.Damaged (Cut p)) = Unit {0}
 FindsInside maps d size (deep.Damaged (Check e)) = FindsWith maps d size (plain.Damaged e)
 FindsInside maps d size (deep.Damaged (Inner e)) = WellFormedWith maps d size × StandsInside d e.fault e.page e.cell × ¬ IsSoundInside d
 FindsInside maps d size (deep.Damaged (Schema e)) = WellFormedWith maps d size × IsSoundInside d

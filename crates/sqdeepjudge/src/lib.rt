@@ -2,9 +2,11 @@
 //! sound, each index is one of its table, and each row keeps to its table's columns (own).
 #![tactic(auto)]
 
+mod missing;
 mod not_judged;
 mod verdict;
 mod words;
 
+pub use missing::first_missing;
 pub use not_judged::{Kind, NotJudged, Why, objects_of, things_of};
 pub use verdict::{Damage, DeepVerdict, Unjudged, deep_without, judge_deep};

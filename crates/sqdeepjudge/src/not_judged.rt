@@ -2,7 +2,7 @@
 ghost use Rattle.std.specs.Prelude.{◌≡◌, ◌++◌, ◌<◌, IfOk, OnOk, Some, length, map, slice_get};
 ghost use Rattle.sqschema.specs.Items.{seen};
 ghost use Rattle.sqdeepjudge.specs.NotJudged.{AreNotJudged, kind_of, numbered, of_index, of_table, objects_of, one};
-ghost use Rattle.sqdeepjudge.specs.NotJudged.{parts_of, things_of};
+ghost use Rattle.sqdeepjudge.specs.NotJudged.{lacks, parts_of, things_of};
 
 use crate::words::{Words, words_of};
 use sqschema::{Item, Schema};
@@ -22,7 +22,7 @@ pub enum Kind {
 
 impl Kind {
     ghost use Rattle.std.specs.Prelude.{◌≡◌};
-    ghost use Rattle.sqdeepjudge.specs.NotJudged.{is_same, number_of};
+    ghost use Rattle.sqdeepjudge.specs.NotJudged.{counts, is_same, number_of};
 
     /// Its number, from 1 (own).
     pub fn number(self) -> u8
@@ -37,6 +37,13 @@ impl Kind {
             Kind::Trigger => 6,
             Kind::VirtualTable => 7,
         }
+    }
+
+    /// Whether it has to be judged where all is to be: anything but the body of a view or of a trigger.
+    fn counts(self) -> bool
+        ensures { result ≡ counts self }
+    {
+        !matches!(self, Kind::View | Kind::Trigger)
     }
 
     /// Whether it is another one.
@@ -104,6 +111,13 @@ pub fn things_of(all: &[NotJudged], kind: Kind) -> usize
     ensures { result ≡ things_of kind all.now }
 {
     all.iter().filter(|it| kind.is(it.kind)).count()
+}
+
+/// Whether one of these has to be judged where all is to be.
+pub fn lacks(all: &[NotJudged]) -> bool
+    ensures { result ≡ lacks all.now }
+{
+    all.iter().any(|it| it.kind.counts())
 }
 
 /// How many objects of a kind a schema has: no CHECK and no foreign key.

@@ -1,5 +1,5 @@
 //! What a deep check finds of a view.
-ghost use Rattle.std.specs.Prelude.{◌≡◌, ◌⊎◌, Bool, IfOk, IfErr, map, option_map, slice_get};
+ghost use Rattle.std.specs.Prelude.{◌≡◌, ◌⊎◌, Bool, IfOk, IfErr, length, map, option_map, slice_get};
 ghost use Rattle.sqcheck.specs.WellFormed.{WellFormedWith};
 ghost use Rattle.sqdeep.specs.Inside.{IsSoundInside};
 ghost use Rattle.sqschema.specs.Schema.{IsLimit, IsSchemaOf};
@@ -8,14 +8,17 @@ ghost use Rattle.sqcontents.specs.Contents.{AreIndexesJudged};
 ghost use Rattle.sqview.specs.LogView.{pages_of};
 ghost use Rattle.sqview.specs.Verdicts.{IsUnjudgedWith};
 ghost use Rattle.sqview.specs.declared.judge_error.JudgeError.{JudgeError};
-ghost use Rattle.sqdeepjudge.specs.Verdicts.{FindsInside, FindsSchema, is_damaged, most_bytes, verdict_as};
+ghost use Rattle.sqdeepjudge.specs.Verdicts.{FindsInside, FindsSchema, is_damaged, is_in_part, most_bytes};
+ghost use Rattle.sqdeepjudge.specs.Verdicts.{verdict_as};
+ghost use Rattle.sqdeepjudge.specs.Missing.{FindsCut, IsMissingOf};
 ghost use Rattle.sqdeepjudge.specs.Verdicts.{aside_name, deep_without, name_at, unjudged_name, unjudged_table_name};
 ghost use Rattle.sqdeepjudge.specs.internal.Behind.{IsBehind, contents_verdict};
 
-use crate::not_judged::{NotJudged, not_judged};
+use crate::missing::first_missing;
+use crate::not_judged::{NotJudged, lacks, not_judged};
 use sqcheck::{Options as Maps, Report};
 use sqcontents::{ContentError, ContentsError, TableRowError, check_contents, check_tables};
-use sqdeep::{DeepError, InnerError, check_deep};
+use sqdeep::{DeepError, InnerError, Inside, check_deep};
 use sqpage::{CheckError, Fault};
 use sqschema::{ObjectError, ReadError, Schema, SchemaError, check_schema};
 use sqval::RecordError;
@@ -25,6 +28,8 @@ use std::alloc::Global;
 /// What is wrong with a database.
 #[derive(Clone, Copy, Debug, PartialEq, Eq)]
 pub enum Damage {
+    /// This page, from 1, is missing: the log doesn't have it, and the file hasn't all of it.
+    Cut(u32),
     /// It isn't well formed, or there is none.
     Check(CheckError),
     /// It is well formed, but not sound inside.
@@ -47,6 +52,8 @@ pub struct Unjudged {
     /// Each thing that isn't, in the order of the schema's rows: of an index and a table at most one, then its CHECKs,
     /// and its foreign keys.
     pub all: Vec<NotJudged>,
+    /// How many cells have a record with a text that isn't one in the database's encoding. SQLite stores such texts.
+    pub ill_formed: u64,
 }
 
 /// What a check finds, or a deep one.
@@ -77,6 +84,16 @@ impl DeepVerdict {
         ensures { result ≡ is_damaged self.now }
     {
         matches!(self, DeepVerdict::Damaged(_))
+    }
+
+    /// Whether it is a sound database of which something isn't judged, and not the bodies of views and triggers alone.
+    pub fn is_in_part(&self) -> bool
+        ensures { result ≡ is_in_part self.now }
+    {
+        match self {
+            DeepVerdict::Sound(_, _, unjudged) => lacks(&unjudged.all),
+            DeepVerdict::Clean(_) | DeepVerdict::Damaged(_) => false,
+        }
     }
 
     /// The name, in UTF-8, of a table whose text isn't understood, so that its tree may be of either kind: of the i-th
@@ -161,7 +178,7 @@ fn contents_verdict(error: ContentsError) -> Result<DeepVerdict, JudgeError>
 fn judge_tables<F: FileBytes>(
     alloc: Global,
     view: &mut View<F>,
-    report: Report,
+    inside: Inside,
     schema: Schema,
     indexes: Vec<usize>,
 ) -> Result<DeepVerdict, JudgeError>
@@ -169,7 +186,7 @@ fn judge_tables<F: FileBytes>(
         → IsSchemaOf (pages_of F.bytes view.old) schema
         → AreIndexesJudged (pages_of F.bytes view.old) (map seen schema.items.items) most_bytes indexes.items
         → IfOk result (FindsSchema (pages_of F.bytes view.old)) }
-    ensures behind { IfOk result (IsBehind report) }
+    ensures behind { IfOk result (IsBehind inside) }
     ensures refused { F.gives_bytes view.old.db × F.gives_bytes view.old.log
         → IfErr result (λ e. e ≡ JudgeError.NoMemory) }
 {
@@ -180,8 +197,9 @@ fn judge_tables<F: FileBytes>(
                     indexes,
                     tables,
                     all,
+                    ill_formed: inside.ill_formed,
                 };
-                Ok(DeepVerdict::Sound(report, schema, unjudged))
+                Ok(DeepVerdict::Sound(inside.report, schema, unjudged))
             }
             Err(_) => Err(JudgeError::NoMemory),
         },
@@ -189,54 +207,56 @@ fn judge_tables<F: FileBytes>(
     }
 }
 
-/// What is found of the indexes and the tables of a view that is sound inside, of which this is the report, and this
-/// the schema. Refused by NoMemory, and by Unread where a page could not be read.
+/// What is found of the indexes and the tables of a view that is sound inside, of which this is told, and this is the
+/// schema. Refused by NoMemory, and by Unread where a page could not be read.
 fn judge_contents<F: FileBytes>(
     alloc: Global,
     view: &mut View<F>,
-    report: Report,
+    inside: Inside,
     schema: Schema,
 ) -> Result<DeepVerdict, JudgeError>
     ensures contents { F.gives_bytes view.old.db × F.gives_bytes view.old.log
         → IsSchemaOf (pages_of F.bytes view.old) schema → IfOk result (FindsSchema (pages_of F.bytes view.old)) }
-    ensures behind { IfOk result (IsBehind report) }
+    ensures behind { IfOk result (IsBehind inside) }
     ensures refused { F.gives_bytes view.old.db × F.gives_bytes view.old.log
         → IfErr result (λ e. e ≡ JudgeError.NoMemory) }
 {
     match check_contents(alloc, view, &schema.items, MOST_BYTES) {
-        Ok(indexes) => judge_tables(alloc, view, report, schema, indexes),
+        Ok(indexes) => judge_tables(alloc, view, inside, schema, indexes),
         Err(error) => contents_verdict(error),
     }
 }
 
-/// What is found of the schema of a view that is sound inside, of which this is the report. Refused as `judge_deep`.
+/// What is found of the schema of a view that is sound inside, of which this is told. Refused as `judge_deep`.
 fn judge_schema<F: FileBytes>(
     alloc: Global,
     view: &mut View<F>,
-    report: Report,
+    inside: Inside,
 ) -> Result<DeepVerdict, JudgeError>
     ensures schema { F.gives_bytes view.old.db × F.gives_bytes view.old.log
         → IfOk result (FindsSchema (pages_of F.bytes view.old)) }
-    ensures behind { IfOk result (IsBehind report) }
+    ensures behind { IfOk result (IsBehind inside) }
     ensures refused { F.gives_bytes view.old.db × F.gives_bytes view.old.log → (maps : Bool)
         → WellFormedWith maps (pages_of F.bytes view.old) view.old.page_size
         → IsSoundInside (pages_of F.bytes view.old) → IfErr result (λ e. e ≡ JudgeError.NoMemory) }
 {
     match check_schema(alloc, view) {
-        Ok(schema) => judge_contents(alloc, view, report, schema),
+        Ok(schema) => judge_contents(alloc, view, inside, schema),
         Err(SchemaError::Object(error)) => Ok(DeepVerdict::Damaged(Damage::Schema(error))),
         Err(SchemaError::Unread(error)) => Err(unread(error)),
     }
 }
 
-/// What a deep check finds of a view: damage of its pages, inside, of its schema, of its indexes, or of its tables.
-/// Refused by AutoVacuum and NoMemory, which say that a database can't be checked and not that it is damaged, and by
-/// Unread where a file could not be read.
+/// What a deep check finds of a view: a page that is missing, damage of its pages, inside, of its schema, of its
+/// indexes, or of its tables; long: how many bytes the view's file has. Refused by AutoVacuum and NoMemory, which say
+/// that a database can't be checked and not that it is damaged, and by Unread where a file could not be read.
 pub fn judge_deep<F: FileBytes>(
     alloc: Global,
     view: &mut View<F>,
+    long: u64,
     maps: Maps,
 ) -> Result<DeepVerdict, JudgeError>
+    ensures cut { IfOk result (FindsCut (IsMissingOf view.old long) (length (pages_of F.bytes view.old))) }
     ensures found { F.reads_right view.old.db × F.reads_right view.old.log
         → IfOk result (FindsInside maps.pointer_maps (pages_of F.bytes view.old) view.old.page_size) }
     ensures schema { F.gives_bytes view.old.db × F.gives_bytes view.old.log
@@ -244,8 +264,11 @@ pub fn judge_deep<F: FileBytes>(
     ensures refused { F.gives_bytes view.old.db × F.gives_bytes view.old.log
         → IfErr result (IsUnjudgedWith maps.pointer_maps (pages_of F.bytes view.old)) }
 {
+    if let Some(page) = first_missing(view, long) {
+        return Ok(DeepVerdict::Damaged(Damage::Cut(page)));
+    }
     match check_deep(alloc, view, maps) {
-        Ok(report) => judge_schema(alloc, view, report),
+        Ok(inside) => judge_schema(alloc, view, inside),
         Err(DeepError::Inner(error)) => Ok(DeepVerdict::Damaged(Damage::Inner(error))),
         Err(DeepError::Check(error)) => match error.fault {
             Fault::AutoVacuum => Err(JudgeError::AutoVacuum),

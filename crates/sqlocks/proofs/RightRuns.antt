@@ -17,7 +17,7 @@ use Rattle.sqlocks.specs.declared.places.Then.TheVariants as thens
 use Rattle.sqlocks.specs.declared.places.Place.{Place}
 use Rattle.sqlocks.specs.declared.places.Place.TheVariants as places
 use Rattle.sqlocks.specs.Places.{step_at, next, after_file, after_first, after_lock, compared, after_index, live_asked, looked, behind, given_back, waited, first_of, hold_of}
-use Rattle.sqlocks.specs.Runs.{Event, held_behind, held_after, Learnt, NoFile, NoIndex, NoLocks, Front, Nothing, learnt_behind, learnt_after, own, snapshot, MayBeAsked, MayAsk, IsRun, log_from, log_of}
+use Rattle.sqlocks.specs.Runs.{Event, held_behind, held_after, Learnt, NoFile, NoIndex, NoLocks, NoFolder, Front, Hot, Free, Current, NoneCurrent, Nothing, learnt_with, learnt_behind, learnt_after, own, snapshot, MayBeAsked, MayAsk, IsRun, log_from, log_of}
 
 -- what a plan is for, what is held, and what was learnt
 record State : Type 0 where
@@ -39,6 +39,7 @@ held_of holds.Checkpoints = snapshot
 held_of holds.Writers = locks.Writers ∷ snapshot
 held_of holds.Exclusive = locks.Exclusive ∷ []
 held_of holds.WholeIndex = locks.WholeIndex ∷ locks.Exclusive ∷ []
+held_of holds.Alone = locks.Alone ∷ locks.Shared ∷ []
 
 abbrev want_of : Hold → Want
 want_of holds.Pending = Read
@@ -48,6 +49,7 @@ want_of holds.Checkpoints = Read
 want_of holds.Writers = Read
 want_of holds.Exclusive = Recover
 want_of holds.WholeIndex = Recover
+want_of holds.Alone = Read
 
 abbrev learnt_of : Then → Learnt
 learnt_of thens.NoLocks = NoLocks
@@ -56,7 +58,9 @@ learnt_of thens.Failed = Nothing
 learnt_of thens.End = Nothing
 
 abbrev kept_state : Kept → State
-kept_state (kept.File want) = state want (own want) NoIndex
+kept_state (kept.File Read) = state Read (own Read) Current
+kept_state (kept.File Recover) = state Recover (own Recover) NoIndex
+kept_state kept.Alone = state Read (locks.Alone ∷ locks.Shared ∷ []) NoneCurrent
 kept_state kept.Front = state Read snapshot Front
 kept_state kept.Log = state Read (locks.Writers ∷ snapshot) Nothing
 kept_state kept.Whole = state Recover (locks.WholeIndex ∷ locks.Exclusive ∷ []) Nothing
@@ -69,7 +73,9 @@ state_at places.TakeShared = state Read (locks.Pending ∷ []) Nothing
 state_at places.GivePending = state Read (locks.Shared ∷ locks.Pending ∷ []) Nothing
 state_at places.TakeExclusive = state Recover [] Nothing
 state_at (places.Compare want) = state want (own want) Nothing
-state_at (places.OpenIndex want) = state want (own want) Nothing
+state_at places.LookForFolder = state Recover (own Recover) Nothing
+state_at (places.OpenIndex Read) = state Read (own Read) Nothing
+state_at (places.OpenIndex Recover) = state Recover (own Recover) NoFolder
 state_at (places.TakeRestarts asks) = state Read (locks.Shared ∷ []) Nothing
 state_at (places.TakeCheckpoints asks) = state Read (locks.Restarts ∷ locks.Shared ∷ []) Nothing
 state_at places.Ask = state Read snapshot Nothing
@@ -81,6 +87,10 @@ state_at places.EndAskingAgain = state Read (locks.Connections ∷ locks.Writers
 state_at places.LookAgain = state Read (locks.Writers ∷ snapshot) Nothing
 state_at places.GiveWriters = state Read (locks.Writers ∷ snapshot) Front
 state_at places.TakeWhole = state Recover (locks.Exclusive ∷ []) Nothing
+state_at places.LookAtJournal = state Read (locks.Shared ∷ []) NoIndex
+state_at places.AskReserved = state Read (locks.Shared ∷ []) Hot
+state_at places.CompareJournal = state Read (locks.Shared ∷ []) Free
+state_at places.TakeAlone = state Read (locks.Shared ∷ []) NoneCurrent
 state_at (places.Go keeps) = kept_state keeps
 state_at (places.Back hold then) = state (want_of hold) (held_of hold) (learnt_of then)
 state_at (places.Wait want) = state want [] Nothing
@@ -99,7 +109,9 @@ may_at places.TakeShared = refl
 may_at places.GivePending = inr (refl, refl)
 may_at places.TakeExclusive = refl
 may_at (places.Compare want) = refl
-may_at (places.OpenIndex want) = refl
+may_at places.LookForFolder = refl
+may_at (places.OpenIndex Read) = (refl, tt)
+may_at (places.OpenIndex Recover) = (refl, refl)
 may_at (places.TakeRestarts asks) = refl
 may_at (places.TakeCheckpoints asks) = refl
 may_at places.Ask = inl refl
@@ -111,11 +123,16 @@ may_at places.EndAskingAgain = inl (locks.Writers ∷ snapshot, refl)
 may_at places.LookAgain = inr refl
 may_at places.GiveWriters = inl (snapshot, refl)
 may_at places.TakeWhole = refl
+may_at places.LookAtJournal = (refl, refl)
+may_at places.AskReserved = (refl, refl)
+may_at places.CompareJournal = (refl, refl)
+may_at places.TakeAlone = (refl, refl)
 may_at (places.Go (kept.File Read)) = refl
 may_at (places.Go (kept.File Recover)) = refl
 may_at (places.Go kept.Front) = refl
 may_at (places.Go kept.Log) = refl
 may_at (places.Go kept.Whole) = refl
+may_at (places.Go kept.Alone) = refl
 may_at (places.Back holds.Pending then) = inl ([], refl)
 may_at (places.Back holds.Shared then) = inl ([], refl)
 may_at (places.Back holds.Restarts then) = inl (locks.Shared ∷ [], refl)
@@ -123,6 +140,7 @@ may_at (places.Back holds.Checkpoints then) = inl (locks.Restarts ∷ locks.Shar
 may_at (places.Back holds.Writers then) = inl (snapshot, refl)
 may_at (places.Back holds.Exclusive then) = inl ([], refl)
 may_at (places.Back holds.WholeIndex then) = inl (locks.Exclusive ∷ [], refl)
+may_at (places.Back holds.Alone then) = inl (locks.Shared ∷ [], refl)
 may_at (places.Wait want) = refl
 may_at (places.NoFile want) = (refl, tt)
 may_at places.Unlocked = (refl, refl)
@@ -135,7 +153,7 @@ may_at (places.Over want) = refl
 abbrev Leads : Place → Answer → (from : State) → (to : Place) → Type 0
 Leads place answer from to = behind_step (step_at place) answer from ≡ state_at to
 
-leads-lock : (lock : Lock) (hold : Hold) (place : Place) (answer : Answer) → state_at place ≡ state (want_of hold) (lock ∷ held_of hold) Nothing
+leads-lock : (lock : Lock) (hold : Hold) (place : Place) (answer : Answer) → state_at place ≡ state (want_of hold) (lock ∷ held_of hold) (learnt_with lock Nothing)
     → behind_step (Take lock) answer (state (want_of hold) (held_of hold) Nothing) ≡ state_at (after_lock answer place hold)
 leads-lock lock hold place Given e = sym e
 leads-lock lock hold place Refused e = refl
@@ -175,18 +193,27 @@ state_of_first Read then = refl
 state_of_first Recover then = refl
 
 leads-compared : (answer : Answer) (want : Want) → Leads (places.Compare want) answer (state want (own want) Nothing) (compared answer want)
-leads-compared Given want = refl
+leads-compared Given Read = refl
+leads-compared Given Recover = refl
 leads-compared Refused want = sym (state_of_first want thens.Wait)
 leads-compared Missing want = sym (state_of_first want thens.Wait)
 leads-compared Unsupported want = sym (state_of_first want thens.Wait)
 
-leads-index : (answer : Answer) (want : Want) → Leads (places.OpenIndex want) answer (state want (own want) Nothing) (after_index answer want)
+leads-folder : (answer : Answer) → Leads places.LookForFolder answer (state Recover (own Recover) Nothing) (after_lock answer (places.OpenIndex Recover) holds.Exclusive)
+leads-folder Given = refl
+leads-folder Refused = refl
+leads-folder Missing = refl
+leads-folder Unsupported = refl
+
+leads-index : (answer : Answer) (want : Want) → Leads (places.OpenIndex want) answer (state_at (places.OpenIndex want)) (after_index answer want)
 leads-index Given Read = refl
 leads-index Given Recover = refl
 leads-index Refused Read = refl
 leads-index Refused Recover = refl
-leads-index Missing want = refl
-leads-index Unsupported want = sym (state_of_first want thens.NoLocks)
+leads-index Missing Read = refl
+leads-index Missing Recover = refl
+leads-index Unsupported Read = refl
+leads-index Unsupported Recover = refl
 
 leads-look : (answer : Answer) → Leads places.Look answer (state Read snapshot Nothing) (looked answer (places.Go kept.Front) (places.TakeWriters true))
 leads-look Given = refl
@@ -200,6 +227,30 @@ leads-look_again Refused = refl
 leads-look_again Missing = refl
 leads-look_again Unsupported = refl
 
+leads-hot : (answer : Answer) → Leads places.LookAtJournal answer (state Read (locks.Shared ∷ []) NoIndex) (looked answer places.AskReserved places.TakeAlone)
+leads-hot Given = refl
+leads-hot Refused = refl
+leads-hot Missing = refl
+leads-hot Unsupported = refl
+
+leads-reserved : (answer : Answer) → Leads places.AskReserved answer (state Read (locks.Shared ∷ []) Hot) (live_asked answer places.CompareJournal places.TakeAlone holds.Shared)
+leads-reserved Given = refl
+leads-reserved Refused = refl
+leads-reserved Missing = refl
+leads-reserved Unsupported = refl
+
+leads-same : (answer : Answer) → Leads places.CompareJournal answer (state Read (locks.Shared ∷ []) Free) (looked answer (places.Go (kept.File Read)) places.TakeAlone)
+leads-same Given = refl
+leads-same Refused = refl
+leads-same Missing = refl
+leads-same Unsupported = refl
+
+leads-alone : (answer : Answer) → Leads places.TakeAlone answer (state Read (locks.Shared ∷ []) NoneCurrent) (after_lock answer (places.Go kept.Alone) holds.Shared)
+leads-alone Given = refl
+leads-alone Refused = refl
+leads-alone Missing = refl
+leads-alone Unsupported = refl
+
 leads-waited : (answer : Answer) (want : Want) → Leads (places.Wait want) answer (state want [] Nothing) (waited answer want)
 leads-waited Given want = refl
 leads-waited Refused want = refl
@@ -207,10 +258,12 @@ leads-waited Missing want = refl
 leads-waited Unsupported want = refl
 
 leads-kept : (keeps : Kept) (answer : Answer) → Leads (places.Go keeps) answer (kept_state keeps) (places.Back (hold_of keeps) thens.End)
-leads-kept (kept.File want) answer = sym (state_of_first want thens.End)
+leads-kept (kept.File Read) answer = refl
+leads-kept (kept.File Recover) answer = refl
 leads-kept kept.Front answer = refl
 leads-kept kept.Log answer = refl
 leads-kept kept.Whole answer = refl
+leads-kept kept.Alone answer = refl
 
 state_behind : (then : Then) (want : Want) → state_at (behind then want) ≡ state want [] (learnt_of then)
 state_behind thens.Wait want = refl
@@ -228,6 +281,7 @@ leads-back holds.Checkpoints then answer = refl
 leads-back holds.Writers then answer = refl
 leads-back holds.Exclusive then answer = sym (state_behind then Recover)
 leads-back holds.WholeIndex then answer = refl
+leads-back holds.Alone then answer = refl
 
 leads : (place : Place) (answer : Answer) → Leads place answer (state_at place) (next place answer)
 leads (places.OpenFile want) answer = leads-file answer want
@@ -236,6 +290,7 @@ leads places.TakeShared answer = leads-lock locks.Shared holds.Pending places.Gi
 leads places.GivePending answer = refl
 leads places.TakeExclusive answer = leads-exclusive answer
 leads (places.Compare want) answer = leads-compared answer want
+leads places.LookForFolder answer = leads-folder answer
 leads (places.OpenIndex want) answer = leads-index answer want
 leads (places.TakeRestarts asks) answer = leads-lock locks.Restarts holds.Shared (places.TakeCheckpoints asks) answer refl
 leads (places.TakeCheckpoints true) answer = leads-lock locks.Checkpoints holds.Restarts places.Ask answer refl
@@ -250,6 +305,10 @@ leads places.EndAskingAgain answer = refl
 leads places.LookAgain answer = leads-look_again answer
 leads places.GiveWriters answer = refl
 leads places.TakeWhole answer = leads-lock locks.WholeIndex holds.Exclusive (places.Go kept.Whole) answer refl
+leads places.LookAtJournal answer = leads-hot answer
+leads places.AskReserved answer = leads-reserved answer
+leads places.CompareJournal answer = leads-same answer
+leads places.TakeAlone answer = leads-alone answer
 leads (places.Go keeps) answer = leads-kept keeps answer
 leads (places.Back hold then) answer = leads-back hold then answer
 leads (places.Wait want) answer = leads-waited answer want

@@ -27,6 +27,7 @@ last_of holds.Checkpoints = locks.Checkpoints
 last_of holds.Writers = locks.Writers
 last_of holds.Exclusive = locks.Exclusive
 last_of holds.WholeIndex = locks.WholeIndex
+last_of holds.Alone = locks.Alone
 
 -- what is done at a place
 abbrev pub step_at : Place → Step
@@ -36,6 +37,7 @@ step_at places.TakeShared = steps.Take locks.Shared
 step_at places.GivePending = steps.Give locks.Pending
 step_at places.TakeExclusive = steps.Take locks.Exclusive
 step_at (places.Compare want) = steps.Compare
+step_at places.LookForFolder = steps.LookForFolder
 step_at (places.OpenIndex want) = steps.Open Index
 step_at (places.TakeRestarts asks) = steps.Take locks.Restarts
 step_at (places.TakeCheckpoints asks) = steps.Take locks.Checkpoints
@@ -48,6 +50,10 @@ step_at places.EndAskingAgain = steps.Give locks.Connections
 step_at places.LookAgain = steps.Look
 step_at places.GiveWriters = steps.Give locks.Writers
 step_at places.TakeWhole = steps.Take locks.WholeIndex
+step_at places.LookAtJournal = steps.LookAtJournal
+step_at places.AskReserved = steps.AskReserved
+step_at places.CompareJournal = steps.CompareJournal
+step_at places.TakeAlone = steps.Take locks.Alone
 step_at (places.Go keeps) = steps.Go
 step_at (places.Back hold then) = steps.Give (last_of hold)
 step_at (places.Wait want) = steps.Wait
@@ -59,7 +65,7 @@ step_at places.Failed = steps.GiveUp reasons.Failed
 step_at (places.Over want) = steps.End
 
 -- behind the opening of FILE, a plan's first lock, another lock, the comparison, the opening of FILE-shm, the question
--- whether a connection is live, a look at the index, and a wait
+-- whether a connection is live or about to write, a look at the index or the journal, and a wait
 abbrev pub after_file : Answer → Want → Place
 after_file Given Read = places.TakePending
 after_file Given Recover = places.TakeExclusive
@@ -90,9 +96,11 @@ hold_of (kept.File want) = first_of want
 hold_of kept.Front = holds.Checkpoints
 hold_of kept.Log = holds.Writers
 hold_of kept.Whole = holds.WholeIndex
+hold_of kept.Alone = holds.Alone
 
 abbrev pub compared : Answer → Want → Place
-compared Given want = places.OpenIndex want
+compared Given Read = places.OpenIndex Read
+compared Given Recover = places.LookForFolder
 compared Refused want = places.Back (first_of want) thens.Wait
 compared Missing want = places.Back (first_of want) thens.Wait
 compared Unsupported want = places.Back (first_of want) thens.Wait
@@ -102,7 +110,8 @@ after_index Given Read = places.TakeRestarts true
 after_index Refused Read = places.TakeRestarts false
 after_index Given Recover = places.TakeWhole
 after_index Refused Recover = places.Back holds.Exclusive thens.Failed
-after_index Missing want = places.Go (kept.File want)
+after_index Missing Read = places.LookAtJournal
+after_index Missing Recover = places.Go (kept.File Recover)
 after_index Unsupported want = places.Back (first_of want) thens.NoLocks
 
 abbrev pub live_asked : Answer → (not live : Place) → Hold → Place
@@ -140,6 +149,7 @@ given_back holds.Checkpoints then = places.Back holds.Restarts then
 given_back holds.Writers then = places.Back holds.Checkpoints then
 given_back holds.Exclusive then = behind then Recover
 given_back holds.WholeIndex then = places.Back holds.Exclusive then
+given_back holds.Alone then = places.Back holds.Shared then
 
 -- where an answer leads
 abbrev pub next : Place → Answer → Place
@@ -149,6 +159,7 @@ next places.TakeShared answer = after_lock answer places.GivePending holds.Pendi
 next places.GivePending answer = places.Compare Read
 next places.TakeExclusive answer = after_first answer Recover
 next (places.Compare want) answer = compared answer want
+next places.LookForFolder answer = after_lock answer (places.OpenIndex Recover) holds.Exclusive
 next (places.OpenIndex want) answer = after_index answer want
 next (places.TakeRestarts asks) answer = after_lock answer (places.TakeCheckpoints asks) holds.Shared
 next (places.TakeCheckpoints true) answer = after_lock answer places.Ask holds.Restarts
@@ -163,6 +174,10 @@ next places.EndAskingAgain answer = places.Go kept.Log
 next places.LookAgain answer = looked answer places.GiveWriters (places.Go kept.Log)
 next places.GiveWriters answer = places.Go kept.Front
 next places.TakeWhole answer = after_lock answer (places.Go kept.Whole) holds.Exclusive
+next places.LookAtJournal answer = looked answer places.AskReserved places.TakeAlone
+next places.AskReserved answer = live_asked answer places.CompareJournal places.TakeAlone holds.Shared
+next places.CompareJournal answer = looked answer (places.Go (kept.File Read)) places.TakeAlone
+next places.TakeAlone answer = after_lock answer (places.Go kept.Alone) holds.Shared
 next (places.Go keeps) answer = places.Back (hold_of keeps) thens.End
 next (places.Back hold then) answer = given_back hold then
 next (places.Wait want) answer = waited answer want

@@ -7,7 +7,7 @@ use Rattle.std.specs.Str.Lines.{lines}
 use Rattle.sqlocks.specs.declared.plan.Want.{Want}
 use Rattle.sqlocks.specs.declared.plan.Want.TheVariants.{Read, Recover}
 use Rattle.sqlocks.specs.declared.plan.Lock.{Lock}
-use Rattle.sqlocks.specs.declared.plan.Lock.TheVariants.{Pending, Shared, Exclusive, Restarts, Checkpoints, Writers, Connections, WholeIndex}
+use Rattle.sqlocks.specs.declared.plan.Lock.TheVariants.{Pending, Shared, Exclusive, Restarts, Checkpoints, Writers, Connections, WholeIndex, Alone}
 use Rattle.sqlocks.specs.declared.told.FileId.{FileId}
 
 -- a number in lower-case hex, of two digits at least
@@ -32,6 +32,7 @@ range_text Checkpoints = codes " 123 123"
 range_text Restarts = codes " 127 127"
 range_text Connections = codes " 128 128"
 range_text WholeIndex = codes " 120 128"
+range_text Alone = codes " 1073742337 1073742337"
 
 -- whether it is for one alone
 abbrev pub kind_text : Lock → List ℕ

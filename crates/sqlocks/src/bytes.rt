@@ -28,6 +28,7 @@ pub fn bytes_of(lock: Lock) -> Bytes
         Lock::Restarts => (true, false, 127, 1),
         Lock::Connections => (true, true, 128, 1),
         Lock::WholeIndex => (true, true, 120, 9),
+        Lock::Alone => (false, false, 1_073_742_337, 1),
     };
     Bytes {
         is_of_index,

@@ -16,13 +16,16 @@ pub(crate) enum Hold {
     Writers,
     Exclusive,
     WholeIndex,
+    Alone,
 }
 
 /// The locks with which a caller goes on.
 #[derive(Clone, Copy, Debug, PartialEq, Eq)]
 pub(crate) enum Kept {
-    /// The first one alone: there is no FILE-shm.
+    /// The first one alone: there is no FILE-shm, and for a reader a journal is current.
     File(Want),
+    /// Those of a reader beside no FILE-shm, for whom no journal is current.
+    Alone,
     /// Those of a reader that takes the front of the index.
     Front,
     /// Those of a reader that takes the front of FILE-wal.
@@ -49,6 +52,7 @@ pub(crate) enum Place {
     GivePending,
     TakeExclusive,
     Compare(Want),
+    LookForFolder,
     OpenIndex(Want),
     /// Here and below: whether FILE-shm is open for writing, so that Connections can be asked for.
     TakeRestarts(bool),
@@ -62,6 +66,10 @@ pub(crate) enum Place {
     LookAgain,
     GiveWriters,
     TakeWhole,
+    LookAtJournal,
+    AskReserved,
+    CompareJournal,
+    TakeAlone,
     Go(Kept),
     Back(Hold, Then),
     Wait(Want),
@@ -85,6 +93,7 @@ fn last_of(hold: Hold) -> Lock
         Hold::Writers => Lock::Writers,
         Hold::Exclusive => Lock::Exclusive,
         Hold::WholeIndex => Lock::WholeIndex,
+        Hold::Alone => Lock::Alone,
     }
 }
 
@@ -99,6 +108,7 @@ pub(crate) fn step_at(place: Place) -> Step
         Place::GivePending => Step::Give(Lock::Pending),
         Place::TakeExclusive => Step::Take(Lock::Exclusive),
         Place::Compare(_) => Step::Compare,
+        Place::LookForFolder => Step::LookForFolder,
         Place::OpenIndex(_) => Step::Open(Target::Index),
         Place::TakeRestarts(_) => Step::Take(Lock::Restarts),
         Place::TakeCheckpoints(_) => Step::Take(Lock::Checkpoints),
@@ -108,6 +118,10 @@ pub(crate) fn step_at(place: Place) -> Step
         Place::TakeWriters(_) => Step::Take(Lock::Writers),
         Place::GiveWriters => Step::Give(Lock::Writers),
         Place::TakeWhole => Step::Take(Lock::WholeIndex),
+        Place::LookAtJournal => Step::LookAtJournal,
+        Place::AskReserved => Step::AskReserved,
+        Place::CompareJournal => Step::CompareJournal,
+        Place::TakeAlone => Step::Take(Lock::Alone),
         Place::Go(_) => Step::Go,
         Place::Back(hold, _) => Step::Give(last_of(hold)),
         Place::Wait(_) => Step::Wait,
@@ -173,6 +187,7 @@ fn hold_of(kept: Kept) -> Hold
         Kept::Front => Hold::Checkpoints,
         Kept::Log => Hold::Writers,
         Kept::Whole => Hold::WholeIndex,
+        Kept::Alone => Hold::Alone,
     }
 }
 
@@ -180,8 +195,9 @@ fn hold_of(kept: Kept) -> Hold
 fn compared(answer: Answer, want: Want) -> Place
     ensures { result ≡ compared answer want }
 {
-    match answer {
-        Answer::Given => Place::OpenIndex(want),
+    match (answer, want) {
+        (Answer::Given, Want::Read) => Place::OpenIndex(want),
+        (Answer::Given, Want::Recover) => Place::LookForFolder,
         _ => Place::Back(first_of(want), Then::Wait),
     }
 }
@@ -195,12 +211,13 @@ fn after_index(answer: Answer, want: Want) -> Place
         (Answer::Refused, Want::Read) => Place::TakeRestarts(false),
         (Answer::Given, Want::Recover) => Place::TakeWhole,
         (Answer::Refused, Want::Recover) => Place::Back(Hold::Exclusive, Then::Failed),
-        (Answer::Missing, _) => Place::Go(Kept::File(want)),
+        (Answer::Missing, Want::Read) => Place::LookAtJournal,
+        (Answer::Missing, Want::Recover) => Place::Go(Kept::File(want)),
         (Answer::Unsupported, _) => Place::Back(first_of(want), Then::NoLocks),
     }
 }
 
-/// Behind the question whether a connection is live: where it isn't, where it is, and what is held.
+/// Behind the question whether a connection is live, or about to write: where it isn't, where it is, and what is held.
 fn live_asked(answer: Answer, not: Place, live: Place, hold: Hold) -> Place
     ensures { result ≡ live_asked answer not live hold }
 {
@@ -211,7 +228,7 @@ fn live_asked(answer: Answer, not: Place, live: Place, hold: Hold) -> Place
     }
 }
 
-/// Behind a look at the index: where it names a front, and where it names none.
+/// Behind a look at the index: where it names a front, and where it names none; and behind one at the journal.
 fn looked(answer: Answer, named: Place, unnamed: Place) -> Place
     ensures { result ≡ looked answer named unnamed }
 {
@@ -245,6 +262,7 @@ fn given_back(hold: Hold, then: Then) -> Place
         Hold::Writers => Place::Back(Hold::Checkpoints, then),
         Hold::Exclusive => behind(then, Want::Recover),
         Hold::WholeIndex => Place::Back(Hold::Exclusive, then),
+        Hold::Alone => Place::Back(Hold::Shared, then),
     }
 }
 
@@ -269,6 +287,9 @@ pub(crate) fn next(place: Place, answer: Answer) -> Place
         Place::GivePending => Place::Compare(Want::Read),
         Place::TakeExclusive => after_first(answer, Want::Recover),
         Place::Compare(want) => compared(answer, want),
+        Place::LookForFolder => {
+            after_lock(answer, Place::OpenIndex(Want::Recover), Hold::Exclusive)
+        }
         Place::OpenIndex(want) => after_index(answer, want),
         Place::TakeRestarts(asks) => {
             after_lock(answer, Place::TakeCheckpoints(asks), Hold::Shared)
@@ -292,6 +313,17 @@ pub(crate) fn next(place: Place, answer: Answer) -> Place
         Place::LookAgain => looked(answer, Place::GiveWriters, Place::Go(Kept::Log)),
         Place::GiveWriters => Place::Go(Kept::Front),
         Place::TakeWhole => after_lock(answer, Place::Go(Kept::Whole), Hold::Exclusive),
+        Place::LookAtJournal => looked(answer, Place::AskReserved, Place::TakeAlone),
+        Place::AskReserved => live_asked(
+            answer,
+            Place::CompareJournal,
+            Place::TakeAlone,
+            Hold::Shared,
+        ),
+        Place::CompareJournal => {
+            looked(answer, Place::Go(Kept::File(Want::Read)), Place::TakeAlone)
+        }
+        Place::TakeAlone => after_lock(answer, Place::Go(Kept::Alone), Hold::Shared),
         Place::Go(kept) => Place::Back(hold_of(kept), Then::End),
         Place::Back(hold, then) => given_back(hold, then),
         Place::Wait(want) => waited(answer, want),

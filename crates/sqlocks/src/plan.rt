@@ -42,6 +42,9 @@ pub enum Lock {
     Connections,
     /// FILE-shm, 9 bytes from 120 on, exclusive.
     WholeIndex,
+    /// FILE, byte 1073742337, shared: none of SQLite's. It tells whoever goes on that no journal is current. It isn't
+    /// beside the bytes of `Shared`, since the system joins locks of one kind that are.
+    Alone,
 }
 
 /// Why a plan is given up.
@@ -68,8 +71,18 @@ pub enum Step {
     Give(Lock),
     /// To see whether the path of FILE still leads to the file that is open. Given or Refused.
     Compare,
+    /// To see whether no folder FILE.lock is there, by which SQLite's unix-dotfile locks FILE. Given: there is none; or
+    /// Refused.
+    LookForFolder,
     /// To see whether the index names a front of FILE-wal. Given or Refused.
     Look,
+    /// To see whether FILE-journal is hot, by its header and its length. Given or Refused.
+    LookAtJournal,
+    /// To see whether somebody holds RESERVED, byte 1073741825 of FILE, without taking it. Given: nobody does; Refused:
+    /// somebody is about to write; Unsupported.
+    AskReserved,
+    /// To see whether FILE-journal still has the header and the length that were looked at. Given or Refused.
+    CompareJournal,
     /// To wait for a moment. Given; Refused: the time is over.
     Wait,
     /// To do what the locks are for. Any answer, once it is done.

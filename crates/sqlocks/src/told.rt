@@ -57,6 +57,7 @@ fn range_text(lock: Lock) -> &'static str
         Lock::Restarts => " 127 127",
         Lock::Connections => " 128 128",
         Lock::WholeIndex => " 120 128",
+        Lock::Alone => " 1073742337 1073742337",
     }
 }
 
@@ -66,9 +67,12 @@ fn kind_text(lock: Lock) -> &'static str
 {
     match lock {
         Lock::Exclusive | Lock::Connections | Lock::WholeIndex => " WRITE ",
-        Lock::Pending | Lock::Shared | Lock::Writers | Lock::Checkpoints | Lock::Restarts => {
-            " READ "
-        }
+        Lock::Pending
+        | Lock::Shared
+        | Lock::Writers
+        | Lock::Checkpoints
+        | Lock::Restarts
+        | Lock::Alone => " READ ",
     }
 }
 

@@ -1,3 +1,4 @@
 pub mod Steps
 pub mod Fronts
+pub mod Journals
 pub mod internal

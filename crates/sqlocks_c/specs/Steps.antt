@@ -8,7 +8,7 @@ use Rattle.sqlocks.specs.declared.plan.Target.TheVariants.{Database, Index}
 use Rattle.sqlocks.specs.declared.plan.Lock.{Lock}
 use Rattle.sqlocks.specs.declared.plan.Reason.TheVariants.{InUse, NoLocks, Failed}
 use Rattle.sqlocks.specs.declared.plan.Step.{Step}
-use Rattle.sqlocks.specs.declared.plan.Step.TheVariants.{Open, Take, Give, Compare, Look, Wait, Go, GoUnlocked, GiveUp, End}
+use Rattle.sqlocks.specs.declared.plan.Step.TheVariants.{Open, Take, Give, Compare, LookForFolder, Look, LookAtJournal, AskReserved, CompareJournal, Wait, Go, GoUnlocked, GiveUp, End}
 use Rattle.sqlocks.specs.declared.plan.Answer.{Answer}
 use Rattle.sqlocks.specs.declared.plan.Answer.TheVariants.{Given, Refused, Missing, Unsupported}
 use Rattle.sqlocks_c.specs.declared.step.LockStep.{LockStep}
@@ -32,6 +32,10 @@ on_bytes kind lock = let bytes = bytes_of lock in record {
   count = bytes.count;
 }
 
+-- RESERVED_BYTE of SQLite's os.h, asked about as who wants it by itself
+abbrev pub on_reserved : LockStep
+on_reserved = record { kind = 6; is_of_index = 0; is_exclusive = 1; reason = 0; start = 1073741825; count = 1 }
+
 abbrev pub numbers_of : Step → LockStep
 numbers_of (Open Database) = plain 0 0 0
 numbers_of (Open Index) = plain 0 1 0
@@ -40,12 +44,16 @@ numbers_of (Give lock) = on_bytes 2 lock
 numbers_of Compare = plain 3 0 0
 numbers_of Look = plain 4 0 0
 numbers_of Wait = plain 5 0 0
-numbers_of Go = plain 6 0 0
-numbers_of GoUnlocked = plain 7 0 0
-numbers_of (GiveUp InUse) = plain 8 0 0
-numbers_of (GiveUp NoLocks) = plain 8 0 1
-numbers_of (GiveUp Failed) = plain 8 0 2
-numbers_of End = plain 9 0 0
+numbers_of AskReserved = on_reserved
+numbers_of LookAtJournal = plain 7 0 0
+numbers_of CompareJournal = plain 8 0 0
+numbers_of LookForFolder = plain 9 0 0
+numbers_of Go = plain 10 0 0
+numbers_of GoUnlocked = plain 11 0 0
+numbers_of (GiveUp InUse) = plain 12 0 0
+numbers_of (GiveUp NoLocks) = plain 12 0 1
+numbers_of (GiveUp Failed) = plain 12 0 2
+numbers_of End = plain 13 0 0
 
 -- each step behind these answers was one that may be asked, and so is the one with these numbers
 pub record IsNext (want : ℕ) (answers : List ℕ) (out : LockStep) : Type 0 where

@@ -1,6 +1,7 @@
-//! The C interface to the plans of SQLite's locks: what to do next, and whether an index names a front. The caller
-//! opens, locks and reads; nothing is opened here, and nothing is kept between calls (own).
+//! The C interface to the plans of SQLite's locks: what to do next, whether an index names a front, and whether a
+//! journal is hot. The caller opens, locks and reads; nothing is opened here, and nothing is kept between calls (own).
 #![tactic(auto)]
 
 mod index;
+mod journal;
 mod step;

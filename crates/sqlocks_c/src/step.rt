@@ -6,9 +6,9 @@ ghost use Rattle.sqlocks_c.specs.Steps.{answer_of, want_of, numbers_of, IsNext};
 use sqlocks::{Answer, Bytes, Lock, Reason, Step, Target, Want, asked, bytes_of};
 use std::alloc::{AllocError, Global};
 
-/// What is to be done: the kind, from Open, 0, to End, 9; of which file, 0 FILE and 1 FILE-shm; whether for one alone;
-/// why it is given up, from InUse, 0, to Failed, 2; and which bytes are locked or given back. Where a kind has no such
-/// number it is 0.
+/// What is to be done: the kind, from Open, 0, to End, 13; of which file, 0 FILE and 1 FILE-shm; whether for one alone;
+/// why it is given up, from InUse, 0, to Failed, 2; and which bytes are locked, given back or asked about. Where a kind
+/// has no such number it is 0.
 #[repr(C)]
 #[derive(Clone, Copy)]
 pub struct LockStep {
@@ -80,6 +80,20 @@ fn on_bytes(kind: u32, lock: Lock) -> LockStep
     }
 }
 
+/// A question about RESERVED, which is locked by who is about to write.
+fn on_reserved() -> LockStep
+    ensures { result ≡ Rattle.sqlocks_c.specs.Steps.on_reserved }
+{
+    LockStep {
+        kind: 6,
+        is_of_index: 0,
+        is_exclusive: 1,
+        reason: 0,
+        start: 1_073_741_825,
+        count: 1,
+    }
+}
+
 /// A step in numbers.
 fn numbers_of(step: Step) -> LockStep
     ensures { result ≡ numbers_of step }
@@ -92,12 +106,16 @@ fn numbers_of(step: Step) -> LockStep
         Step::Compare => plain(3, 0, 0),
         Step::Look => plain(4, 0, 0),
         Step::Wait => plain(5, 0, 0),
-        Step::Go => plain(6, 0, 0),
-        Step::GoUnlocked => plain(7, 0, 0),
-        Step::GiveUp(Reason::InUse) => plain(8, 0, 0),
-        Step::GiveUp(Reason::NoLocks) => plain(8, 0, 1),
-        Step::GiveUp(Reason::Failed) => plain(8, 0, 2),
-        Step::End => plain(9, 0, 0),
+        Step::AskReserved => on_reserved(),
+        Step::LookAtJournal => plain(7, 0, 0),
+        Step::CompareJournal => plain(8, 0, 0),
+        Step::LookForFolder => plain(9, 0, 0),
+        Step::Go => plain(10, 0, 0),
+        Step::GoUnlocked => plain(11, 0, 0),
+        Step::GiveUp(Reason::InUse) => plain(12, 0, 0),
+        Step::GiveUp(Reason::NoLocks) => plain(12, 0, 1),
+        Step::GiveUp(Reason::Failed) => plain(12, 0, 2),
+        Step::End => plain(13, 0, 0),
     }
 }
 

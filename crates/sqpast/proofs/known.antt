@@ -3,6 +3,7 @@ pub mod FramesByPage
 pub mod BytesInPieces
 pub mod JudgedPages
 pub mod KnownViews
+pub mod UsedPages
 pub mod OpenedFiles
 pub mod BeforeCommits
 pub mod KnownCommits

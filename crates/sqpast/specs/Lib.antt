@@ -1,4 +1,5 @@
 pub mod Past
+pub mod Used
 pub mod Files
 pub mod Commits
 pub mod internal

@@ -17,9 +17,10 @@ ghost use Rattle.sqpast.specs.Files.{PastAnswerWithin, IsPastRead};
 use crate::chains::link_all;
 use crate::gone::until;
 use crate::past_error::PastError;
+use crate::used::counts_of;
 use byteorder::{BigEndian, ByteOrder};
 use history::Table;
-use sqpage::{PageSource, SourceError};
+use sqpage::SourceError;
 use sqval::Limits;
 use sqview::{FileBytes, View, ViewError};
 use sqwal::Scan;
@@ -101,8 +102,7 @@ pub(super) fn count_at<F: FileBytes>(file: &mut F, at: u64) -> Result<u32, Sourc
     Ok(header_count(&head))
 }
 
-/// How many pages count at a commit of so many: the header's count if it is valid and no larger (fileformat2, 1.3.7;
-/// the limit own).
+/// How many pages SQLite uses of so many, by their first page (fileformat2, 1.3.7; the limit own).
 pub fn used_count(most: u32, first: &[u8]) -> u32
     requires { 100 ≤ length first.now }
     ensures { result ≡ used most first.now }
@@ -110,7 +110,8 @@ pub fn used_count(most: u32, first: &[u8]) -> u32
     used_of(most, header_count(first))
 }
 
-/// The same by the header's count, 0 if that isn't valid.
+/// How many pages SQLite uses of so many: as many as the header says if that count isn't 0, which it is if it isn't
+/// valid, and no larger (fileformat2, 1.3.7; the limit own).
 pub(super) fn used_of(most: u32, count: u32) -> u32
     ensures { result ≡ cond (count == 0) most (min count most) }
 {
@@ -132,14 +133,8 @@ fn used_pages<F: FileBytes>(alloc: Global, view: &mut View<F>) -> Result<u32, Vi
         → F.gives_bytes view.new.db × F.gives_bytes view.new.log }
     ensures same { shape_of F.bytes view.new ≡ shape_of F.bytes view.old }
 {
-    let most = view.count();
-    if most == 0 {
-        return Ok(0);
-    }
-    let mut first = vec![in alloc; 0u8; view.page_size().get() as usize]?;
-    let page = first.as_mut_slice();
-    view.read(1, page)?;
-    Ok(used_count(most, page))
+    let counts = counts_of(alloc, view)?;
+    Ok(counts.used())
 }
 
 /// The view of a file with its log, of which this is the scan, at a commit frame: at the log's front what both show,

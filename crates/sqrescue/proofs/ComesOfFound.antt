@@ -23,7 +23,7 @@ use Rattle.cli_job.specs.declared.sources.Source.{Source}
 
 module _ {F : Type 0} (bytes : F → List ℕ) (gives : F → Type 0) (options : Options) (files : Contents F) (before after : Option (List ℕ)) where
   answers_found : (command : Command) (found : Finding F) → Finds bytes gives command options files (Ok found) before after → AreGiven gives files
-      → Answers command options (contents_of bytes files) (answer_of_finding found)
+      → Answers command options (contents_of bytes files) (answer_of_finding command found)
   answers_found (Check asked deep) (Checked found) finds given = (found.verdict, finds.0 given, refl)
   answers_found (Check asked deep) (Surveyed found) finds given = absurd finds.0
   answers_found (Check asked deep) (Shown found) finds given = absurd finds.0
@@ -67,7 +67,7 @@ untold bytes gives source command answer = ⊎_elim (λ e. subst (λ (r : Result
     (λ e. subst (λ (r : Result Answer ShowError). Comes bytes gives source command r) (sym e) (inr (inr (inr (inr refl)))))
 
 module _ {F M : Type 0} (bytes : OpenedFile F → List ℕ) (gives : OpenedFile F → Type 0) (source : Source) (command : Command) (before after : Option (List ℕ)) where
-  of_found : (found : Finding (Counted F M)) → FindsOpened bytes gives source command (Ok found) before after → Comes bytes gives source command (answer_of_finding found)
+  of_found : (found : Finding (Counted F M)) → FindsOpened bytes gives source command (Ok found) before after → Comes bytes gives source command (answer_of_finding command found)
   of_found found is = inl (record {
     files = all_opened is.files;
     opened = is.opened;
@@ -85,11 +85,11 @@ module _ {F M : Type 0} (bytes : OpenedFile F → List ℕ) (gives : OpenedFile 
 
   -- what was found is answered, or couldn't be told
   pub comes_of_found : (found : Finding (Counted F M)) (answer : Result Answer ShowError) → Settles bytes gives source command (Ok found) before after
-      → Tells (answer_of_finding found) answer → Comes bytes gives source command answer
+      → Tells (answer_of_finding command found) answer → Comes bytes gives source command answer
   comes_of_found found answer settles = ⊎_elim
       (λ e. subst (λ (r : Result Answer ShowError). Comes bytes gives source command r) (sym e) found_comes) (untold bytes gives source command answer)
     where
-      found_comes : Comes bytes gives source command (answer_of_finding found)
+      found_comes : Comes bytes gives source command (answer_of_finding command found)
       found_comes = ⊎_elim (⊎_elim (of_found found) (λ bad. absurd bad.0)) (λ bad. absurd bad) settles
 
   -- what refuses it does

@@ -1,3 +1,4 @@
 pub mod ComesOfFound
 pub mod GreatestStatus
 pub mod WordsEnd
+pub mod FilesNotRead

@@ -1,8 +1,9 @@
 -- What a command comes to, by the bytes of the files that were opened for it (own).
-use Rattle.std.specs.Prelude.{◌≡◌, ◌⊎◌, ℕ, Bool, List, Option, Result, Ok, Err, IsErrAnd}
+use Rattle.std.specs.Prelude.{◌≡◌, ◌⊎◌, ℕ, Bool, List, Option, is_some, Result, Ok, Err, IsErrAnd}
 use Rattle.std.specs.Borrow.{Bor}
 use Rattle.sqpage.specs.declared.fault.CheckError.{CheckError}
 use Rattle.cli_facts.specs.declared.outcome.Refusal.{Refusal}
+use Rattle.cli_words.specs.declared.requests.Deep.{Deep}
 use Rattle.cli_words.specs.declared.requests.Options.{Options}
 use Rattle.cli_words.specs.declared.requests.Part.{Part}
 use Rattle.cli_show_rows.specs.declared.stop.Stop.{Stop}
@@ -17,13 +18,12 @@ use Rattle.cli_show.specs.declared.error.ShowError.{ShowError}
 use Rattle.cli_show.specs.declared.views.Asked.{Asked}
 use Rattle.cli_show_deep.specs.Found.{IsFoundAs}
 use Rattle.cli_show_places.specs.Places.{name_of}
-use Rattle.sqdeepjudge.specs.Verdicts.{is_damaged}
 use Rattle.sqdeepjudge.specs.declared.verdict.DeepVerdict.{DeepVerdict}
 use Rattle.cli_dump.specs.Deleted.{AreDeletedShown}
 use Rattle.cli_dump.specs.Places.{ArePlacesShown}
 use Rattle.cli_dump.specs.Rows.{AreRowsShown}
 use Rattle.cli_dump.specs.declared.rows.Wanted.{Wanted}
-use Rattle.cli_job.specs.Answers.{Tells, answer_named, answer_of_fault, answer_of_rows}
+use Rattle.cli_job.specs.Answers.{Tells, answer_of_check, answer_of_fault, answer_of_rows}
 use Rattle.cli_job.specs.Commands.{IsPartShown, IsPartUnshown}
 use Rattle.cli_job.specs.Faults.{HaveFault}
 use Rattle.cli_job.specs.Opened.{AreOpenedFor, IsUnopenedFor, reads_logs}
@@ -34,9 +34,9 @@ use Rattle.cli_job.specs.declared.commands.Command.TheVariants.{Check, Pages, Sh
 use Rattle.cli_job.specs.declared.sources.Source.{Source}
 
 -- a check answers by its verdict
-abbrev pub AnswersCheck : Asked → (deep : Bool) → (files : Contents (List ℕ)) → Result Answer ShowError → Type 0
+abbrev pub AnswersCheck : Asked → Option Deep → (files : Contents (List ℕ)) → Result Answer ShowError → Type 0
 AnswersCheck asked deep files (Ok answer) = (verdict : DeepVerdict)
-    × IsFoundAs deep asked.maps.pointer_maps asked.limits asked.at files.db files.wal files.journal verdict × (answer ≡ answer_named (is_damaged verdict))
+    × IsFoundAs (is_some deep) asked.maps.pointer_maps asked.limits asked.at files.db files.wal files.journal verdict × (answer ≡ answer_of_check deep verdict)
 AnswersCheck asked deep files (Err error) = IfRefused (IsNotFound asked.maps.pointer_maps asked.limits asked.at files.db files.wal files.journal) error
 
 -- a survey by its fault

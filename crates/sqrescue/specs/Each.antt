@@ -1,7 +1,8 @@
 -- How the program ends whose line may name several files (own).
-use Rattle.std.specs.Prelude.{◌≡◌, ◌⊎◌, ℕ, ◌-◌, ◌<◌, ◌≤◌, List, ◌∷◌, ◌++◌, take, drop, length, slice_get, codes, Option, None, Some, IsSomeAnd}
+use Rattle.std.specs.Prelude.{◌≡◌, ◌⊎◌, Bool, IsTrue, ℕ, ◌-◌, ◌<◌, ◌≤◌, List, ◌∷◌, ◌++◌, take, drop, length, slice_get, codes, Option, None, Some, IsSomeAnd}
 use Rattle.std.specs.Borrow.{Bor}
 use Rattle.std.specs.List.{All, AllZip, Contains}
+use Rattle.cli_words.specs.Line.{AsksComplete}
 use Rattle.cli_facts.specs.Statuses.{status_code}
 use Rattle.cli_facts.specs.declared.status.Status.{Status}
 use Rattle.cli_each.specs.Lines.{AreFiles, AreLeft, IsApart, texts}
@@ -27,9 +28,15 @@ EndsOne bytes gives apart place code = (line : List (List ℕ)) × IsLineFor apa
 abbrev pub IsGreatest : (numbers : List ℕ) → (greatest : ℕ) → Type 0
 IsGreatest numbers greatest = Contains numbers greatest × All (λ n. n ≤ greatest) numbers
 
--- The line with each of the files ends with a number of its own, in their order, and this is the greatest.
+-- 1, which is damage, if all is to be judged and it is one of these; otherwise the greatest
+abbrev pub IsWorst : (complete : Bool) → (numbers : List ℕ) → (worst : ℕ) → Type 0
+IsWorst complete numbers worst = (IsTrue complete × Contains numbers 1 × (worst ≡ 1))
+    ⊎ ((¬ (IsTrue complete × Contains numbers 1)) × IsGreatest numbers worst)
+
+-- The line with each of the files ends with a number of its own, in their order, and this is the greatest, or damage.
 abbrev pub EndsEach : {F : Type 0} → (bytes : OpenedFile F → List ℕ) → (gives : OpenedFile F → Type 0) → Apart → (places : List ℕ) → (code : ℕ) → Type 0
-EndsEach bytes gives apart places code = (numbers : List ℕ) × AllZip (EndsOne bytes gives apart) places numbers × IsGreatest numbers code
+EndsEach bytes gives apart places code = (numbers : List ℕ) × AllZip (EndsOne bytes gives apart) places numbers
+    × ((complete : Bool) × AsksComplete (texts apart.words.items) complete × IsWorst complete numbers code)
 
 -- it is asked which locks the words want
 abbrev pub AsksLocks : Apart → Type 0

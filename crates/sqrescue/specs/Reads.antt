@@ -1,8 +1,9 @@
 -- What a reading of a database file comes to (own).
-use Rattle.std.specs.Prelude.{◌≡◌, ◌⊎◌, ℕ, Bool, true, false, ◌||◌, List, Option, Result, IsErrAnd}
+use Rattle.std.specs.Prelude.{◌≡◌, ◌⊎◌, ℕ, Bool, true, false, ◌||◌, List, Option, is_some, Result, IsErrAnd}
 use Rattle.cli_words.specs.Commits.{commit_named}
 use Rattle.cli_words.specs.declared.requests.Options.{Options}
 use Rattle.cli_words.specs.declared.requests.Part.TheVariants as parts
+use Rattle.cli_files.specs.Refusals.{IsFromWatch}
 use Rattle.cli_files.specs.declared.opened_file.OpenedFile.{OpenedFile}
 use Rattle.cli_show.specs.Errors.{IfRefused}
 use Rattle.cli_show.specs.Limits.{limits_named}
@@ -35,7 +36,7 @@ asked_named options deep = record { limits = limits_named options.large; at = co
 abbrev pub command_of : Look → Options → Command
 command_of (looks.Part parts.Pages) options = Pages (asked_named options false)
 command_of (looks.Part part) options = Show part
-command_of (looks.Damage deep) options = Check (asked_named options deep) deep
+command_of (looks.Damage deep) options = Check (asked_named options (is_some deep)) deep
 command_of (looks.Rows wanted) options = Rows wanted
 command_of (looks.Places table) options = Places table
 command_of (looks.Deleted all) options = Deleted all
@@ -60,6 +61,11 @@ extent_of _ = One
 -- the files are read; where locks keep the database file as it is, and its journal was changed, it alone
 abbrev pub IsReadOf : (source read : Source) → Type 0
 IsReadOf source read = (read ≡ source) ⊎ ((source.watch ≡ Undated) × IsAloneOf source read)
+
+-- What a reading of these files comes to: that of them or of the database file alone; or they changed, or the system erred.
+abbrev pub IsReadTwice : {F : Type 0} → (bytes : OpenedFile F → List ℕ) → (gives : OpenedFile F → Type 0) → Reading → Source → Result Answer ShowError → Type 0
+IsReadTwice bytes gives reading source answer =
+    ((read : Source) × IsReadOf source read × ReadsTo bytes gives reading read answer) ⊎ IsErrAnd answer (λ error. IfRefused IsFromWatch error)
 
 -- What a reading comes to.
 abbrev pub IsRead : {F : Type 0} → (bytes : OpenedFile F → List ℕ) → (gives : OpenedFile F → Type 0) → Read → Result Answer ShowError → Type 0

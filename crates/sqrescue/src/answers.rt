@@ -9,7 +9,7 @@ use crate::checking::write_checked;
 use crate::hints::step_after_finding;
 use crate::pages::write_surveyed;
 use cli_facts::{Front, Notes, Quoted, Refusal, SystemFile};
-use cli_files::{Count, Paths};
+use cli_files::{Count, Paths, tell_counts};
 use cli_job::{Answer, Command, Finding, Job};
 use cli_report::{KEPT, write_printed};
 use cli_show::ShowError;
@@ -63,12 +63,17 @@ fn written<F: FileBytes + Drop, W: Write, E: Write>(
     out: &mut W,
     notes: &mut Notes<'_, E>,
 ) -> Result<Answer, ShowError>
-    ensures { Tells (answer_of_finding found) result }
+    ensures { Tells (answer_of_finding command.entry.now found) result }
 {
     let (alloc, style) = of;
     let step = step_after_finding(&found);
     let answer = match found {
-        Finding::Checked(found) => write_checked(out, style, &found.verdict, notes),
+        Finding::Checked(found) => {
+            if let Some(counts) = found.counts {
+                tell_counts(notes, counts.all, counts.named);
+            }
+            write_checked(out, (style, command.deep()), &found, notes)
+        }
         Finding::Surveyed(found) => write_surveyed(alloc, style, &found, out),
         Finding::Shown(shown) => write_shown(out, paths, shown, notes),
         Finding::Printed(printed) => {

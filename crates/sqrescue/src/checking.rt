@@ -2,38 +2,51 @@
 ghost use Rattle.std.specs.Prelude.{Ok, OnOk};
 ghost use Rattle.std.specs.Io.KnownBytes.{Appends};
 ghost use Rattle.cli_show_deep.specs.Lines.{found_text};
-ghost use Rattle.sqdeepjudge.specs.Verdicts.{is_damaged};
-ghost use Rattle.cli_job.specs.Answers.{Tells, answer_named};
+ghost use Rattle.cli_job.specs.Answers.{Tells, answer_of_check};
 
 use cli_facts::{Notes, Quoted};
 use cli_job::Answer;
 use cli_show::ShowError;
-use cli_show_deep::write_found;
-use cli_words::Style;
+use cli_show_deep::{DeepFinding, write_found};
+use cli_words::{Deep, Style};
 use sqdeepjudge::{DeepVerdict, Kind, NotJudged, Why};
 use sqschema::Schema;
 use std::io::Write;
 use std::str;
 
-/// Prints a verdict, and says what a deep one leaves open.
+/// Prints what a check found, and says what a deep one leaves open. Refused by `NotJudged` behind that where all was to
+/// be judged, and something isn't.
 pub(crate) fn write_checked<O: Write, E: Write>(
     out: &mut O,
-    style: Style,
-    verdict: &DeepVerdict,
+    of: (Style, Option<Deep>),
+    found: &DeepFinding,
     notes: &Notes<'_, E>,
 ) -> Result<Answer, ShowError>
-    ensures answer { Tells (Ok (answer_named (is_damaged verdict.now))) result }
-    ensures text { OnOk result (Appends (O.contents out.old) (O.contents out.new) (found_text style verdict.now)) }
+    ensures answer { Tells (Ok (answer_of_check of.1 found.now.verdict)) result }
+    ensures text { OnOk result (Appends (O.contents out.old) (O.contents out.new)
+        (found_text of.0 found.now.verdict found.now.missing)) }
 {
-    write_found(out, style, verdict)?;
+    let (style, deep) = of;
+    let verdict = &found.verdict;
+    write_found(out, style, verdict, found.missing)?;
     out.flush()?;
     if let DeepVerdict::Sound(_, schema, unjudged) = verdict {
         tell_asides(verdict, notes);
         tell_unjudged(verdict, notes);
         tell_unjudged_tables(verdict, notes);
         tell_others(schema, &unjudged.all, notes);
+        tell_ill_formed(unjudged.ill_formed, notes);
     }
-    Ok(Answer::of(verdict.is_damaged()))
+    Ok(Answer::of_check(deep, verdict))
+}
+
+/// Says how many cells have a text that isn't one in the database's encoding.
+fn tell_ill_formed<E: Write>(count: u64, notes: &Notes<'_, E>) {
+    if count > 0 {
+        notes.say(&format_args!(
+            "records with a text that isn't valid in the database's encoding: {count}; SQLite stores such texts"
+        ));
+    }
 }
 
 /// Says of each table whose text isn't understood that the kind of its tree isn't judged.

@@ -13,13 +13,14 @@ use crate::program::{told, unasked};
 use cli_args::request;
 use cli_each::{Apart, files_of, line_of, taken_apart};
 use cli_facts::SystemFile;
+use cli_words::asks_complete;
 use std::alloc::{AllocError, Global};
 use std::io::{self, IsTerminal, Write};
 use std::rt::Files;
 use std::time::Clock;
 
-/// Carries out a command line, and answers the program's status: where it names several files, the greatest of theirs.
-/// Each line that is printed of one of several says which. An error for want of memory.
+/// Carries out a command line, and answers the program's status: where it names several files, the greatest of theirs,
+/// or that of damage. Each line that is printed of one of several says which. An error for want of memory.
 pub(crate) fn answered<R: Files + AllocGlobal + Clock, O: Write, E: Write + IsTerminal>(
     rt: &R,
     words: &[&str],
@@ -109,11 +110,13 @@ where
     }
 }
 
-/// Says that each of so many files has locks of its own, if the words of the line of one are understood.
+/// Says that each of so many files has locks of its own, and whether all is to be judged, if the words of the line of
+/// one are understood.
 fn tell_locks<O: Write>(alloc: Global, words: &[&str], count: usize, out: &mut O) -> io::Result<u8>
     ensures told { IfOk result (λ status. (status ≡ 0) ⊎ (status ≡ 3)) }
 {
     let text = match request(alloc, words) {
+        Ok(_) if asks_complete(words) => format!(in alloc; "each {count} complete\n")?,
         Ok(_) => format!(in alloc; "each {count}\n")?,
         Err(_) => String::new(alloc),
     };
@@ -198,7 +201,44 @@ where
     locking::answered(rt, line.as_slice(), &mut out, &mut err)
 }
 
-/// Carries out the line with each of its files, one after another, and answers the greatest status.
+/// How lines ended: with which status at most, and whether one of them with that of damage.
+#[derive(Clone, Copy)]
+struct Ended {
+    greatest: u8,
+    is_damaged: bool,
+}
+
+impl Ended {
+    ghost use Rattle.std.specs.Prelude.{◌≡◌, ◌≤◌};
+    ghost use Rattle.std.specs.Prelude.{IsTrue, cond, ◌&&◌};
+    ghost use Rattle.sqrescue.specs.Meant.{IsMore};
+
+    /// With one more, which ended with this status.
+    fn with(self, status: u8) -> Ended
+        ensures more { IsMore status self result }
+        ensures least { self.greatest ≤ 3 → status ≤ 3 → result.greatest ≤ 3 }
+    {
+        Ended {
+            greatest: status.max(self.greatest),
+            is_damaged: self.is_damaged || status == 1,
+        }
+    }
+
+    /// The status of all: that of damage where all was to be judged and one has it, otherwise the greatest.
+    fn status(self, complete: bool) -> u8
+        ensures worst { result ≡ cond (complete && self.is_damaged) 1 self.greatest }
+        ensures least { self.greatest ≤ 3 → result ≤ 3 }
+    {
+        if complete && self.is_damaged {
+            1
+        } else {
+            self.greatest
+        }
+    }
+}
+
+/// Carries out the line with each of its files, one after another, and answers the greatest status; where all is to be
+/// judged, and one is damaged, that of damage.
 fn each_of<R: Files + AllocGlobal + Clock, O: Write, E: Write + IsTerminal>(
     rt: &R,
     apart: &Apart<'_>,
@@ -213,29 +253,32 @@ where
         (GivesBytes R.File.bytes R.File.keeps_word R.File.never_fails) apart.entry.now places.entry.now) }
     ensures least { IfOk result (λ status. status ≤ 3) }
 {
-    let mut greatest = 0;
+    let complete = asks_complete(apart.words.as_slice());
+    let mut ended = Ended {
+        greatest: 0,
+        is_damaged: false,
+    };
     for place in places {
-        greatest = one_more(rt, apart, (*place, greatest), out, err)?;
+        ended = one_more(rt, apart, (*place, ended), out, err)?;
     }
-    Ok(greatest)
+    Ok(ended.status(complete))
 }
 
-/// Carries out the line with one more of its files, at this place, and answers the greatest status with that of those
-/// before.
+/// Carries out the line with one more of its files, at this place, and answers how it ended with those before.
 fn one_more<R: Files + AllocGlobal + Clock, O: Write, E: Write + IsTerminal>(
     rt: &R,
     apart: &Apart<'_>,
-    more: (usize, u8),
+    more: (usize, Ended),
     out: &mut O,
     err: &mut E,
-) -> io::Result<u8>
+) -> io::Result<Ended>
 where
     R::File: SystemFile,
     ensures ends { IfOk result (EndsMore (opened_bytes R.File.bytes)
         (GivesBytes R.File.bytes R.File.keeps_word R.File.never_fails) apart.entry.now more.0 more.1) }
-    ensures least { more.1 ≤ 3 → IfOk result (λ status. status ≤ 3) }
+    ensures least { more.1.greatest ≤ 3 → IfOk result (λ ended. ended.greatest ≤ 3) }
 {
-    let (place, greatest) = more;
+    let (place, ended) = more;
     let status = one_of(rt, apart, place, out, err)?;
-    Ok(status.max(greatest))
+    Ok(ended.with(status))
 }

@@ -57,13 +57,15 @@ fn step_after(cause: Option<ErrorKind>) -> &'static str {
     }
 }
 
-/// What to do where rows were refused behind what was printed.
-pub(crate) fn step_after_rows(why: Untold) -> &'static str {
+/// What to do where a command was refused behind what was printed.
+pub(crate) fn step_after_untold(why: Untold) -> &'static str {
     match why {
         Untold::NoSuchTable =>
             "see whether the name is right: rows without --table begins each table with its name",
         Untold::NotUnderstood =>
             "the note before names what isn't understood; rows --table prints another table alone",
+        Untold::NotJudged =>
+            "what is judged is sound; the notes before name the rest: PRAGMA integrity_check judges more of it",
     }
 }
 
@@ -105,7 +107,7 @@ pub(crate) fn next_step(
             "the database has pointer maps: give check, show --pages or report --pointer-maps",
         Refusal::NoSuchCommit => "show --commits has a line for each commit, which names its frame",
         Refusal::CommitOverwritten =>
-            "a later checkpoint may have changed that database: name a later commit that show --commits lists",
+            "show --commits says of each commit whether it is known: name one that is",
         Refusal::NoSuchPage => "show names the number of pages, in the line that begins with pages",
         Refusal::NoMemory => "the system refused memory: call this again where there is more",
     }

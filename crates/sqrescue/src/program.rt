@@ -1,21 +1,26 @@
 //! The program over a runtime's files and two writers.
-ghost use Rattle.std.specs.Prelude.{◌≡◌, ◌⊎◌, IsTrue, Ok, map};
+ghost use Rattle.std.specs.Prelude.{◌≡◌, ◌⊎◌, Err, IsTrue, Ok, map};
+ghost use Rattle.cli_facts.specs.declared.outcome.Refusal.TheVariants.{FileChanged};
 ghost use Rattle.cli_files.specs.Files.{opened_bytes};
 ghost use Rattle.cli_job.specs.Answers.{status_named};
 ghost use Rattle.cli_job.specs.Opened.{GivesBytes};
-ghost use Rattle.sqrescue.specs.Reads.{IsRead, ReadsTo};
+ghost use Rattle.cli_job.specs.declared.sources.Watch.TheVariants.{Undated};
+ghost use Rattle.cli_show.specs.declared.error.ShowError.TheVariants.{Refused};
+ghost use Rattle.sqrescue.specs.Reads.{IsRead, IsReadTwice, ReadsTo};
 ghost use Rattle.sqrescue.specs.Runs.{AsksHelp, ComesBy, ComesUnder, Ends, EndsUnasked, MayAskHelp};
 
 use crate::answers::answered;
-use crate::hints::{next_step, step_after_damage, step_after_rows};
+use crate::hints::{next_step, step_after_damage, step_after_untold};
 use crate::readings::{Read, Reading, Task, task_of};
 use cli_args::{LineError, request};
 use cli_facts::{NoteWriter, Notes, Refusal, Status, SystemFile};
-use cli_files::Progress;
+use cli_files::{Count, Progress, tell_lock};
 use cli_held::Locks;
-use cli_job::{Answer, Begun, Job, Source, Until, Watch, alone, source_of};
+use cli_job::{
+    Again, Answer, Begun, Given, Job, Source, Until, Watch, WhileSame, alone, before_of, source_of,
+};
 use cli_recover::{recover, recover_to};
-use cli_report::{VERSION, print_diff, report_to, salvage_to};
+use cli_report::{VERSION, print_diff, report_to, salvage_to, tell_overwritten};
 use cli_show::ShowError;
 use cli_words::{Options, Request, Style};
 use std::fmt::Display;
@@ -146,7 +151,7 @@ where
             let step = next_step(refusal, notes.cause(), is_large);
             notes.explain(&step);
         }
-        Ok(Answer::Refused(why)) => notes.explain(&step_after_rows(why)),
+        Ok(Answer::Refused(why)) => notes.explain(&step_after_untold(why)),
         Ok(Answer::Damaged) => {
             if let Some(step) = after_damage {
                 notes.explain(&step);
@@ -187,7 +192,28 @@ fn tell_locks<E: Write>(locks: Locks, notes: &Notes<'_, E>) {
     }
 }
 
-/// What a reading of these files comes to.
+/// What a reading of the files of a job comes to.
+fn read_by<R: Files + AllocGlobal + Clock, M: Count, O: Write, E: Write>(
+    job: &Job<'_, R, M>,
+    reading: Reading<'_>,
+    out: &mut O,
+    notes: &mut Notes<'_, E>,
+) -> Result<Answer, ShowError>
+where
+    R::File: SystemFile,
+    ensures { ReadsTo (opened_bytes R.File.bytes)
+        (GivesBytes R.File.bytes R.File.keeps_word R.File.never_fails) reading.entry job.entry.now.source.now result }
+{
+    match reading {
+        Reading::Look(look) => answered(job, &look.command(job.source.options), out, notes),
+        Reading::Diff(difference) => print_diff(job, difference, out, notes),
+        Reading::Copy(to) => recover_to(job, to, out, notes),
+        Reading::Report { to, changes } => report_to(job, (to, changes), out, notes),
+        Reading::Salvage { to, places } => salvage_to(job, (to, places), out, notes),
+    }
+}
+
+/// What a reading of these files comes to. If it isn't known which database was there at a commit, a note says why.
 fn read_from<R: Files + AllocGlobal + Clock, O: Write, E: Write>(
     rt: &R,
     reading: Reading<'_>,
@@ -206,22 +232,71 @@ where
         source,
         meter: &meter,
     };
-    match reading {
-        Reading::Look(look) => answered(&job, &look.command(source.options), out, notes),
-        Reading::Diff(difference) => print_diff(&job, difference, out, notes),
-        Reading::Copy(to) => recover_to(&job, to, out, notes),
-        Reading::Report { to, changes } => report_to(&job, (to, changes), out, notes),
-        Reading::Salvage { to, places } => salvage_to(&job, (to, places), out, notes),
+    let answer = read_by(&job, reading, out, notes);
+    if matches!(answer, Err(ShowError::Refused(Refusal::CommitOverwritten))) {
+        tell_overwritten(&job, reading.commits(source.options.at), notes);
+    }
+    answer
+}
+
+/// What a reading of these files comes to that is printed once more: what was given before is passed over. Refused by
+/// `FileChanged` where it doesn't begin with that.
+fn read_again<R: Files + AllocGlobal + Clock, O: Write, E: Write>(
+    rt: &R,
+    reading: Reading<'_>,
+    source: &Source<'_>,
+    given: Given,
+    out: &mut O,
+    notes: &mut Notes<'_, E>,
+) -> Result<Answer, ShowError>
+where
+    R::File: SystemFile,
+    ensures { ReadsTo (opened_bytes R.File.bytes)
+        (GivesBytes R.File.bytes R.File.keeps_word R.File.never_fails) reading.entry source.entry.now result
+        ⊎ (result ≡ Err (Refused FileChanged)) }
+{
+    let mut again = Again::new(out, given);
+    let answer = read_from(rt, reading, source, &mut again, notes);
+    again.settled(answer)
+}
+
+/// What a reading comes to of files whose database file locks keep as it is. Once its journal was changed, that file
+/// alone is read from its beginning, and what was printed before is passed over: the journal's writer never wrote that
+/// file, so both are the same database.
+fn read_journaled<R: Files + AllocGlobal + Clock, O: Write, E: Write>(
+    rt: &R,
+    reading: Reading<'_>,
+    source: Source<'_>,
+    out: &mut O,
+    notes: &mut Notes<'_, E>,
+) -> Result<Answer, ShowError>
+where
+    R::File: SystemFile,
+    requires { source.watch ≡ Undated }
+    ensures { IsReadTwice (opened_bytes R.File.bytes)
+        (GivesBytes R.File.bytes R.File.keeps_word R.File.never_fails) reading.entry source.entry result }
+{
+    match before_of(rt, &source.paths, source.watch, true, notes) {
+        Ok(before) => {
+            let mut same = WhileSame::new(rt, &source.paths, before, &mut *out);
+            let answer = read_from(rt, reading, &source, &mut same, notes);
+            let given = same.given_of(&answer);
+            drop(same);
+            match given {
+                Some(given) => read_again(rt, reading, &alone(source), given, out, notes),
+                None => answer,
+            }
+        }
+        Err(refusal) => Err(ShowError::Refused(refusal)),
     }
 }
 
-/// What a reading comes to under these locks. Where they keep the database file as it is, but its journal was changed,
-/// and nothing was printed yet, the file is read again without it.
+/// What a reading comes to under these locks.
 fn read_once<R: Files + AllocGlobal + Clock, O: Write, E: Write>(
     rt: &R,
     asked: &Read<'_>,
     locks: Locks,
-    out: &mut Begun<'_, O>,
+    out: &mut O,
     notes: &mut Notes<'_, E>,
 ) -> Result<Answer, ShowError>
 where
@@ -232,15 +307,10 @@ where
     let reading = asked.reading;
     let of = (asked.file, asked.options);
     match source_of(rt, of, reading.extent(), locks, notes) {
-        Ok(source) => {
-            let answer = read_from(rt, reading, &source, out, notes);
-            match source.watch {
-                Watch::Undated if out.is_to_be_read_again(&answer) => {
-                    read_from(rt, reading, &alone(source), out, notes)
-                }
-                _ => answer,
-            }
-        }
+        Ok(source) => match source.watch {
+            Watch::Undated => read_journaled(rt, reading, source, out, notes),
+            _ => read_from(rt, reading, &source, out, notes),
+        },
         Err(refusal) => Err(ShowError::Refused(refusal)),
     }
 }
@@ -308,8 +378,14 @@ where
         (O.contents out.old) (O.contents out.new) }
 {
     match task {
-        Task::Read(asked) => read_under(rt, &asked, under, out, notes),
-        Task::Recover(file, force, options) => recover(rt, (file, force, options), out, notes),
+        Task::Read(asked) => {
+            tell_lock(rt, asked.file, notes);
+            read_under(rt, &asked, under, out, notes)
+        }
+        Task::Recover(file, force, options) => {
+            tell_lock(rt, file, notes);
+            recover(rt, (file, force, options), out, notes)
+        }
         Task::Version => {
             line(out, &VERSION)?;
             Ok(Answer::Done)

@@ -7,15 +7,15 @@ use cli_dump::Wanted;
 use cli_job::{Command, Extent};
 use cli_report::Difference;
 use cli_show::{Asked, limits_of};
-use cli_words::{Cells, Options, Part, Request};
+use cli_words::{Cells, Deep, Options, Part, Request};
 use sqcheck::Options as Maps;
 
 /// What is looked for in the files.
 #[derive(Clone, Copy)]
 pub(crate) enum Look<'a> {
     Part(Part),
-    /// Whether also in what the pages hold.
-    Damage(bool),
+    /// Deep: also in what the pages hold.
+    Damage(Option<Deep>),
     Rows(Wanted<'a>),
     /// Where they stand.
     Places(Option<&'a str>),
@@ -75,7 +75,7 @@ impl<'a> Look<'a> {
             Look::Part(Part::Pages) => Command::Pages(asked_for(options, false)),
             Look::Part(part) => Command::Show(part),
             Look::Damage(deep) => Command::Check {
-                asked: asked_for(options, deep),
+                asked: asked_for(options, deep.is_some()),
                 deep,
             },
             Look::Rows(wanted) => Command::Rows(wanted),
@@ -97,6 +97,18 @@ impl<'a> Reading<'a> {
             | Reading::Copy(_)
             | Reading::Report { .. }
             | Reading::Salvage { .. } => Extent::One,
+        }
+    }
+
+    /// The commits that it reads, if one is asked for: that one, or both that are compared.
+    pub(crate) fn commits(self, at: Option<u32>) -> (u32, Option<u32>) {
+        match self {
+            Reading::Diff(Difference::Rows(compared)) => (compared.from, compared.to),
+            Reading::Diff(Difference::Deleted(between)) => (between.from, between.to),
+            Reading::Look(_)
+            | Reading::Copy(_)
+            | Reading::Report { .. }
+            | Reading::Salvage { .. } => (at.unwrap_or(0), None),
         }
     }
 

@@ -1,6 +1,6 @@
 -- What a deep check finds, as a caller has it.
-use Rattle.std.proofs.Common.{ℕ, true, List, refl, inl, inr, arith}
-use Rattle.std.specs.Prelude.{Result, Ok, Err, IfOk, IfErr}
+use Rattle.std.proofs.Common.{◌≡◌, ◌≢◌, ◌≤◌, ℕ, Bool, true, false, cond, List, length, refl, inl, inr, subst, arith}
+use Rattle.std.specs.Prelude.{◌&&◌, Result, Ok, Err, IfOk, IfErr}
 use Rattle.std.proofs.lemmas.Bool.{true≢false}
 use Rattle.sqval.specs.Database.{Database}
 use Rattle.sqview.specs.Verdicts.{IsUnjudgedWith}
@@ -8,20 +8,35 @@ use Rattle.sqview.specs.declared.judge_error.JudgeError.{JudgeError}
 use Rattle.sqview.specs.declared.judge_error.JudgeError.TheVariants as refusals
 use Rattle.sqview.specs.declared.view_error.ViewError.{ViewError}
 use Rattle.sqview.specs.declared.view_error.ViewError.TheVariants.{TwoLogs, TooLarge, Header, Unread, NoMemory, NoSuchCommit}
-use Rattle.sqdeepjudge.specs.Verdicts.{FindsDeep, deep_without}
+use Rattle.sqdeepjudge.specs.Verdicts.{FindsDeep, deep_without, is_damaged, is_in_part}
 use Rattle.sqdeepjudge.specs.declared.verdict.DeepVerdict.{DeepVerdict}
 use Rattle.sqpast.specs.declared.past_error.PastError.TheVariants.{Refused}
 use Rattle.sqrescue_c.specs.Statuses.{judge_status}
-use Rattle.sqrescue_c.specs.Asked.{ShowsAsked, AskedRefused}
-use Rattle.sqrescue_c.specs.Deeps.{IsAskedDeep, AreDeepUnjudged}
+use Rattle.sqview.specs.LogView.{pages_of}
+use Rattle.sqview.specs.declared.view.View.{View}
+use Rattle.sqview.proofs.openings.PagesOfView.{length_laid}
+use Rattle.sqdeepjudge.specs.Missing.{FindsCut, IsMissing, IsMissingOf, cut_of}
+use Rattle.sqdeepjudge.proofs.MissingPages.{least_same}
+use Rattle.sqrescue_c.specs.Asked.{HasPage, ShowsAsked, AskedRefused, is_complete}
+use Rattle.sqrescue_c.specs.Deeps.{IsAskedDeep, IsWholeOrCut, AreDeepUnjudged, deep_status}
+use Rattle.sqrescue_c.specs.internal.Missing.{AreMissing}
 use Rattle.sqrescue_c.proofs.ReportedFindings.{view_refused}
+
+-- a verdict's status is 0, 1 or 31
+one_of_three : (a b : Bool) (n : ℕ) → n ≡ cond a 1 (cond b 31 0) → 2 ≤ n → n ≢ 31 → ⊥
+one_of_three true b n is two other = omega (arith, is, two)
+one_of_three false true n is two other = other is
+one_of_three false false n is two other = omega (arith, is, two)
+
+pub no_other_status : (flags : ℕ) (verdict : DeepVerdict) (n : ℕ) → n ≡ deep_status flags verdict → 2 ≤ n → n ≢ 31 → ⊥
+no_other_status flags verdict n is two other = one_of_three (is_damaged verdict) (is_complete flags && is_in_part verdict) n is two other
 
 -- what is found of the database that is asked for
 module _ (flags m : ℕ) (db wal journal : List ℕ) where
   module _ (size : ℕ) (d : Database) (shown : ShowsAsked flags m size db wal journal d) where
-    pub asked : (r : Result DeepVerdict JudgeError) → IfOk r (FindsDeep true d size) → IfOk r (IsAskedDeep flags m db wal journal)
-    asked (Ok verdict) finds = inl (size, d, shown, finds)
-    asked (Err e) finds = tt
+    pub asked : (r : Result DeepVerdict JudgeError) → IfOk r (FindsDeep true d size) → IfOk r (IsWholeOrCut flags m size db wal journal d) → IfOk r (IsAskedDeep flags m db wal journal)
+    asked (Ok verdict) finds cut = inl (size, d, shown, finds, cut)
+    asked (Err e) finds cut = tt
 
     pub unjudged : (r : Result DeepVerdict JudgeError) → IfErr r (IsUnjudgedWith true d)
         → IfErr r (λ e. AreDeepUnjudged flags m db wal journal (judge_status e))
@@ -33,6 +48,15 @@ module _ (flags m : ℕ) (db wal journal : List ℕ) where
     unjudged (Err refusals.TooLarge) refused = absurd refused
     unjudged (Err refusals.NoSuchCommit) refused = absurd refused
     unjudged (Err refusals.Unread) refused = absurd refused
+
+  -- the page of a view that is missing
+  pub cut_asked : {F : Type 0} (bytes : F → List ℕ) (v : View F) (long : ℕ) (r : Result DeepVerdict JudgeError) → AreMissing flags m wal journal v → long ≡ length db
+      → IfOk r (FindsCut (IsMissingOf v long) (length (pages_of bytes v))) → IfOk r (IsWholeOrCut flags m v.page_size db wal journal (pages_of bytes v))
+  cut_asked bytes v long (Ok verdict) are is finds =
+      subst (λ (n : ℕ). FindsCut (IsMissing (HasPage flags m v.page_size wal journal) v.page_size n) (length (pages_of bytes v)) verdict) is
+      (least_same (IsMissingOf v long) (IsMissing (HasPage flags m v.page_size wal journal) v.page_size long) (length (pages_of bytes v)) (cut_of verdict)
+      (λ p one le. are long p one (let n = length_laid v.page_size v.count (bytes v.db) (bytes v.log) v.places.items in omega (arith, n, le))) finds)
+  cut_asked bytes v long (Err e) are is finds = tt
 
   pub without : (e : ViewError) → AskedRefused flags m db wal journal (Refused e) → IfOk (deep_without e) (IsAskedDeep flags m db wal journal)
   without (Header fault) refused = inr (fault, refl, refused)

@@ -1,9 +1,11 @@
 -- What is asked for by flags: a database at a commit, larger limits, pointer maps (own).
-use Rattle.std.specs.Prelude.{◌≡◌, ℕ, ◌/◌, ◌%◌, ◌<◌, Bool, true, false, cond, ◌==◌, List}
+use Rattle.std.specs.Prelude.{◌≡◌, ◌⊎◌, ℕ, ◌/◌, ◌%◌, ◌<◌, Bool, true, false, cond, ◌==◌, List}
 use Rattle.sqval.specs.Database.{Database}
 use Rattle.sqval.specs.Limits.{Bounds, usual, greatest}
 use Rattle.sqview.specs.LogView.{Views, ViewRefusedWithin}
+use Rattle.sqdeepjudge.specs.Missing.{IsInFrames, IsInLog}
 use Rattle.sqpast.specs.Files.{PastViews, PastRefusedWithin}
+use Rattle.sqpast.specs.Used.{used_part}
 use Rattle.sqpast.specs.declared.past_error.PastError.{PastError}
 use Rattle.sqpast.specs.declared.past_error.PastError.TheVariants.{Refused, CommitOverwritten}
 
@@ -29,10 +31,26 @@ pub record AreAskedFlags (flags : ℕ) : Type 0 where
   pub low : flags < 32
   pub no_others : flags % 4 ≡ 0
 
+-- the same and, of a deep check, that all is to be judged, 32
+abbrev pub is_complete : ℕ → Bool
+is_complete flags = is_set flags 32
+
+pub record AreDeepFlags (flags : ℕ) : Type 0 where
+  pub low : flags < 64
+  pub no_others : flags % 4 ≡ 0
+
 -- the database that the files show, or the one at commit frame m, or at 0, if that is asked for
-pub record ShowsAsked (flags m size : ℕ) (db wal journal : List ℕ) (d : Database) : Type 0 where
+pub record ShowsWhole (flags m size : ℕ) (db wal journal : List ℕ) (d : Database) : Type 0 where
   pub at : is_at flags ≡ true → PastViews m size db wal journal d
   pub shown : is_at flags ≡ false → Views size db wal journal d
+
+-- the pages of it that SQLite uses
+abbrev pub ShowsAsked : (flags m size : ℕ) (db wal journal : List ℕ) → Database → Type 0
+ShowsAsked flags m size db wal journal d = (whole : Database) × ShowsWhole flags m size db wal journal whole × (d ≡ used_part whole)
+
+-- The log has page p: a frame up to the commit that is asked for, otherwise the log that is current.
+abbrev pub HasPage : (flags m size : ℕ) (wal journal : List ℕ) → (p : ℕ) → Type 0
+HasPage flags m size wal journal p = ((is_at flags ≡ true) × IsInFrames size wal m p) ⊎ ((is_at flags ≡ false) × IsInLog size wal journal p)
 
 -- what refuses the database that the files show; no commit is asked for
 abbrev pub ShownRefused : (limits : Bounds) (db wal journal : List ℕ) → PastError → Type 0

@@ -33,12 +33,6 @@ pub record SaysDamaged (IsFound : Verdict → Type 0) (out : CheckReport) : Type
   pub numbered : out.fault ≡ number_of fault
   pub verdict : IsFound (Damaged (record { page = out.page; fault = fault }))
 
--- the refusal of this number
-pub record SaysUnjudged (AreUnjudged : JudgeError → Type 0) (number : ℕ) : Type 0 where
-  pub error : JudgeError
-  pub numbered : number ≡ judge_status error
-  pub unjudged : AreUnjudged error
-
 -- What is found of the database that flags ask for, by pointer maps or without; or the fault of a header that names none.
 abbrev pub IsAskedVerdict : (flags m : ℕ) (db wal journal : List ℕ) → Verdict → Type 0
 IsAskedVerdict flags m db wal journal verdict =

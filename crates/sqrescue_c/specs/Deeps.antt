@@ -1,5 +1,5 @@
 -- What a deep check of files answers.
-use Rattle.std.specs.Prelude.{◌≡◌, ◌⊎◌, ◌<◌, ℕ, true, cond, List, ◌++◌, length, get_or, Option, Some, None}
+use Rattle.std.specs.Prelude.{◌≡◌, ◌⊎◌, ◌<◌, ◌&&◌, ℕ, true, cond, List, ◌++◌, length, get_or, Option, Some, None}
 use Rattle.sqpage.specs.Faults.{number_of}
 use Rattle.sqpage.specs.declared.fault.Fault.{Fault}
 use Rattle.sqval.specs.Database.{Database}
@@ -9,13 +9,14 @@ use Rattle.sqindex.specs.IndexFaults as indexes
 use Rattle.sqindex.specs.RowFaults as tables
 use Rattle.sqview.specs.declared.view_error.ViewError.TheVariants.{Header}
 use Rattle.sqpast.specs.declared.past_error.PastError.TheVariants.{Refused}
-use Rattle.sqdeepjudge.specs.Verdicts.{FindsDeep, is_damaged}
-use Rattle.sqdeepjudge.specs.declared.verdict.Damage.TheVariants.{Check, Inner, Schema, Content, Row}
+use Rattle.sqdeepjudge.specs.Missing.{FindsCut, IsMissing}
+use Rattle.sqdeepjudge.specs.Verdicts.{FindsDeep, is_damaged, is_in_part}
+use Rattle.sqdeepjudge.specs.declared.verdict.Damage.TheVariants.{Cut, Check, Inner, Schema, Content, Row}
 use Rattle.sqdeepjudge.specs.declared.verdict.DeepVerdict.{DeepVerdict}
 use Rattle.sqdeepjudge.specs.declared.verdict.Unjudged.{Unjudged}
 use Rattle.sqdeepjudge.specs.declared.verdict.DeepVerdict.TheVariants.{Clean, Sound, Damaged}
 use Rattle.sqcheck.specs.declared.report.Report.{Report}
-use Rattle.sqrescue_c.specs.Asked.{ShowsAsked, AskedRefused}
+use Rattle.sqrescue_c.specs.Asked.{HasPage, ShowsAsked, AskedRefused, is_complete}
 use Rattle.sqrescue_c.specs.Checks.{IsViewRefused}
 use Rattle.sqrescue_c.specs.declared.deep.DeepAnswer.{DeepAnswer}
 use Rattle.sqrescue_c.specs.declared.deep.DeepReport.{DeepReport}
@@ -64,6 +65,7 @@ inner_at fault page (Some cell) = fault_at fault 3 page cell 0
 abbrev pub deep_report : DeepVerdict → DeepReport
 deep_report (Clean r) = counts_of r 0 0 0
 deep_report (Sound r schema unjudged) = counts_of r (length unjudged.indexes.items) (length unjudged.tables.items) (length schema.asides.items)
+deep_report (Damaged (Cut p)) = fault_at 36 1 p 0 0
 deep_report (Damaged (Check e)) = fault_at (number_of e.fault) 1 e.page 0 0
 deep_report (Damaged (Inner e)) = inner_at (inner.number_of e.fault) e.page e.cell
 deep_report (Damaged (Schema e)) = fault_at (schemas.number_of e.fault) 4 0 0 e.row
@@ -79,17 +81,27 @@ abbrev pub AreRowsToldOf : DeepVerdict → (rows : List ℕ) → Type 0
 AreRowsToldOf (Sound r schema unjudged) rows = (i : ℕ) → i < length rows → i < length (rows_of unjudged) → get_or rows i 0 ≡ get_or (rows_of unjudged) i 0
 AreRowsToldOf _ rows = Unit {0}
 
+-- The least page of a database that is missing is the fault, and no other fault is found if there is one.
+abbrev pub IsWholeOrCut : (flags m size : ℕ) (db wal journal : List ℕ) → Database → DeepVerdict → Type 0
+IsWholeOrCut flags m size db wal journal d verdict = FindsCut (IsMissing (HasPage flags m size wal journal) size (length db)) (length d) verdict
+
 -- What is found of the database that flags ask for, with its pointer maps, where there are some; or the fault of a header that
 -- names none.
 abbrev pub IsAskedDeep : (flags m : ℕ) (db wal journal : List ℕ) → DeepVerdict → Type 0
 IsAskedDeep flags m db wal journal verdict =
-    ((size : ℕ) × (d : Database) × ShowsAsked flags m size db wal journal d × FindsDeep true d size verdict)
+    ((size : ℕ) × (d : Database) × ShowsAsked flags m size db wal journal d × FindsDeep true d size verdict
+    × IsWholeOrCut flags m size db wal journal d verdict)
     ⊎ ((fault : Fault) × (verdict ≡ Damaged (Check (record { page = 1; fault = fault }))) × AskedRefused flags m db wal journal (Refused (Header fault)))
 
--- That is told: 0 of a sound database, 1 of a damaged one.
+-- The status of a verdict: 1 of a damaged database; 31 of a sound one where all is to be judged, and something that has to be
+-- isn't; otherwise 0.
+abbrev pub deep_status : (flags : ℕ) → DeepVerdict → ℕ
+deep_status flags verdict = cond (is_damaged verdict) 1 (cond (is_complete flags && is_in_part verdict) 31 0)
+
+-- That is told, with its status.
 abbrev pub IsDeepAnswer : (flags m : ℕ) (db wal journal : List ℕ) (status : ℕ) → DeepReport → (rows : List ℕ) → Type 0
 IsDeepAnswer flags m db wal journal status out rows =
-    (verdict : DeepVerdict) × IsAskedDeep flags m db wal journal verdict × (status ≡ cond (is_damaged verdict) 1 0)
+    (verdict : DeepVerdict) × IsAskedDeep flags m db wal journal verdict × (status ≡ deep_status flags verdict)
     × (out ≡ deep_report verdict) × AreRowsToldOf verdict rows
 
 -- how many things of a sound database aren't judged
@@ -97,11 +109,16 @@ abbrev pub left_of : DeepVerdict → ℕ
 left_of (Sound r schema unjudged) = length unjudged.all.items
 left_of _ = 0
 
+-- how many of its cells have a text that isn't one in its encoding
+abbrev pub ill_formed_of : DeepVerdict → ℕ
+ill_formed_of (Sound r schema unjudged) = unjudged.ill_formed
+ill_formed_of _ = 0
+
 -- The same is told, and how many these are.
 abbrev pub IsDeepAnswerAll : (flags m : ℕ) (db wal journal : List ℕ) (status : ℕ) → DeepAnswer → (rows : List ℕ) → Type 0
 IsDeepAnswerAll flags m db wal journal status answer rows =
-    (verdict : DeepVerdict) × IsAskedDeep flags m db wal journal verdict × (status ≡ cond (is_damaged verdict) 1 0)
-    × (answer.report ≡ deep_report verdict) × AreRowsToldOf verdict rows × (answer.left ≡ left_of verdict)
+    (verdict : DeepVerdict) × IsAskedDeep flags m db wal journal verdict × (status ≡ deep_status flags verdict)
+    × (answer.report ≡ deep_report verdict) × AreRowsToldOf verdict rows × (answer.left ≡ left_of verdict) × (answer.ill_formed ≡ ill_formed_of verdict)
 
 -- Why it isn't judged, by its number: what refuses its view, no memory too.
 abbrev pub AreDeepUnjudged : (flags m : ℕ) (db wal journal : List ℕ) → (number : ℕ) → Type 0

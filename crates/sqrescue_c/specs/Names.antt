@@ -39,4 +39,5 @@ status_name n =
     (if n == 28 then codes "disk full" else
     (if n == 29 then codes "shared process" else
     (if n == 30 then codes "commit overwritten" else
-    codes "?")))))))))))))))))))))))))))))))
+    (if n == 31 then codes "not judged" else
+    codes "?"))))))))))))))))))))))))))))))))

@@ -5,3 +5,4 @@ pub mod Journals
 pub mod Recoveries
 pub mod Indexes
 pub mod Plans
+pub mod Missing

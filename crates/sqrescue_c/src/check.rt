@@ -1,18 +1,17 @@
 //! Whether the database that files show is well formed.
 ghost use Rattle.std.specs.Prelude.{◌≡◌, ◌≢◌, ◌↔◌, ◌<◌, ◌≤◌, IfOk, IfErr};
 ghost use Rattle.sqpage.specs.Faults.{number_of};
-ghost use Rattle.sqview.specs.Verdicts.{IsVerdict, AreUnjudged};
 ghost use Rattle.sqrescue_c.specs.Asked.{at_commit, AreAskedFlags};
-ghost use Rattle.sqrescue_c.specs.Checks.{SaysClean, SaysDamaged, SaysUnjudged, IsAskedVerdict, AreAskedUnjudged};
+ghost use Rattle.sqrescue_c.specs.Checks.{SaysClean, SaysDamaged, IsAskedVerdict, AreAskedUnjudged};
 ghost use Rattle.sqrescue_c.specs.internal.Statuses.{number_of as status_number};
 
 use crate::asked::{AT, UNKNOWN_OPTIONS, are_known, options_of, view_asked};
-use crate::status::{Status, judge_number, with_status};
+use crate::status::{Status, with_status};
 use crate::view::Files;
 use sqcheck::Report;
 use sqpage::CheckError;
 use sqpast::PastError;
-use sqview::{Verdict, judge, judge_view_with, without_view};
+use sqview::{Verdict, judge_view_with, without_view};
 use std::alloc::Global;
 
 /// What a check finds: the counts of a well-formed database, with fault and page 0; or the fault's number and its
@@ -68,32 +67,6 @@ fn damaged(error: CheckError) -> CheckReport
     }
 }
 
-/// Whether the database that files show is well formed. Answers Done with its counts, or Damaged with a fault that
-/// stands, which a header that names no database is too; otherwise TwoLogs, TooLarge or AutoVacuum, in this order, or
-/// NoMemory in place of any, and then leaves the report as it is (fileformat2, 1 to 4).
-#[unsafe(no_mangle)]
-pub extern "C" fn sqr_check(alloc: Global, files: &Files<'_>, report: &mut CheckReport) -> u32
-    ensures clean { result ≡ 0
-        → SaysClean (IsVerdict files.now.db.now files.now.wal.now files.now.journal.now) report.new }
-    ensures damaged { result ≡ 1
-        → SaysDamaged (IsVerdict files.now.db.now files.now.wal.now files.now.journal.now) report.new }
-    ensures unjudged { 2 ≤ result
-        → SaysUnjudged (AreUnjudged files.now.db.now files.now.wal.now files.now.journal.now) result }
-    ensures kept { 2 ≤ result → report.new ≡ report.old }
-{
-    match judge(alloc, files.db, files.wal, files.journal) {
-        Ok(Verdict::Clean(found)) => {
-            *report = clean(found);
-            Status::Done.number()
-        }
-        Ok(Verdict::Damaged(error)) => {
-            *report = damaged(error);
-            Status::Damaged.number()
-        }
-        Err(error) => judge_number(error),
-    }
-}
-
 /// What a check finds of the database that is asked for.
 fn judge_asked(alloc: Global, files: &Files<'_>, flags: u32, frame: u32) -> Result<Verdict, Status>
     ensures found { IfOk result
@@ -136,6 +109,22 @@ fn report_asked(
         }
         Err(status) => status.number(),
     }
+}
+
+/// Whether the database that files show is well formed, by the pages that SQLite uses. Answers Done with its counts, or
+/// Damaged with a fault that stands, which a header that names no database is too; otherwise TwoLogs, TooLarge or
+/// AutoVacuum, in this order, or NoMemory in place of any, and then leaves the report as it is (fileformat2, 1 to 4).
+#[unsafe(no_mangle)]
+pub extern "C" fn sqr_check(alloc: Global, files: &Files<'_>, report: &mut CheckReport) -> u32
+    ensures clean { result ≡ 0 → SaysClean
+        (IsAskedVerdict 0 0 files.now.db.now files.now.wal.now files.now.journal.now) report.new }
+    ensures damaged { result ≡ 1 → SaysDamaged
+        (IsAskedVerdict 0 0 files.now.db.now files.now.wal.now files.now.journal.now) report.new }
+    ensures unjudged { 2 ≤ result → AreAskedUnjudged 0 0
+        files.now.db.now files.now.wal.now files.now.journal.now result }
+    ensures kept { 2 ≤ result → report.new ≡ report.old }
+{
+    report_asked(alloc, files, 0, 0, report)
 }
 
 /// The same of the database that files had at a commit frame of their write-ahead log, or at frame 0 before the first

@@ -2,13 +2,13 @@
 ghost use Rattle.std.specs.Prelude.{◌≡◌, ◌≢◌, ◌↔◌, ◌<◌, ◌≤◌, ℕ, length, get_or, IfOk, IfErr};
 ghost use Rattle.sqdeep.specs.Faults.{number_of as inner_number};
 ghost use Rattle.sqdeepjudge.specs.Verdicts.{is_damaged};
-ghost use Rattle.sqrescue_c.specs.Asked.{AreAskedFlags};
+ghost use Rattle.sqrescue_c.specs.Asked.{AreDeepFlags};
 ghost use Rattle.sqrescue_c.specs.Deeps.{AreDeepUnjudged, AreRowsToldOf, IsAskedDeep, IsDeepAnswer};
-ghost use Rattle.sqrescue_c.specs.Deeps.{IsDeepAnswerAll, left_of};
-ghost use Rattle.sqrescue_c.specs.Deeps.{counts_of, deep_report, fault_at, inner_at, rows_of};
+ghost use Rattle.sqrescue_c.specs.Deeps.{IsDeepAnswerAll, ill_formed_of, left_of};
+ghost use Rattle.sqrescue_c.specs.Deeps.{counts_of, deep_report, deep_status, fault_at, inner_at, rows_of};
 ghost use Rattle.sqrescue_c.specs.internal.Statuses.{number_of};
 
-use crate::asked::{UNKNOWN_OPTIONS, are_known, view_asked};
+use crate::asked::{UNKNOWN_OPTIONS, are_known_deep, is_complete, view_asked};
 use crate::status::{Status, with_status};
 use crate::view::Files;
 use sqcheck::{Options, Report};
@@ -16,6 +16,9 @@ use sqdeep::InnerError;
 use sqdeepjudge::{Damage, DeepVerdict, Unjudged, deep_without, judge_deep};
 use sqpast::PastError;
 use std::alloc::Global;
+
+/// The fault of a page that is missing.
+const FILE_CUT: u8 = 36;
 
 /// A fault names a page.
 const PAGE: u32 = 1;
@@ -53,12 +56,14 @@ pub struct DeepReport {
     pub asides: u64,
 }
 
-/// What a deep check finds, and how many things of a sound database it doesn't judge.
+/// What a deep check finds, how many things of a sound database it doesn't judge, and how many of its cells have a text
+/// that isn't one in its encoding.
 #[repr(C)]
 #[derive(Clone, Copy)]
 pub struct DeepAnswer {
     pub report: DeepReport,
     pub left: u64,
+    pub ill_formed: u64,
 }
 
 /// A fault, and where it is.
@@ -136,6 +141,7 @@ fn deep_report(verdict: &DeepVerdict) -> DeepReport
         DeepVerdict::Sound(report, schema, unjudged) => {
             sound_counts(report, unjudged, schema.asides.len())
         }
+        DeepVerdict::Damaged(Damage::Cut(page)) => fault_at(FILE_CUT, PAGE, *page, 0, 0),
         DeepVerdict::Damaged(Damage::Check(error)) => {
             fault_at(error.fault.number(), PAGE, error.page, 0, 0)
         }
@@ -200,6 +206,13 @@ fn tell_rows(verdict: &DeepVerdict, rows: &mut [u64])
     }
 }
 
+/// How many bytes the database file has.
+fn length_of(files: &Files<'_>) -> u64
+    ensures { result ≡ length files.now.db.now }
+{
+    files.db.len() as u64
+}
+
 /// What a deep check finds of the database that is asked for.
 fn judge_deep_asked(
     alloc: Global,
@@ -213,8 +226,9 @@ fn judge_deep_asked(
         files.now.db.now files.now.wal.now files.now.journal.now (number_of status)) }
 {
     let maps = Options { pointer_maps: true };
+    let long = length_of(files);
     match view_asked(alloc, files, flags, frame) {
-        Ok(mut view) => with_status(judge_deep(alloc, &mut view, maps)),
+        Ok(mut view) => with_status(judge_deep(alloc, &mut view, long, maps)),
         Err(PastError::Refused(error)) => with_status(deep_without(error)),
         Err(PastError::CommitOverwritten) => Err(Status::CommitOverwritten),
     }
@@ -223,9 +237,10 @@ fn judge_deep_asked(
 /// Whether the database that flags ask for, as for `sqr_check_with`, is well formed, and its records, its schema, its
 /// indexes and its tables are sound, with its pointer maps, where it has some. Answers Done with its counts, and the
 /// rows of the schema, from 0, of the indexes and then of the tables that aren't judged at the front of an array, as
-/// many as there is room for; or Damaged with a fault that stands; otherwise TwoLogs, TooLarge, NoSuchCommit or
-/// CommitOverwritten, in this order, or NoMemory in place of any, or 24 where a flag is another one, and then leaves
-/// the report as it is (fileformat2, 1 to 4).
+/// many as there is room for; with flag 32 NotJudged, and the same, if anything isn't judged but bodies of views and
+/// triggers; or Damaged with a fault that stands; otherwise TwoLogs, TooLarge, NoSuchCommit or CommitOverwritten, in
+/// this order, or NoMemory in place of any, or 24 where a flag is another one, and then leaves the report as it is
+/// (fileformat2, 1 to 4).
 #[unsafe(no_mangle)]
 pub extern "C" fn sqr_check_deep(
     alloc: Global,
@@ -237,15 +252,18 @@ pub extern "C" fn sqr_check_deep(
 ) -> u32
     ensures found { result ≤ 1 → IsDeepAnswer flags frame files.now.db.now files.now.wal.now files.now.journal.now
         result report.new rows.new }
-    ensures unjudged { 2 ≤ result → result ≢ 24 → AreDeepUnjudged flags frame
+    ensures in_part { result ≡ 31 → IsDeepAnswer flags frame files.now.db.now files.now.wal.now files.now.journal.now
+        result report.new rows.new }
+    ensures unjudged { 2 ≤ result → result ≢ 24 → result ≢ 31 → AreDeepUnjudged flags frame
         files.now.db.now files.now.wal.now files.now.journal.now result }
-    ensures known { (result ≢ 24) ↔ AreAskedFlags flags }
-    ensures kept { 2 ≤ result → report.new ≡ report.old }
-    ensures rows_kept { 2 ≤ result → rows.new ≡ rows.old }
+    ensures known { (result ≢ 24) ↔ AreDeepFlags flags }
+    ensures kept { 2 ≤ result → result ≢ 31 → report.new ≡ report.old }
+    ensures rows_kept { 2 ≤ result → result ≢ 31 → rows.new ≡ rows.old }
 {
     let mut answer = DeepAnswer {
         report: *report,
         left: 0,
+        ill_formed: 0,
     };
     let status = sqr_check_deep_all(alloc, files, flags, frame, rows, &mut answer);
     *report = answer.report;
@@ -262,9 +280,33 @@ fn left_of(verdict: &DeepVerdict) -> u64
     }
 }
 
-/// The same as `sqr_check_deep`, and with Done how many things it doesn't judge, 0 only if all is judged: indexes, also
-/// partial ones, tables, CHECKs, foreign keys, views, triggers and virtual tables; with Damaged 0. Otherwise the answer
-/// and the rows stay as they are.
+/// How many cells of a sound database have a text that isn't one in its encoding.
+fn ill_formed_of(verdict: &DeepVerdict) -> u64
+    ensures { result ≡ ill_formed_of verdict.now }
+{
+    match verdict {
+        DeepVerdict::Sound(_, _, unjudged) => unjudged.ill_formed,
+        DeepVerdict::Clean(_) | DeepVerdict::Damaged(_) => 0,
+    }
+}
+
+/// The status of a verdict.
+fn status_of(flags: u32, verdict: &DeepVerdict) -> Status
+    ensures { number_of result ≡ deep_status flags verdict.now }
+{
+    if verdict.is_damaged() {
+        Status::Damaged
+    } else if is_complete(flags) && verdict.is_in_part() {
+        Status::NotJudged
+    } else {
+        Status::Done
+    }
+}
+
+/// The same as `sqr_check_deep`, and with Done or NotJudged how many things it doesn't judge, 0 only if all is judged:
+/// indexes, also partial ones, tables, CHECKs, foreign keys, views, triggers and virtual tables; and how many cells
+/// have a text that isn't one in the database's encoding. With Damaged both are 0. Otherwise the answer and the rows
+/// stay as they are.
 #[unsafe(no_mangle)]
 pub extern "C" fn sqr_check_deep_all(
     alloc: Global,
@@ -276,13 +318,15 @@ pub extern "C" fn sqr_check_deep_all(
 ) -> u32
     ensures found { result ≤ 1 → IsDeepAnswerAll flags frame files.now.db.now files.now.wal.now files.now.journal.now
         result answer.new rows.new }
-    ensures unjudged { 2 ≤ result → result ≢ 24 → AreDeepUnjudged flags frame
+    ensures in_part { result ≡ 31 → IsDeepAnswerAll flags frame files.now.db.now files.now.wal.now files.now.journal.now
+        result answer.new rows.new }
+    ensures unjudged { 2 ≤ result → result ≢ 24 → result ≢ 31 → AreDeepUnjudged flags frame
         files.now.db.now files.now.wal.now files.now.journal.now result }
-    ensures known { (result ≢ 24) ↔ AreAskedFlags flags }
-    ensures kept { 2 ≤ result → answer.new ≡ answer.old }
-    ensures rows_kept { 2 ≤ result → rows.new ≡ rows.old }
+    ensures known { (result ≢ 24) ↔ AreDeepFlags flags }
+    ensures kept { 2 ≤ result → result ≢ 31 → answer.new ≡ answer.old }
+    ensures rows_kept { 2 ≤ result → result ≢ 31 → rows.new ≡ rows.old }
 {
-    if !are_known(flags) {
+    if !are_known_deep(flags) {
         return UNKNOWN_OPTIONS;
     }
     match judge_deep_asked(alloc, files, flags, frame) {
@@ -291,12 +335,9 @@ pub extern "C" fn sqr_check_deep_all(
             *answer = DeepAnswer {
                 report: deep_report(&verdict),
                 left: left_of(&verdict),
+                ill_formed: ill_formed_of(&verdict),
             };
-            if verdict.is_damaged() {
-                Status::Damaged.number()
-            } else {
-                Status::Done.number()
-            }
+            status_of(flags, &verdict).number()
         }
         Err(status) => status.number(),
     }

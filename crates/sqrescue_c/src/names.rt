@@ -61,6 +61,7 @@ fn name_of_status(status: u32) -> &'static str
         28 => "disk full",
         29 => "shared process",
         30 => "commit overwritten",
+        31 => "not judged",
         _ => "?",
     }
 }

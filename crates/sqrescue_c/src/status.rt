@@ -48,10 +48,12 @@ pub(crate) enum Status {
     PageSizesDiffer,
     /// A later checkpoint may have changed the database at the commit.
     CommitOverwritten,
+    /// The database is sound, but not all of it was judged.
+    NotJudged,
 }
 
 impl Status {
-    /// From Done, 0, to PageSizesDiffer, 16, in the order of the enum; then CommitOverwritten, 30.
+    /// From Done, 0, to PageSizesDiffer, 16, in the order of the enum; then CommitOverwritten, 30, and NotJudged, 31.
     pub(crate) fn number(self) -> u32
         ensures { result ≡ number_of self }
     {
@@ -74,6 +76,7 @@ impl Status {
             Status::SuperJournal => 15,
             Status::PageSizesDiffer => 16,
             Status::CommitOverwritten => 30,
+            Status::NotJudged => 31,
         }
     }
 }
@@ -119,13 +122,6 @@ fn judge_status(error: JudgeError) -> Status
         JudgeError::Unread | JudgeError::NoMemory => Status::NoMemory,
         JudgeError::NoSuchCommit => Status::NoSuchCommit,
     }
-}
-
-/// Its number.
-pub(crate) fn judge_number(error: JudgeError) -> u32
-    ensures { result ≡ judge_status error }
-{
-    judge_status(error).number()
 }
 
 /// A check's answer, whose refusal is a status.

@@ -1,6 +1,6 @@
 //! A database as SQLite 3.40.1 writes it, and each fault in it.
-use sqcheck::{Options, Report};
-use sqdeep::{DeepError, InnerError, InnerFault, check_deep};
+use sqcheck::Options;
+use sqdeep::{DeepError, InnerError, InnerFault, Inside, check_deep};
 use sqpage::SliceSource;
 use sqval::PageSize;
 use std::alloc::{AllocError, Global};
@@ -52,7 +52,7 @@ pub(crate) fn file_with(
 }
 
 /// What is found of a file so. None where it has no whole pages.
-fn found_with(alloc: Global, file: &[u8], options: Options) -> Option<Result<Report, DeepError>> {
+fn found_with(alloc: Global, file: &[u8], options: Options) -> Option<Result<Inside, DeepError>> {
     let size = PageSize::new(512)?;
     match SliceSource::new(file, size) {
         None => None,
@@ -61,7 +61,7 @@ fn found_with(alloc: Global, file: &[u8], options: Options) -> Option<Result<Rep
 }
 
 /// What is found of a file without pointer maps.
-fn found(alloc: Global, file: &[u8]) -> Option<Result<Report, DeepError>> {
+fn found(alloc: Global, file: &[u8]) -> Option<Result<Inside, DeepError>> {
     found_with(alloc, file, Options::PLAIN)
 }
 
@@ -80,13 +80,27 @@ fn fault_in(
     }
 }
 
+/// How many cells of such a file have a text that isn't one in its encoding. None where a fault is found.
+fn ill_formed_in(
+    alloc: Global,
+    pages: usize,
+    pieces: &[(usize, &[u8])],
+) -> Result<Option<u64>, AllocError> {
+    let file = file_with(alloc, pages, pieces)?;
+    match found(alloc, &file) {
+        Some(Ok(inside)) => Ok(Some(inside.ill_formed)),
+        _ => Ok(None),
+    }
+}
+
 #[test]
 fn a_sound_database(rt: HostRuntime) -> Result<(), Fail> {
     let file = file_with(rt.alloc(), 2, &[])?;
     match found(rt.alloc(), &file) {
-        Some(Ok(report)) => {
-            assert!(rt; report.pages == 2);
-            assert!(rt; report.trees == 2);
+        Some(Ok(inside)) => {
+            assert!(rt; inside.report.pages == 2);
+            assert!(rt; inside.report.trees == 2);
+            assert!(rt; inside.ill_formed == 0);
         }
         _ => assert!(rt; false),
     }
@@ -200,17 +214,24 @@ fn a_cell_of_three_bytes(rt: HostRuntime) -> Result<(), Fail> {
 fn payloads(rt: HostRuntime) -> Result<(), Fail> {
     let no_record = fault_in(rt.alloc(), 2, &[(1008, &[9])])?;
     assert!(rt; no_record == Some((InnerFault::NotRecord, 2, Some(2))));
-    let no_text = fault_in(rt.alloc(), 2, &[(1016, &[0xff])])?;
-    assert!(rt; no_text == Some((InnerFault::TextForm, 2, Some(1))));
-    // Five bytes, "table", are no text of UTF-16.
-    let odd = fault_in(rt.alloc(), 2, &[(59, &[2])])?;
-    assert!(rt; odd == Some((InnerFault::TextForm, 1, Some(0))));
+    Ok(())
+}
+
+#[test]
+fn texts(rt: HostRuntime) -> Result<(), Fail> {
+    let one = ill_formed_in(rt.alloc(), 2, &[(1016, &[0xff])])?;
+    assert!(rt; one == Some(1));
+    let both = ill_formed_in(rt.alloc(), 2, &[(1016, &[0xff]), (1022, &[0xff])])?;
+    assert!(rt; both == Some(2));
+    // "table" has five bytes, which are no text of UTF-16; the rows have two.
+    let odd = ill_formed_in(rt.alloc(), 2, &[(59, &[2])])?;
+    assert!(rt; odd == Some(1));
     Ok(())
 }
 
 #[test]
 fn faults_have_numbers_and_names(rt: HostRuntime) -> Result<(), Fail> {
-    assert!(rt; InnerFault::TextForm.number() == 43);
-    assert_eq!(rt; InnerFault::TextForm.name(), "TextForm");
+    assert!(rt; InnerFault::NotRecord.number() == 42);
+    assert_eq!(rt; InnerFault::NotRecord.name(), "NotRecord");
     Ok(())
 }

@@ -2,7 +2,7 @@
 use crate::deep_tests::file_with;
 use cli_facts::Refusal;
 use cli_show::Asked;
-use cli_show_deep::{judged_as, write_found};
+use cli_show_deep::{DeepFinding, judged_as, write_found};
 use cli_words::{Commit, Style};
 use sqcheck::Options as Maps;
 use sqdeep::InnerFault;
@@ -20,10 +20,15 @@ const ASKED: Asked = Asked {
     maps: Maps::PLAIN,
 };
 
-/// What is found of a file without logs.
-fn found(alloc: Global, deep: bool, file: &[u8]) -> Result<DeepVerdict, Refusal> {
+/// What is told of a file without logs.
+fn told(alloc: Global, deep: bool, file: &[u8]) -> Result<DeepFinding, Refusal> {
     let none = [].as_slice();
-    match judged_as(alloc, ASKED, deep, file, none, none) {
+    judged_as(alloc, ASKED, deep, file, none, none)
+}
+
+/// What is found of it.
+fn found(alloc: Global, deep: bool, file: &[u8]) -> Result<DeepVerdict, Refusal> {
+    match told(alloc, deep, file) {
         Ok(found) => Ok(found.verdict),
         Err(refusal) => Err(refusal),
     }
@@ -31,9 +36,9 @@ fn found(alloc: Global, deep: bool, file: &[u8]) -> Result<DeepVerdict, Refusal>
 
 /// The line of that.
 fn line(alloc: Global, style: Style, deep: bool, file: &[u8]) -> Option<Vec<u8>> {
-    let verdict = found(alloc, deep, file).ok()?;
+    let found = told(alloc, deep, file).ok()?;
     let mut out = Vec::new(alloc);
-    match write_found(&mut out, style, &verdict) {
+    match write_found(&mut out, style, &found.verdict, found.missing) {
         Ok(()) => Some(out),
         Err(_) => None,
     }
@@ -51,7 +56,7 @@ fn is_line(line: Option<Vec<u8>>, wanted: &[u8]) -> bool {
 fn viewed(alloc: Global, file: &[u8]) -> Result<DeepVerdict, JudgeError> {
     let none = [].as_slice();
     match View::new(alloc, file, none, none) {
-        Ok(mut view) => judge_deep(alloc, &mut view, Maps::PLAIN),
+        Ok(mut view) => judge_deep(alloc, &mut view, file.len() as u64, Maps::PLAIN),
         Err(_) => Err(JudgeError::Unread),
     }
 }
@@ -68,6 +73,15 @@ fn lines_of_files(rt: HostRuntime) -> Result<(), Fail> {
     let damaged = file_with(alloc, 2, &[(1008, &[9])])?;
     let fault = b"{\"page\":2,\"cell\":2,\"fault\":42,\"name\":\"NotRecord\"}\n";
     assert!(rt; is_line(line(alloc, Style::Json, true, &damaged), fault));
+    // The second page lacks its last byte, which the check takes as zero.
+    let mut cut = sound;
+    let _ = cut.pop();
+    let fault = b"{\"page\":2,\"fault\":36,\"name\":\"FileCut\"}\n";
+    assert!(rt; is_line(line(alloc, Style::Json, true, &cut), fault));
+    let missing =
+        b"{\"check\":\"clean\",\"pages\":2,\"trees\":2,\"b-tree\":2,\"overflow\":0,\"free\":0,\"missing\":2}\n";
+    assert!(rt; is_line(line(alloc, Style::Json, false, &cut), missing));
+    assert!(rt; is_line(line(alloc, Style::Lines, false, &cut), clean));
     Ok(())
 }
 
@@ -131,7 +145,7 @@ fn a_text_that_is_not_understood(rt: HostRuntime) -> Result<(), Fail> {
     assert!(rt; is_line(line(alloc, Style::Lines, true, &file), text));
     let text =
         b"{\"check\":\"clean\",\"records\":\"sound\",\"schema\":\"sound\",\"indexes\":\"in part\",\
-                 \"pages\":2,\"trees\":2,\"b-tree\":2,\"overflow\":0,\"free\":0,\"not_judged\":[\
+                 \"pages\":2,\"trees\":2,\"b-tree\":2,\"overflow\":0,\"free\":0,\"ill_formed\":0,\"not_judged\":[\
                  {\"kind\":\"table\",\"name\":\"t\",\"table\":\"t\",\"why\":\"rows\"}],\"not_judged_count\":1}\n";
     assert!(rt; is_line(line(alloc, Style::Json, true, &file), text));
     Ok(())

@@ -6,13 +6,19 @@ use Rattle.std.specs.List.{Contains}
 use Rattle.cli_words.specs.declared.requests.Cells.{Cells}
 use Rattle.cli_words.specs.declared.requests.Between.{Between}
 use Rattle.cli_words.specs.declared.requests.Compared.{Compared}
+use Rattle.cli_words.specs.declared.requests.Deep.{Deep}
 use Rattle.cli_words.specs.declared.requests.Options.{Options}
 use Rattle.cli_words.specs.declared.requests.Request.{Request}
-use Rattle.cli_words.specs.declared.requests.Request.TheVariants.{Report, Rows, Cells as TellsCells, Diff, DeletedDiff, Salvage}
+use Rattle.cli_words.specs.declared.requests.Request.TheVariants.{Check, Report, Rows, Cells as TellsCells, Diff, DeletedDiff, Salvage}
 use Rattle.cli_words.specs.declared.requests.RowForm.{RowForm}
-use Rattle.cli_words.specs.declared.words.Own.TheVariants.{Reports, Prints, Compares, Salvages}
+use Rattle.cli_words.specs.declared.words.Own.TheVariants.{Checks, Reports, Prints, Compares, Salvages}
 use Rattle.cli_words.specs.Line.{HasNoText, HasText, AreKnown, AsksCells, AsksCompared, AsksForm, AsksNoCells, AsksNoForm, AsksNoPlaces}
-use Rattle.cli_words.specs.Line.{AsksBetween, AsksNothingCompared, AsksText}
+use Rattle.cli_words.specs.Line.{AsksBetween, AsksDeep, AsksNothingCompared, AsksText}
+
+-- the options of `check` say this: which deep check, if any, and what else is asked
+abbrev pub IsCheck : (options : List (List ℕ)) → (file : Bor (List ℕ)) → Options → Request → Type 0
+IsCheck options file o request = AreKnown Checks options
+    × ((deep : Option Deep) × AsksDeep options deep × (request ≡ Check file deep o))
 
 -- the options of a report say this: the file that it makes, whether it has changes of rows, and what else is asked
 abbrev pub IsReport : (options : List (List ℕ)) → (file : Bor (List ℕ)) → Options → Request → Type 0

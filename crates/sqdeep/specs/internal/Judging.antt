@@ -18,12 +18,12 @@ use Rattle.sqcheck.specs.declared.role.Role.TheVariants.{Btree}
 use Rattle.sqcheck.specs.Places.{page_as, IsCellAt}
 use Rattle.sqcheck.specs.Roles.{HasRole}
 use Rattle.sqdeep.specs.declared.fault.InnerFault.{InnerFault}
-use Rattle.sqdeep.specs.declared.fault.InnerFault.TheVariants.{TooLong, NotRecord, TextForm}
+use Rattle.sqdeep.specs.declared.fault.InnerFault.TheVariants.{TooLong, NotRecord}
 use Rattle.sqdeep.specs.declared.fault.DeepError.{DeepError}
 use Rattle.sqdeep.specs.declared.fault.DeepError.TheVariants.{Check, Inner}
 use Rattle.sqdeep.specs.declared.text.Encoding.{Encoding}
 use Rattle.sqdeep.specs.Pages.{IsTidyPage}
-use Rattle.sqdeep.specs.Records.{IsFormed, encoding_of, IsSoundCell, CellRefused}
+use Rattle.sqdeep.specs.Records.{IsFormed, IsSoundCell, CellRefused}
 use Rattle.sqdeep.specs.Inside.{IsOfTree, StandsInside}
 
 -- A source has these pages, of this size, still, and reads them right and gives them if it did.
@@ -35,15 +35,23 @@ pub record SameSource (pages : Database) (size : ℕ) (right given : Type 0) (pa
   pub still_given : given → given_now
 
 -- What is wrong with a payload.
-abbrev pub RecordRefused : Encoding → (bytes : List ℕ) → InnerFault → Type 0
-RecordRefused encoding bytes TooLong = most_bytes < length bytes
-RecordRefused encoding bytes NotRecord = (values : List Datum) → ¬ IsRecord values bytes
-RecordRefused encoding bytes TextForm = (values : List Datum) × IsRecord values bytes × ¬ Every (IsFormed encoding) values
-RecordRefused encoding bytes _ = ⊥
+abbrev pub RecordRefused : (bytes : List ℕ) → InnerFault → Type 0
+RecordRefused bytes TooLong = most_bytes < length bytes
+RecordRefused bytes NotRecord = (values : List Datum) → ¬ IsRecord values bytes
+RecordRefused bytes _ = ⊥
+
+-- The bytes are a record, whose texts are formed.
+abbrev pub IsFormedRecord : Encoding → (bytes : List ℕ) → Type 0
+IsFormedRecord encoding bytes = (values : List Datum) × IsRecord values bytes × Every (IsFormed encoding) values
+
+-- They are a record, and a text of it isn't formed; or all are.
+abbrev pub HasForm : (is_ill : Bool) → Encoding → (bytes : List ℕ) → Type 0
+HasForm true encoding bytes = (values : List Datum) × IsRecord values bytes × ¬ Every (IsFormed encoding) values
+HasForm false encoding bytes = IsFormedRecord encoding bytes
 
 -- What is told of the payload of cell i of its page.
-abbrev pub PayloadTells : Encoding → Cell → (i : ℕ) → (bytes : List ℕ) → DeepError → Type 0
-PayloadTells encoding cell i bytes e = (fault : InnerFault) × (e ≡ Inner (record { fault = fault; page = cell.page; cell = Some i })) × RecordRefused encoding bytes fault
+abbrev pub PayloadTells : Cell → (i : ℕ) → (bytes : List ℕ) → DeepError → Type 0
+PayloadTells cell i bytes e = (fault : InnerFault) × (e ≡ Inner (record { fault = fault; page = cell.page; cell = Some i })) × RecordRefused bytes fault
 
 -- A cell in a page of at most so many bytes.
 pub record IsWithinPage (size : ℕ) (cell : Cell) : Type 0 where
@@ -56,9 +64,9 @@ abbrev pub IsCutOff : (given : Type 0) → CheckError → Type 0
 IsCutOff given e = (e.fault ≢ checks.Source → e.fault ≡ checks.NoMemory) × (e.fault ≡ checks.Source → ¬ given)
 
 -- Why a cell isn't found sound.
-abbrev pub CellTells : (given : Type 0) → Encoding → Database → Cell → (i : ℕ) → DeepError → Type 0
-CellTells given encoding d cell i (Check e) = IsCutOff given e
-CellTells given encoding d cell i (Inner e) = (e.page ≡ cell.page) × (e.cell ≡ Some i) × CellRefused encoding d cell e.fault
+abbrev pub CellTells : (given : Type 0) → Database → Cell → (i : ℕ) → DeepError → Type 0
+CellTells given d cell i (Check e) = IsCutOff given e
+CellTells given d cell i (Inner e) = (e.page ≡ cell.page) × (e.cell ≡ Some i) × CellRefused d cell e.fault
 
 -- Why a part of the database isn't found sound.
 abbrev pub Tells : (given : Type 0) → Database → DeepError → Type 0
@@ -80,12 +88,12 @@ SaysRoot false root p = root ≢ p
 
 -- The first n cells of a page are sound.
 abbrev pub AreSoundCells : Database → Page → (n : ℕ) → Type 0
-AreSoundCells d b n = (i : ℕ) (cell : Cell) → i < n → IsCellAt b i cell → IsSoundCell (encoding_of d) d cell
+AreSoundCells d b n = (i : ℕ) (cell : Cell) → i < n → IsCellAt b i cell → IsSoundCell d cell
 
 -- The page and all of its cells are sound.
 pub record IsSoundPage (d : Database) (b : Page) (root : ℕ) : Type 0 where
   pub tidy : IsTidyPage b root
-  pub cells : (i : ℕ) (cell : Cell) → IsCellAt b i cell → IsSoundCell (encoding_of d) d cell
+  pub cells : (i : ℕ) (cell : Cell) → IsCellAt b i cell → IsSoundCell d cell
 
 -- page p, where it is one of a tree, and all of its cells are sound
 abbrev pub IsSoundAt : Database → (p : ℕ) → Type 0

@@ -1,6 +1,6 @@
 -- What a deep check finds behind a check (own). No public contract cites these words.
 use Rattle.std.specs.Prelude.{◌≡◌, Result, Ok, Err}
-use Rattle.sqcheck.specs.declared.report.Report.{Report}
+use Rattle.sqdeep.specs.declared.deep.Inside.{Inside}
 use Rattle.sqview.specs.declared.judge_error.JudgeError.{JudgeError}
 use Rattle.sqview.specs.declared.judge_error.JudgeError.TheVariants as judgments
 use Rattle.sqcontents.specs.declared.error.ContentsError.{ContentsError}
@@ -9,9 +9,9 @@ use Rattle.sqdeepjudge.specs.declared.verdict.Damage.TheVariants.{Schema, Conten
 use Rattle.sqdeepjudge.specs.declared.verdict.DeepVerdict.{DeepVerdict}
 use Rattle.sqdeepjudge.specs.declared.verdict.DeepVerdict.TheVariants as deep
 
--- it is one of a database that is sound inside, of which this is the report
-abbrev pub IsBehind : Report → DeepVerdict → Type 0
-IsBehind r (deep.Sound report schema unjudged) = report ≡ r
+-- it is one of a database that is sound inside, of which this is told
+abbrev pub IsBehind : Inside → DeepVerdict → Type 0
+IsBehind r (deep.Sound report schema unjudged) = (report ≡ r.report) × (unjudged.ill_formed ≡ r.ill_formed)
 IsBehind r (deep.Damaged (Schema e)) = Unit {0}
 IsBehind r (deep.Damaged (Content e)) = Unit {0}
 IsBehind r (deep.Damaged (Row e)) = Unit {0}

@@ -75,7 +75,7 @@ module _ (size : ℕ) (file w : List ℕ) (count most : ℕ) (places : List ℕ)
   unfolding laid_page
   same_place p one within = ap (λ n. cond (n == 0) (file_page size file p) (part_or_zeros size n w)) (get_or-take count places (p - 1) 0 (omega arith))
 
-  short_page : (p : ℕ) → 1 ≤ p → p ≤ count → page short p ≡ page whole p
+  pub short_page : (p : ℕ) → 1 ≤ p → p ≤ count → page short p ≡ page whole p
   short_page p one within = page_laid size count file w (take count places) p one within ∙ same_place p one within ∙ sym (page_laid size most file w places p one (omega arith))
 
   module _ (m : ℕ) (one : 1 ≤ m) (commit : IsCommit size w m) (view : IsView size file w m whole) (count_is : count ≡ used most (page whole 1)) where

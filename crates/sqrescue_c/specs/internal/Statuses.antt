@@ -22,3 +22,4 @@ number_of statuses.LogVersion = 14
 number_of statuses.SuperJournal = 15
 number_of statuses.PageSizesDiffer = 16
 number_of statuses.CommitOverwritten = 30
+number_of statuses.NotJudged = 31

@@ -1,7 +1,7 @@
-use Rattle.std.proofs.Common.{inr, rules}
+use Rattle.std.proofs.Common.{rules}
 use Rattle.cli_files.specs.Files.{opened_bytes}
 use Rattle.cli_job.specs.Opened.{GivesBytes}
-use Rattle.cli_report.proofs.DiffsOfFiles.{diffs_stand}
+use Rattle.cli_report.proofs.DiffsOfFiles.{from_refused, from_stands}
 use Rattle.cli_report.proofs.diffs.changes_standing.Goals as goal
 
 pub returns : goal.returns
@@ -9,7 +9,10 @@ returns g c =
     let bytes = opened_bytes g.R.File.SystemFile.bytes in
     let gives = GivesBytes g.R.File.SystemFile.bytes g.R.File.SystemFile.keeps_word g.R.File.SystemFile.never_fails in
     let source = c.args.job.now.source.now in
-    diffs_stand bytes gives source c.args.difference c.changes_now-printed.result c.standing.result c.changes_now-printed.ensures c.standing.ensures
+    from_stands bytes gives source c.args.difference c.changes_from-printed.result c.standing.result c.changes_from-printed.ensures c.standing.ensures
 
 pub returns-in_err-before : goal.returns-in_err-before
-returns-in_err-before g c = inr (search rules)
+returns-in_err-before g c =
+    let bytes = opened_bytes g.R.File.SystemFile.bytes in
+    let gives = GivesBytes g.R.File.SystemFile.bytes g.R.File.SystemFile.keeps_word g.R.File.SystemFile.never_fails in
+    from_refused bytes gives c.args.job.now.source.now c.args.difference c.from_residual.result (search rules)

@@ -3,7 +3,7 @@ use Rattle.sqval.specs.Limits.{Bounds}
 use Rattle.cli_words.specs.Commits.{commit_named}
 use Rattle.cli_words.specs.declared.requests.Commit.{Commit}
 use Rattle.cli_show.specs.Limits.{limits_named}
-use Rattle.cli_show.specs.Views.{IsAskedView, AskedRefused}
+use Rattle.cli_show.specs.Views.{IsWholeView, AskedRefused}
 use Rattle.cli_show.proofs.cells.asked_view.Goals as goal
 
 pub returns-in-Err-clause-answer : goal.returns-in-Err-clause-answer
@@ -21,5 +21,5 @@ returns-in-Ok-clause-answer g c = λ given.
     let db = bytes c.args.files.db in
     let wal = bytes c.args.files.wal in
     let journal = bytes c.args.files.journal in
-    let shown = subst (λ (l : Bounds). IsAskedView l bytes c.commit.result db wal journal c.in-Ok.view) c.limits_of.ensures (c.in-Ok.ensures.answer given) in
-    subst (λ (at : Commit). IsAskedView (limits_named c.args.options.large) bytes at db wal journal c.in-Ok.view) c.commit.ensures shown
+    let shown = subst (λ (l : Bounds). IsWholeView l bytes c.commit.result db wal journal c.in-Ok.view) c.limits_of.ensures (c.in-Ok.ensures.answer given) in
+    subst (λ (at : Commit). IsWholeView (limits_named c.args.options.large) bytes at db wal journal c.in-Ok.view) c.commit.ensures shown

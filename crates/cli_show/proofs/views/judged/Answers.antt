@@ -1,4 +1,5 @@
-use Rattle.cli_show.proofs.Findings.{view_found, view_front, view_refused, none_found, none_front, none_refused}
+use Rattle.cli_show.specs.Views.{AreAskedCounts}
+use Rattle.cli_show.proofs.Findings.{counted_by, uncounted_by, view_found, view_front, view_refused, none_found, none_front, none_refused}
 use Rattle.cli_show.proofs.views.judged.Goals as goal
 
 pub returns-in-Ok-clause-found : goal.returns-in-Ok-clause-found
@@ -6,19 +7,24 @@ returns-in-Ok-clause-found g c = λ gives.
     let bytes = g.F.FileBytes.bytes in
     let a = c.args.asked in
     let still = c.in-Ok.ensures.still_gives gives in
-    view_found a.maps.pointer_maps a.limits bytes (bytes c.args.db) (bytes c.args.wal) (bytes c.args.journal) a.at c.in-Ok.view c.of_view-front.result c.judge_view_with.result c.as_found.result
-    (c.in-Ok.ensures.answer gives) c.as_found.ensures.ok (c.judge_view_with.ensures.found (g.met.F.FileBytes.right c.in-Ok.view.db still.0, g.met.F.FileBytes.right c.in-Ok.view.log still.1))
+    view_found a.maps.pointer_maps a.limits bytes (bytes c.args.db) (bytes c.args.wal) (bytes c.args.journal) a.at c.in-Ok.used.view c.of_view-front.result c.judge_view_with-found.result c.as_found.result
+    (c.in-Ok.ensures.answer gives) c.as_found.ensures.ok (c.judge_view_with-found.ensures.found (g.met.F.FileBytes.right c.in-Ok.used.view.db still.0, g.met.F.FileBytes.right c.in-Ok.used.view.log still.1))
 
 pub returns-in-Ok-clause-front : goal.returns-in-Ok-clause-front
 returns-in-Ok-clause-front g c = λ gives.
     let bytes = g.F.FileBytes.bytes in
     let a = c.args.asked in
-    view_front a.maps.pointer_maps a.limits bytes (bytes c.args.db) (bytes c.args.wal) (bytes c.args.journal) a.at c.in-Ok.view c.of_view-front.result c.judge_view_with.result c.as_found.result
+    view_front a.maps.pointer_maps a.limits bytes (bytes c.args.db) (bytes c.args.wal) (bytes c.args.journal) a.at c.in-Ok.used.view c.of_view-front.result c.judge_view_with-found.result c.as_found.result
     (c.in-Ok.ensures.answer gives) c.as_found.ensures.ok c.of_view-front.ensures
 
 pub returns-in-Ok-clause-refused : goal.returns-in-Ok-clause-refused
 returns-in-Ok-clause-refused g c = λ gives.
     let bytes = g.F.FileBytes.bytes in
     let a = c.args.asked in
-    view_refused a.maps.pointer_maps a.limits bytes (bytes c.args.db) (bytes c.args.wal) (bytes c.args.journal) a.at c.in-Ok.view c.of_view-front.result c.judge_view_with.result c.as_found.result
-    (c.in-Ok.ensures.answer gives) c.as_found.ensures.err (c.judge_view_with.ensures.refused (c.in-Ok.ensures.still_gives gives))
+    view_refused a.maps.pointer_maps a.limits bytes (bytes c.args.db) (bytes c.args.wal) (bytes c.args.journal) a.at c.in-Ok.used.view c.of_view-front.result c.judge_view_with-found.result c.as_found.result
+    (c.in-Ok.ensures.answer gives) c.as_found.ensures.err (c.judge_view_with-found.ensures.refused (c.in-Ok.ensures.still_gives gives))
+
+pub returns-in-Ok-clause-counts : goal.returns-in-Ok-clause-counts
+returns-in-Ok-clause-counts g c = λ gives.
+    let bytes = g.F.FileBytes.bytes in
+    counted_by (AreAskedCounts c.args.asked.at (bytes c.args.db) (bytes c.args.wal) (bytes c.args.journal)) c.in-Ok.used.counts c.as_found.result (c.in-Ok.ensures.counts gives) c.as_found.ensures.counts

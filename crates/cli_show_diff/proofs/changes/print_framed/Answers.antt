@@ -22,12 +22,13 @@ returns-in-Err-print_begun-clause-err g c = λ gives too.
     let d = g.S.PageSource.pages c.args.old.now in
     let e = g.T.PageSource.pages c.args.new.now in
     let old = g.W.Write.contents c.args.out.now in
-    let new = g.W.Write.contents c.print_begun.new.out in
+    let mid = g.W.Write.contents c.print_begun.new.out in
+    let new = g.W.Write.contents c.stopped.new.out in
     let asked = c.args.asked in
     let names = texts_of asked.selected.names.now in
     let stop = c.in-Err-print_begun.stop in
-    let it = subst (λ (t : List ℕ). AreBegunStopped d e asked.schemas names asked.form t stop old new) c.deref.ensures.value (c.in-Err-print_begun.ensures.err gives too) in
-    begun_stopped d e asked.schemas names asked.form asked.encoding c.in-Ok.frame c.in-Ok.ensures.ok stop old new it
+    let it = subst (λ (t : List ℕ). AreBegunStopped d e asked.schemas names asked.form t stop old mid) c.deref.ensures.value (c.in-Err-print_begun.ensures.err gives too) in
+    begun_stopped d e asked.schemas names asked.form asked.encoding c.in-Ok.frame c.in-Ok.ensures.ok stop c.stopped.result old mid new it c.stopped.ensures
 
 pub returns-in-Ok-write_all-clause-ok : goal.returns-in-Ok-write_all-clause-ok
 returns-in-Ok-write_all-clause-ok g c = λ gives too.

@@ -1,6 +1,5 @@
-use Rattle.std.proofs.Common.{List, ℕ, ◌≡◌, ◌∙◌, length, ap, sym, subst}
+use Rattle.std.proofs.Common.{List, ℕ, ◌≡◌, ◌∙◌, length, ap, inl, sym, subst}
 use Rattle.std.specs.Io.KnownBytes.{Appends}
-use Rattle.std.proofs.lemmas.Result.{IfOk-weaker}
 use Rattle.sqval.specs.Database.{Database}
 use Rattle.sqdeep.specs.declared.text.Encoding.{Encoding}
 use Rattle.sqdeep.specs.Records.{encoding_of}
@@ -9,12 +8,13 @@ use Rattle.sqsalvage.specs.SalvageCursor.{IsOver}
 use Rattle.cli_show_rows.specs.Dumps.{start_text}
 use Rattle.cli_show_salvage.specs.Faults.{AreFirstsWritten}
 use Rattle.cli_show_salvage.specs.Leaves.{IsTreeTold}
-use Rattle.cli_show_salvage.specs.Scripts.{AreRowsSalvaged, IsSalvaged}
+use Rattle.cli_show_salvage.specs.Scripts.{AreRowsSalvaged}
 use Rattle.cli_show_salvage.proofs.Kept.{kept_more}
+use Rattle.cli_show_salvage.proofs.RunOut.{ended_so}
 use Rattle.cli_show_salvage.proofs.salvage.print_damaged.Goals as goal
 
-pub returns-in-Ok-print_tree-clause-ok : goal.returns-in-Ok-print_tree-clause-ok
-returns-in-Ok-print_tree-clause-ok g c = λ gives has.
+pub returns-in-Ok-print_rows-clause-ok : goal.returns-in-Ok-print_rows-clause-ok
+returns-in-Ok-print_rows-clause-ok g c = λ gives has.
     let P = g.S.PageSource in
     let d = P.pages c.args.source.now in
     let begun = c.in-Ok.ensures in
@@ -35,8 +35,9 @@ returns-in-Ok-print_tree-clause-ok g c = λ gives has.
     let over = subst (λ (x : Database). IsOver x salvage) (sym one.same_pages) (begun.ok gives).0 in
     let over_moved = subst (λ (x : Database). IsOver x moved) (sym tree.keeps.same_pages) (tree.over (one.still_gives gives) over) in
     let all : c.count.result ≡ length d = c.count.ensures ∙ ap (λ (x : Database). length x) one.same_pages in
-    IfOk-weaker c.print_rows.result (λ left. AreRowsSalvaged (P.pages c.print_tree.new.source) c.in-Ok-encoding_of.encoding c.args.places c.deref.result.now moved.marks.items left schema_done after)
-    (λ left. IsSalvaged d (P.size c.args.source.now) c.args.places left before after) (λ left rows. record {
+    let left = c.in-Ok-print_rows.left in
+    let rows = c.in-Ok-print_rows.ensures.ok (both.still_gives gives) over_moved in
+    record {
       first_done = opened.0;
       first = subst (λ (e : Encoding). Appends before opened.0 (start_text e)) is opened.1;
       faults_done = faults_done;
@@ -56,4 +57,30 @@ returns-in-Ok-print_tree-clause-ok g c = λ gives has.
       rows = subst (λ (e : Encoding). AreRowsSalvaged d e c.args.places read.objects.items moved.marks.items left schema_done after) is
           (subst (λ (os : List Object). AreRowsSalvaged d c.in-Ok-encoding_of.encoding c.args.places os moved.marks.items left schema_done after) c.deref.ensures.value
           (subst (λ (x : Database). AreRowsSalvaged x c.in-Ok-encoding_of.encoding c.args.places c.deref.result.now moved.marks.items left schema_done after) both.same_pages rows));
-    }) (c.print_rows.ensures.ok (both.still_gives gives) over_moved)
+    }
+
+pub returns-in-Err-print_tree-clause-err : goal.returns-in-Err-print_tree-clause-err
+returns-in-Err-print_tree-clause-err g c = λ gives.
+    let P = g.S.PageSource in
+    let begun = c.in-Ok.ensures in
+    let salvage = c.in-Ok.salvage in
+    let one = kept_more P.pages P.size P.reads_right P.gives_pages c.args.source.now c.new.new.source c.encoding_of.new.source begun.keeps c.in-Ok-encoding_of.ensures.keeps in
+    let over = subst (λ (x : Database). IsOver x salvage) (sym one.same_pages) (begun.ok gives).0 in
+    let mid = g.W.Write.contents c.print_tree.new.out in
+    let after = g.W.Write.contents c.stopped_script.new.out in
+    inl (ended_so c.in-Err-print_tree.stop c.stopped_script.result mid after (c.in-Err-print_tree.ensures.err (one.still_gives gives) over) c.stopped_script.ensures)
+
+pub returns-clause-err : goal.returns-clause-err
+returns-clause-err g c = λ gives.
+    let P = g.S.PageSource in
+    let begun = c.in-Ok.ensures in
+    let salvage = c.in-Ok.salvage in
+    let moved = c.print_tree.new.salvage in
+    let tree = c.in-Ok-print_tree.ensures in
+    let one = kept_more P.pages P.size P.reads_right P.gives_pages c.args.source.now c.new.new.source c.encoding_of.new.source begun.keeps c.in-Ok-encoding_of.ensures.keeps in
+    let both = kept_more P.pages P.size P.reads_right P.gives_pages c.args.source.now c.encoding_of.new.source c.print_tree.new.source one tree.keeps in
+    let over = subst (λ (x : Database). IsOver x salvage) (sym one.same_pages) (begun.ok gives).0 in
+    let over_moved = subst (λ (x : Database). IsOver x moved) (sym tree.keeps.same_pages) (tree.over (one.still_gives gives) over) in
+    let mid = g.W.Write.contents c.print_rows.new.out in
+    let after = g.W.Write.contents c.stopped_script-in-Err-print_rows.new.out in
+    inl (ended_so c.in-Err-print_rows.stop c.stopped_script-in-Err-print_rows.result mid after (c.in-Err-print_rows.ensures.err (both.still_gives gives) over_moved) c.stopped_script-in-Err-print_rows.ensures)

@@ -2,9 +2,8 @@ use Rattle.std.proofs.Common.{◌∙◌, ap, map, refl, sym, inl, inr, true, fal
 use Rattle.std.specs.Prelude.{Some}
 use Rattle.std.specs.Cmp.Lexicographic.{bytes_decides}
 use Rattle.cli_words.proofs.CommandLineArguments.{agree, differ, told}
-use Rattle.cli_words.proofs.OptionsOfCommand.{others, diff_asks, report_asks, rows_asks, salvage_asks, show_amiss, at_named, at_none, asks_to, no_to, some_to}
+use Rattle.cli_words.proofs.OptionsOfCommand.{others, check_asks, diff_asks, report_asks, rows_asks, salvage_asks, show_amiss, at_named, at_none, asks_to, no_to, some_to}
 use Rattle.cli_words.proofs.words.asked.Goals as goal
-use Rattle.cli_words.proofs.words.asked.Goals.{else-eq-5-via-then-eq-5+else-are_known, else-eq-5-via-else-eq-5}
 use Rattle.cli_words.proofs.words.asked.Goals.{then-ne-via-then-ne, then-ne-via-else-ne+then-not-may_recover}
 use Rattle.cli_words.proofs.words.asked.Goals.{else-is_none-via-then-is_none+else-is_some, else-is_none-via-else-is_none}
 
@@ -59,18 +58,14 @@ returns-then-eq-6 c = salvage_asks (map (λ w. w.now) c.args.words.now) c.args.c
     c.in_ok-options.ensures
     c.salvage_asked.ensures
 
-pub returns-then-are_known : goal.returns-then-are_known
-returns-then-are_known c = (
-  c.if-not-is_asked.ensures.second refl ∙ ap Some ((bytes_decides _ _).0 (sym c.if-eq-5.ensures)),
-  c.if-not-is_asked.ensures.file refl,
-  (
-    map (λ w. w.now) c.options_of-given.result.now,
-    c.options_of-given.ensures,
-    c.if-are_known.ensures.yes refl,
-    c.in_ok-options.ensures,
-    (c.stands_in-deep.ensures.yes, told _ _ c.stands_in-deep.ensures.not),
-  ),
-)
+pub returns-then-eq-5 : goal.returns-then-eq-5
+returns-then-eq-5 c = check_asks (map (λ w. w.now) c.args.words.now) c.args.command.now _ (map (λ w. w.now) c.options_of-given.result.now) _ _
+    ((bytes_decides _ _).0 (sym c.if-eq-5.ensures))
+    (c.if-not-is_asked.ensures.second refl)
+    (c.if-not-is_asked.ensures.file refl)
+    c.options_of-given.ensures
+    c.in_ok-options.ensures
+    c.check_asked.ensures
 
 pub returns-then-ne : goal.returns-then-ne
 returns-then-ne c = λ _ _.
@@ -78,10 +73,7 @@ returns-then-ne c = λ _ _.
       options,
       c.options_of-given.ensures,
       inr (
-        (λ is. elim c.else-eq-5.branch [
-          | else-eq-5-via-then-eq-5+else-are_known w ↦ w.if-are_known.ensures.not refl
-          | else-eq-5-via-else-eq-5 w ↦ absurd (others _ _ w.if-eq-5.ensures is)
-        ]),
+        (λ is. absurd (others _ _ c.if-eq-5.ensures is)),
         (λ is. elim c.then-ne.branch [
           | then-ne-via-then-ne w ↦ absurd (differ _ _ true w.if-ne.ensures refl is)
           | then-ne-via-else-ne+then-not-may_recover w ↦ elim (w.if-not-may_recover.ensures.not refl) [
@@ -103,10 +95,7 @@ returns-then-is_some c = λ _ _.
       options,
       c.options_of-given.ensures,
       inr (
-        (λ is. elim c.else-eq-5.branch [
-          | else-eq-5-via-then-eq-5+else-are_known w ↦ w.if-are_known.ensures.not refl
-          | else-eq-5-via-else-eq-5 w ↦ absurd (others _ _ w.if-eq-5.ensures is)
-        ]),
+        (λ is. absurd (others _ _ c.if-eq-5.ensures is)),
         (λ _. inr (inr (
           at_named options c.in_ok-options.options.at c.if-is_some.ensures c.in_ok-options.ensures.at_commit,
           no_to options c.text_of-to.result c.if-is_none.ensures (asks_to options c.text_of-to.result c.text_of-to.ensures),

@@ -13,7 +13,7 @@ use Rattle.sqcrash_store.specs.Verdicts.{AreAlike}
 use Rattle.sqcrash_store.specs.declared.tally.Tally.{Tally}
 use Rattle.sqcrash_store.specs.declared.verdict.Answer.{Answer}
 use Rattle.sqcrash_store.proofs.AppendedBytes.{appends_none, appends_more}
-use Rattle.sqcrash_store.proofs.CountedRecords.{counts_all, points_few, states_said}
+use Rattle.sqcrash_store.proofs.CountedRecords.{counts_all, points_few}
 use Rattle.sqcrash_store.proofs.KeptImages.{keeps_none, keeps_more}
 use Rattle.sqcrash_store.proofs.PassedRefusals.{made, passed}
 use Rattle.sqcrash_store.proofs.PlayedRecords.{plays_more}
@@ -90,6 +90,38 @@ returns-clause-judged g c =
       keeps_more (kept c.args.judge.now) (kept c.take_states.new.judge) (kept c.loop-call.judge) [] more c.in_ok-states.ensures.kept so_far.4,
     )
 
+pub returns-then-has_no_image-clause-refused : goal.returns-then-has_no_image-clause-refused
+returns-then-has_no_image-clause-refused g c =
+    let says = g.J.Judge.says in
+    let plan = c.args.plan in
+    let bytes = c.args.bytes.now in
+    let trace = c.in_ok-trace.trace in
+    let states = c.in_ok-states.states.items in
+    let tally = c.tally-tally.result in
+    let names = names_told bytes trace.calls.items in
+    let given = map (λ n. string_bytes n) c.deref-5.result.now in
+    let names_are : given ≡ names = ap (λ l. map (λ n. string_bytes n) l) c.deref-5.ensures.value ∙ c.in_ok-names.ensures ∙ ap (λ (l : List Call). names_told bytes l) c.deref.ensures.value in
+    let j : List (List ℕ) → List Answer → Judging = λ n s. record { plan = plan; trace = bytes; names = n; states = s } in
+    let last = rig_of c.loop-call.rig in
+    let so_far = c.loop-call.invariant in
+    let whole = take_all c.loop-call.call-index c.deref-call-items.result.now c.loop-call-test.false ∙ c.deref-call-items.ensures.value in
+    let counted : tally ≡ last.tally = c.tally-tally.ensures in
+    let none : tally.images ≡ 0 = c.if-has_no_image.ensures.0 refl in (
+      trace,
+      c.in_ok-trace.ensures,
+      record {
+        states = states;
+        are_states = subst (λ (l : List Call). AreStates says plan bytes l states) c.deref-2.ensures.value c.in_ok-states.ensures.says;
+        last = last;
+        told = so_far.0;
+        kept = so_far.1;
+        judged = subst (λ (n : List (List ℕ)). PlaysAll says (j n states) trace.calls.items (no_rig plan) last so_far.0 so_far.1) names_are
+            (subst (λ (s : List Answer). PlaysAll says (j given s) trace.calls.items (no_rig plan) last so_far.0 so_far.1) c.deref-6.ensures.value
+            (subst (λ (l : List Call). PlaysAll says (j given c.deref-6.result.now) l (no_rig plan) last so_far.0 so_far.1) whole so_far.2));
+        none = sym (ap (λ (t : Tally). t.images) counted) ∙ none;
+      },
+    )
+
 pub returns-then-are_alike-clause-refused : goal.returns-then-are_alike-clause-refused
 returns-then-are_alike-clause-refused g c =
     let says = g.J.Judge.says in
@@ -100,7 +132,7 @@ returns-then-are_alike-clause-refused g c =
     let are : AreStates says plan bytes trace.calls.items states =
     subst (λ (l : List Call). AreStates says plan bytes l states) c.deref-2.ensures.value c.in_ok-states.ensures.says in
     let alike : AreAlike states = subst (λ (s : List Answer). AreAlike s) c.deref-4.ensures.value (c.if-are_alike.ensures.0 refl) in
-    (trace, c.in_ok-trace.ensures, (states, states_said says plan bytes trace.calls.items states are, alike))
+    (trace, c.in_ok-trace.ensures, (states, are, alike))
 
 pub returns-in_err-names-clause-refused : goal.returns-in_err-names-clause-refused
 returns-in_err-names-clause-refused g c =
@@ -109,7 +141,7 @@ returns-in_err-names-clause-refused g c =
     let trace = c.in_ok-trace.trace in
     let refusal = c.in_err-names.field-0.0 in
     let refused = subst (λ (l : List Call). NamesRefused (names_told bytes l) refusal) c.deref.ensures.value c.in_err-names.ensures in
-    passed c.from_residual-in_err-names.result _ _ _ c.from_residual-in_err-names.ensures.1 (of_names plan bytes trace refusal c.in_ok-trace.ensures refused)
+    passed c.from_residual-in_err-names.result _ _ _ c.from_residual-in_err-names.ensures.1 (of_names g.J.Judge.says plan bytes trace refusal c.in_ok-trace.ensures refused)
 
 pub returns-in_err-states-clause-refused : goal.returns-in_err-states-clause-refused
 returns-in_err-states-clause-refused g c =
@@ -122,7 +154,7 @@ returns-in_err-states-clause-refused g c =
     ap (λ l. map (λ n. string_bytes n) l) c.deref-3.ensures.value ∙ c.in_ok-names.ensures ∙ ap (λ (l : List Call). names_told bytes l) c.deref.ensures.value in
     let refused = subst (λ (l : List Call). StatesRefused plan bytes l given refusal) c.deref-2.ensures.value c.in_err-states.ensures.refused in
     passed c.from_residual-in_err-states.result _ _ _ c.from_residual-in_err-states.ensures.1
-    (of_states plan bytes trace given refusal c.in_ok-trace.ensures names_are refused)
+    (of_states g.J.Judge.says plan bytes trace given refusal c.in_ok-trace.ensures names_are refused)
 
 pub returns-in_err-play-clause-refused : goal.returns-in_err-play-clause-refused
 unfolding behind
@@ -181,4 +213,4 @@ returns-in_err-write_last-clause-refused g c =
     let is = ap (λ (t : Tally). t.points) c.tally-tally.ensures in
     let some : 0 < call_count calls = omega (arith, points, is, c.if-tally-eq0.false, points_few plan calls) in
     made c.from_residual-in_err-write_last.result _ _ IsOfWriter c.from_residual-in_err-write_last.ensures.1
-    (λ refusal writer. of_writer plan bytes trace refusal c.in_ok-trace.ensures some writer)
+    (λ refusal writer. of_writer g.J.Judge.says plan bytes trace refusal c.in_ok-trace.ensures some writer)

@@ -10,7 +10,7 @@ pub returns-in-Ok-clause-found : goal.returns-in-Ok-clause-found
 returns-in-Ok-clause-found g c = λ right.
     let v = c.args.view.now in
     let is = c.in-Ok.ensures.ok right in
-    inside_of c.args.maps.pointer_maps (pages_of g.F.FileBytes.bytes v) v.page_size c.in-Ok.report c.judge_schema.result (is.0, is.1) is.2 c.judge_schema.ensures.behind
+    inside_of c.args.maps.pointer_maps (pages_of g.F.FileBytes.bytes v) v.page_size c.in-Ok.inside c.judge_schema.result (is.0, is.1) is.2 (c.in-Ok.ensures.forms right) c.judge_schema.ensures.behind
 
 pub returns-in-Ok-clause-refused : goal.returns-in-Ok-clause-refused
 returns-in-Ok-clause-refused g c = λ gives.

@@ -35,7 +35,7 @@ returns-in-Err-clause-contents g c = λ gives is indexes.
 
 pub returns-in-Err-clause-behind : goal.returns-in-Err-clause-behind
 returns-in-Err-clause-behind g c =
-    subst (λ (q : Result DeepVerdict JudgeError). IfOk q (IsBehind c.args.report)) (sym c.contents_verdict.ensures) (contents_behind c.args.report c.in-Err.error)
+    subst (λ (q : Result DeepVerdict JudgeError). IfOk q (IsBehind c.args.inside)) (sym c.contents_verdict.ensures) (contents_behind c.args.inside c.in-Err.error)
 
 pub returns-in-Err-clause-refused : goal.returns-in-Err-clause-refused
 returns-in-Err-clause-refused g c = λ gives.

@@ -1,30 +1,17 @@
-use Rattle.std.proofs.Common.{◌≡◌, ℕ, length, ◌∙◌, ap, arith}
+use Rattle.std.proofs.Common.{ℕ, ◌∙◌, ap, arith}
 use Rattle.history.specs.Past.{used}
 use Rattle.sqval.specs.Database.{page}
-use Rattle.sqval.proofs.page.FilePages.{size_some}
 use Rattle.sqview.specs.LogView.{pages_of}
 use Rattle.sqview.proofs.openings.PagesOfView.{length_laid}
-use Rattle.sqpast.proofs.known.KnownViews.{used_high}
+use Rattle.sqpast.proofs.known.UsedPages.{used_counts, used_fits}
 use Rattle.sqpast.proofs.at.used_pages.Goals as goal
-
-pub returns-then-most-eq0-clause-right : goal.returns-then-most-eq0-clause-right
-returns-then-most-eq0-clause-right g c = λ r some.
-    let v = c.args.view.now in
-    let most : c.count-most.result ≡ v.count = c.count-most.ensures ∙ length_laid v.page_size v.count (g.F.FileBytes.bytes v.db) (g.F.FileBytes.bytes v.log) v.places.items in
-    absurd (omega (arith, most, c.if-most-eq0.true))
-
-pub used_count-requires : goal.used_count-requires
-used_count-requires g c = omega (arith, ap length c.as_mut_slice-page.ensures.value, c.in_ok-first.ensures.len, c.get.ensures.value, size_some c.get.result c.get.ensures.valid, c.read.auto.out)
 
 pub returns-clause-right : goal.returns-clause-right
 returns-clause-right g c = λ r some.
     let v = c.args.view.now in
-    let most : c.count-most.result ≡ v.count = c.count-most.ensures ∙ length_laid v.page_size v.count (g.F.FileBytes.bytes v.db) (g.F.FileBytes.bytes v.log) v.places.items in
-    c.used_count.ensures ∙ ap (used c.count-most.result) (c.in_ok-read.ensures.read r) ∙ ap (λ (n : ℕ). used n (page (pages_of g.F.FileBytes.bytes v) 1)) most
+    let d = pages_of g.F.FileBytes.bytes v in
+    c.used.ensures ∙ used_counts d c.in_ok-counts.counts (c.in_ok-counts.ensures.right r)
+    ∙ ap (λ (n : ℕ). used n (page d 1)) (length_laid v.page_size v.count (g.F.FileBytes.bytes v.db) (g.F.FileBytes.bytes v.log) v.places.items)
 
 pub returns-clause-within : goal.returns-clause-within
-returns-clause-within g c =
-    let v = c.args.view.now in
-    let most : c.count-most.result ≡ v.count = c.count-most.ensures ∙ length_laid v.page_size v.count (g.F.FileBytes.bytes v.db) (g.F.FileBytes.bytes v.log) v.places.items in
-    let high = used_high c.count-most.result c.read.new.out in
-    omega (arith, c.used_count.ensures, high, most)
+returns-clause-within g c = omega (arith, c.used.ensures, used_fits c.in_ok-counts.counts, c.in_ok-counts.ensures.all)

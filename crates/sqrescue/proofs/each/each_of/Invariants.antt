@@ -7,7 +7,7 @@ use Rattle.sqrescue.proofs.each.each_of.Given as goal
 
 abbrev pub invariant-loop-place : goal.invariant-loop-place
 invariant-loop-place g l = record {
-  least : l.greatest ≤ 3;
+  least : l.ended.greatest ≤ 3;
   first : IsGreatestOfFirst (EndsOne (opened_bytes g.R.File.SystemFile.bytes)
-      (GivesBytes g.R.File.SystemFile.bytes g.R.File.SystemFile.keeps_word g.R.File.SystemFile.never_fails) l.apart) l.places l.place-index l.greatest;
+      (GivesBytes g.R.File.SystemFile.bytes g.R.File.SystemFile.keeps_word g.R.File.SystemFile.never_fails) l.apart) l.places l.place-index l.ended;
 }

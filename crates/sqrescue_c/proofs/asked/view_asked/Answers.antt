@@ -1,29 +1,19 @@
-use Rattle.std.proofs.Common.{◌∙◌, sym}
-use Rattle.std.specs.Prelude.{Ok}
-use Rattle.sqrescue_c.proofs.AskedViews.{shown_at, refused_at, shown_now, refused_after}
+use Rattle.sqrescue_c.proofs.AskedViews.{memory_refused, missing_used, shown_used}
 use Rattle.sqrescue_c.proofs.asked.view_asked.Goals as goal
 
-pub returns-then-is_set-clause-shown : goal.returns-then-is_set-clause-shown
-returns-then-is_set-clause-shown c =
+pub returns-in-Ok-used_of-clause-shown : goal.returns-in-Ok-used_of-clause-shown
+returns-in-Ok-used_of-clause-shown c =
     let files = c.args.files.now in
-    shown_at (λ file. file.now) c.args.flags c.args.frame files.db.now files.wal.now files.journal.now c.past_within.result (sym c.is_set.ensures ∙ c.if-is_set.true)
-    (rw c.limits_of-limits.ensures at (c.past_within.ensures.answer (tt, tt, tt)))
+    shown_used (λ file. file.now) c.args.flags c.args.frame files.db.now files.wal.now files.journal.now c.in-Ok.whole c.in-Ok-used_of.view
+    (c.in-Ok-used_of.ensures.used (tt, tt)) c.in-Ok.ensures.shown
 
-pub returns-then-is_set-clause-refused : goal.returns-then-is_set-clause-refused
-returns-then-is_set-clause-refused c =
+pub returns-in-Ok-used_of-clause-missing : goal.returns-in-Ok-used_of-clause-missing
+returns-in-Ok-used_of-clause-missing c =
     let files = c.args.files.now in
-    refused_at (λ file. file.now) c.args.flags c.args.frame files.db.now files.wal.now files.journal.now c.past_within.result (sym c.is_set.ensures ∙ c.if-is_set.true)
-    (rw c.limits_of-limits.ensures at (c.past_within.ensures.answer (tt, tt, tt)))
+    missing_used (λ file. file.now) c.args.flags c.args.frame files.db.now files.wal.now files.journal.now c.in-Ok.whole c.in-Ok-used_of.view
+    (c.in-Ok-used_of.ensures.used (tt, tt)) c.in-Ok.ensures.missing
 
-pub returns-in_ok-new_within-clause-shown : goal.returns-in_ok-new_within-clause-shown
-returns-in_ok-new_within-clause-shown c =
+pub returns-in-Err-used_of-clause-refused : goal.returns-in-Err-used_of-clause-refused
+returns-in-Err-used_of-clause-refused c =
     let files = c.args.files.now in
-    shown_now (λ file. file.now) c.args.flags c.args.frame files.db.now files.wal.now files.journal.now (Ok c.in_ok-new_within.field-0) (sym c.is_set.ensures ∙ c.if-is_set.false)
-    (rw c.limits_of-limits.ensures at (c.in_ok-new_within.ensures.answer (tt, tt, tt)))
-
-pub returns-in_err-new_within-clause-refused : goal.returns-in_err-new_within-clause-refused
-returns-in_err-new_within-clause-refused c =
-    let files = c.args.files.now in
-    refused_after (λ file. file.now) c.args.flags c.args.frame files.db.now files.wal.now files.journal.now c.from_residual.result c.in_err-new_within.field-0.0
-    c.from_residual.ensures (sym c.is_set.ensures ∙ c.if-is_set.false)
-    (rw c.limits_of-limits.ensures at (c.in_err-new_within.ensures.answer (tt, tt, tt)))
+    memory_refused c.args.flags c.args.frame files.db.now files.wal.now files.journal.now c.in-Err-used_of.error (c.in-Err-used_of.ensures.refused (tt, tt))

@@ -4,7 +4,7 @@ use Rattle.sqview.specs.LogView.{pages_of}
 use Rattle.sqpast.specs.declared.past_error.PastError.TheVariants.{CommitOverwritten}
 use Rattle.sqdeepjudge.proofs.SchemaFindings.{both_parts}
 use Rattle.sqrescue_c.specs.Deeps.{IsAskedDeep, AreDeepUnjudged}
-use Rattle.sqrescue_c.proofs.DeepFindings.{asked, unjudged, without, unjudged_without}
+use Rattle.sqrescue_c.proofs.DeepFindings.{asked, cut_asked, unjudged, without, unjudged_without}
 use Rattle.sqrescue_c.proofs.ReportedFindings.{carried, refusal}
 use Rattle.sqrescue_c.proofs.deep.judge_deep_asked.Goals as goal
 
@@ -18,7 +18,9 @@ returns-in-Ok c =
       found = carried c.judge_deep.result (IsAskedDeep c.args.flags c.args.frame files.db.now files.wal.now files.journal.now)
           c.with_status.result c.with_status.ensures.ok
           (asked c.args.flags c.args.frame files.db.now files.wal.now files.journal.now view.page_size d
-          c.in-Ok.ensures.shown c.judge_deep.result found);
+          c.in-Ok.ensures.shown c.judge_deep.result found
+          (cut_asked c.args.flags c.args.frame files.db.now files.wal.now files.journal.now (λ file. file.now) view c.length_of-long.result c.judge_deep.result
+          c.in-Ok.ensures.missing c.length_of-long.ensures c.judge_deep.ensures.cut));
       refused = refusal c.judge_deep.result (AreDeepUnjudged c.args.flags c.args.frame files.db.now files.wal.now files.journal.now)
           c.with_status.result c.with_status.ensures.err
           (unjudged c.args.flags c.args.frame files.db.now files.wal.now files.journal.now view.page_size d

@@ -19,3 +19,11 @@ returns-in-Shorter-clause-writes g c = λ plain ok.
 pub returns-in-Dropped-clause-writes : goal.returns-in-Dropped-clause-writes
 returns-in-Dropped-clause-writes g c = λ plain ok.
     has_written_of_eq _ _ _ _ _ (ap (λ (n : Note). note_text n) (sym c.in-Dropped.is)) (c.write-in-Dropped.ensures.writes plain ok)
+
+pub returns-in-Unused-clause-writes : goal.returns-in-Unused-clause-writes
+returns-in-Unused-clause-writes g c = λ plain ok.
+    has_written_of_eq _ _ _ _ _ (ap (λ (n : Note). note_text n) (sym c.in-Unused.is)) (c.write-in-Unused.ensures.writes plain ok)
+
+pub returns-in-Excess-clause-writes : goal.returns-in-Excess-clause-writes
+returns-in-Excess-clause-writes g c = λ plain ok.
+    has_written_of_eq _ _ _ _ _ (ap (λ (n : Note). note_text n) (sym c.in-Excess.is)) (c.write-in-Excess.ensures.writes plain ok)

@@ -1,0 +1,197 @@
+//! A reading that is made once more of the database file alone, also where something was printed: its journal changed.
+ghost use Rattle.std.specs.Prelude.{◌≡◌, ◌≢◌, ◌⊎◌, Err, None};
+ghost use Rattle.cli_facts.specs.declared.outcome.Refusal.TheVariants.{FileChanged};
+ghost use Rattle.cli_show.specs.declared.error.ShowError.TheVariants.{Refused};
+
+use crate::sources::{Before, still_as_before};
+use cli_facts::{NoteWriter, Notes, Refusal, SystemFile};
+use cli_files::Paths;
+use cli_show::ShowError;
+use std::io::{self, ErrorKind, Write};
+use std::rt::Files;
+
+/// How many bytes are given, in pieces that are shorter, between two looks at the files.
+const UNSEEN: u64 = 65_536;
+
+/// What was given to a writer: how many bytes, and their sum.
+#[derive(Clone, Copy, Debug, PartialEq, Eq)]
+pub struct Given {
+    count: u64,
+    sum: u64,
+}
+
+impl Given {
+    const NOTHING: Given = Given {
+        count: 0,
+        sum: 0xcbf2_9ce4_8422_2325,
+    };
+
+    /// The same with these bytes behind it. The sum is FNV-1a's.
+    fn with(self, bytes: &[u8]) -> Given {
+        let mut sum = self.sum;
+        for byte in bytes {
+            sum = (sum ^ u64::from(*byte)).wrapping_mul(0x0000_0100_0000_01b3);
+        }
+        Given {
+            count: self.count.saturating_add(bytes.len() as u64),
+            sum,
+        }
+    }
+}
+
+/// A writer that is given what was read of files while they are as they were before: it is looked at that before a
+/// piece is given. Once they changed it is given nothing more.
+pub struct WhileSame<'a, R, O> {
+    rt: &'a R,
+    paths: &'a Paths,
+    before: Option<Before>,
+    out: &'a mut O,
+    given: Given,
+    /// How much of that may be given before the next look.
+    left: u64,
+    is_changed: bool,
+}
+
+impl<R, O> Drop for WhileSame<'_, R, O> {
+    fn drop(self) {
+        let WhileSame {
+            rt: _,
+            paths: _,
+            before: _,
+            out: _,
+            given: _,
+            left: _,
+            is_changed: _,
+        } = self;
+    }
+}
+
+impl<'a, R: Files, O: Write> WhileSame<'a, R, O>
+where
+    R::File: SystemFile,
+{
+    /// A writer to which nothing was given yet.
+    pub fn new(
+        rt: &'a R,
+        paths: &'a Paths,
+        before: Option<Before>,
+        out: &'a mut O,
+    ) -> WhileSame<'a, R, O> {
+        WhileSame {
+            rt,
+            paths,
+            before,
+            out,
+            given: Given::NOTHING,
+            left: 0,
+            is_changed: false,
+        }
+    }
+
+    /// Whether the files are as they were before.
+    fn are_same(&self) -> bool {
+        let nowhere = NoteWriter::new(io::sink());
+        let mut unheard = Notes::new(&nowhere, false, false);
+        still_as_before(
+            self.rt,
+            self.paths,
+            &self.before,
+            (false, None),
+            &mut unheard,
+        )
+        .is_ok()
+    }
+
+    /// What was given of a reading that came to this, where the files changed; none where they didn't.
+    pub fn given_of<T>(&self, answer: &Result<T, ShowError>) -> Option<Given>
+        ensures { result ≡ None → answer.now ≢ Err (Refused FileChanged) }
+    {
+        match answer {
+            Err(ShowError::Refused(Refusal::FileChanged)) => Some(self.given),
+            _ if self.is_changed => Some(self.given),
+            _ => None,
+        }
+    }
+}
+
+impl<R: Files, O: Write> Write for WhileSame<'_, R, O>
+where
+    R::File: SystemFile,
+{
+    fn write(&mut self, buf: &[u8]) -> io::Result<usize> {
+        if buf.len() as u64 > self.left {
+            if !self.are_same() {
+                self.is_changed = true;
+                return Err(io::Error::from(ErrorKind::InvalidData));
+            }
+            self.left = UNSEEN;
+        }
+        let count = self.out.write(buf)?;
+        self.left = self.left.saturating_sub(count as u64);
+        self.given = self.given.with(&buf[..count]);
+        Ok(count)
+    }
+
+    fn flush(&mut self) -> io::Result<()> {
+        self.out.flush()
+    }
+}
+
+/// A writer of what is printed once more: what was given before is passed over, if it is the same.
+pub struct Again<'a, O> {
+    out: &'a mut O,
+    before: Given,
+    passed: Given,
+}
+
+impl<O> Drop for Again<'_, O> {
+    fn drop(self) {
+        let Again {
+            out: _,
+            before: _,
+            passed: _,
+        } = self;
+    }
+}
+
+impl<'a, O> Again<'a, O> {
+    /// A writer to which this was given before.
+    pub fn new(out: &'a mut O, before: Given) -> Again<'a, O> {
+        Again {
+            out,
+            before,
+            passed: Given::NOTHING,
+        }
+    }
+
+    /// What a reading came to that was printed once more. Refused by `FileChanged` where it doesn't begin with what was
+    /// given before.
+    pub fn settled<T: Drop>(&self, answer: Result<T, ShowError>) -> Result<T, ShowError>
+        ensures { (result ≡ answer) ⊎ (result ≡ Err (Refused FileChanged)) }
+    {
+        if self.passed == self.before {
+            answer
+        } else {
+            Err(ShowError::Refused(Refusal::FileChanged))
+        }
+    }
+}
+
+impl<O: Write> Write for Again<'_, O> {
+    fn write(&mut self, buf: &[u8]) -> io::Result<usize> {
+        let left = self.before.count.saturating_sub(self.passed.count);
+        if left == 0 {
+            if self.passed != self.before {
+                return Err(io::Error::from(ErrorKind::InvalidData));
+            }
+            return self.out.write(buf);
+        }
+        let count = left.min(buf.len() as u64) as usize;
+        self.passed = self.passed.with(&buf[..count]);
+        Ok(count)
+    }
+
+    fn flush(&mut self) -> io::Result<()> {
+        self.out.flush()
+    }
+}

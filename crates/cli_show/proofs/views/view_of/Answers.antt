@@ -1,1 +1,0 @@
-use Rattle.cli_show.proofs.views.view_of.Goals as goal

@@ -1,0 +1,2 @@
+pub mod AllOf
+pub mod OneMade

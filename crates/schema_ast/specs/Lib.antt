@@ -1,0 +1,4 @@
+pub mod Types
+pub mod Defaults
+pub mod Tables
+pub mod Indexes

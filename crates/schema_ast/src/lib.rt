@@ -1,0 +1,11 @@
+//! What the texts of a schema make, as the kit's crates state tables and indexes.
+#![tactic(auto)]
+
+mod defaults;
+mod indexes;
+mod rules;
+mod tables;
+mod types;
+
+pub use indexes::{MadeIndex, made_index};
+pub use tables::{MadeTable, made_table};

@@ -1,0 +1,3 @@
+pub mod IndexesMade
+pub mod SameColumns
+pub mod Members

@@ -1,0 +1,5 @@
+pub mod KeyColumns
+pub mod Automatic
+pub mod Create
+pub mod Terms
+pub mod Texts

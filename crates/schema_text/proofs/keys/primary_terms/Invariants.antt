@@ -1,6 +1,0 @@
-use Rattle.std.proofs.Common.{◌≡◌, drop}
-use Rattle.schema_text.specs.Keys.{primary_terms}
-use Rattle.schema_text.proofs.keys.primary_terms.Given as goal
-
-abbrev pub invariant-loop-i : goal.invariant-loop-i
-invariant-loop-i l = primary_terms l.clauses ≡ primary_terms (drop l.i l.clauses)

@@ -1,6 +1,0 @@
-use Rattle.std.proofs.Common.{◌≡◌, drop}
-use Rattle.schema_text.specs.Types.{has_word}
-use Rattle.schema_text.proofs.types.has_word.Given as goal
-
-abbrev pub invariant-loop-i : goal.invariant-loop-i
-invariant-loop-i l = has_word l.text l.word ≡ has_word (drop l.i l.text) l.word

@@ -1,0 +1,16 @@
+use Rattle.std.proofs.Common.{inl, inr, refl, subst, sym, ⊎_elim}
+use Rattle.std.specs.Prelude.{Result, Err, IsErrAnd}
+use Rattle.cli_files.specs.Refusals.{IsFromWatch}
+use Rattle.cli_show.specs.Errors.{IfRefused}
+use Rattle.cli_show.specs.declared.error.ShowError.{ShowError}
+use Rattle.cli_job.specs.declared.answers.Answer.{Answer}
+use Rattle.sqrescue.proofs.program.read_journaled.Goals as goal
+
+pub returns-in-Some : goal.returns-in-Some
+returns-in-Some g c =
+    ⊎_elim (λ r. inl (c.alone.result, inr (c.requires, c.alone.ensures), r))
+    (λ e. inr (subst (λ (r : Result Answer ShowError). IsErrAnd r (λ error. IfRefused IsFromWatch error)) (sym e) (inl refl)))
+    c.read_again.ensures
+
+pub returns-in-None : goal.returns-in-None
+returns-in-None g c = inl (c.args.source, inl refl, c.read_from-answer.ensures)

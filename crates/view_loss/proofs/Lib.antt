@@ -1,0 +1,3 @@
+mod CopiedFrames
+mod Losses
+pub mod PagesCounted
