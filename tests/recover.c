@@ -126,7 +126,7 @@ static void misuse_to(const char *file) {
         check(is_there == !access(beside, F_OK), "which is made by nobody");
     }
     for (uint32_t flag = 1; flag; flag <<= 1)
-        if (flag != SQR_NO_LOCK && flag != SQR_AT)
+        if (!(flag & (SQR_NO_LOCK | SQR_AT | SQR_ANY)))
             check(sqr_recover_to(file, out, flag, NULL, &it) == SQR_UNKNOWN_OPTIONS, "a flag");
     check(sqr_recover_to(file, out, 0, &none, &it) == SQR_UNKNOWN_OPTIONS, "options of zeros");
     check(is_unwritten(&it) && access(out, F_OK), "these leave the answer, and make nothing");

@@ -297,8 +297,8 @@ pub enum Before {
     Indexed(IndexHead),
 }
 
-/// What the files are now; none where they stay so. Where only the logs are read, the database file needn't be
-/// readable.
+/// What the files are now; none if they stay so. If only the logs are read, and not beside a journal under locks, the
+/// database file needn't be readable.
 pub fn before_of<R: Files, E: Write>(
     rt: &R,
     paths: &Paths,
@@ -314,7 +314,7 @@ where
     match watch {
         Watch::Still | Watch::Alone => Ok(None),
         Watch::Dated => Ok(Some(Before::Dated(readings_of(rt, paths, only_logs, notes)?))),
-        Watch::Undated => Ok(Some(Before::Undated(readings_of(rt, paths, only_logs, notes)?))),
+        Watch::Undated => Ok(Some(Before::Undated(readings_of(rt, paths, false, notes)?))),
         Watch::Indexed(head) => Ok(Some(Before::Indexed(head))),
     }
 }

@@ -12,7 +12,7 @@ ghost use Rattle.sqview.specs.Verdicts.{IsUnjudgedWith};
 use cli_facts::{Front, Refusal};
 use cli_show::{Asked, Used, used_view_of};
 use sqcheck::Options as Maps;
-use sqdeepjudge::{DeepVerdict, deep_without, first_missing, judge_deep};
+use sqdeepjudge::{DeepVerdict, Lengths, deep_without, first_missing, judge_deep};
 use sqpast::{Counts, PastError};
 use sqview::{FileBytes, JudgeError, View, judge_view_with};
 use std::alloc::Global;
@@ -96,7 +96,7 @@ fn judged_deep<F: FileBytes + Drop>(
         Ok(used) => {
             let Used { mut view, counts } = used;
             let front = Front::of_view(&view);
-            let found = judge_deep(alloc, &mut view, long, asked.maps);
+            let found = judge_deep(alloc, &mut view, Lengths { long, counts }, asked.maps);
             let beside = Beside {
                 front,
                 counts: Some(counts),

@@ -100,7 +100,7 @@ pub(crate) fn next_step(
         Refusal::TooLarge => "above 1,073,741,824 bytes, or too long a log: give --large",
         Refusal::TwoLogs => "look at both logs, move one away, and call this again",
         Refusal::SuperJournal =>
-            "see whether the super-journal is there, and give --super-journal=present or =gone",
+            "give --super-journal=look if FILE is in its place, otherwise =present or =gone",
         Refusal::NotADatabase =>
             "the header that is to be shown isn't a database's: see show --log and check",
         Refusal::AutoVacuum =>
