@@ -1,6 +1,6 @@
 """Readings during writes with a rollback journal, and during VACUUM. Readings with a connection that holds RESERVED
 alone, with a journal whose writer is gone, and with FILE.lock."""
-import contextlib, os, re, sqlite3, subprocess, sys, time
+import os, re, sqlite3, subprocess, sys, time
 
 from locks_runs import *
 
@@ -228,31 +228,23 @@ os._exit(0)
 """
 
 
-@contextlib.contextmanager
-def held_before_a_journal_is_lost(mode, line, rows=ROWS):
-    """A connection that has read since before a writer that is gone and never wrote FILE, and a line whose locks are
-    held: the connection may write over that writer's journal."""
-    filled(mode, rows)
-    with Session() as session:
-        for statement in f"PRAGMA journal_mode={mode}", "BEGIN", "SELECT count(*) FROM t":
-            session.says(statement)
-        subprocess.run([sys.executable, "-c", GONE], check=True)
-        with Held(line) as held:
-            yield session, held
-            session.says("ROLLBACK")
-
-
 @test
 def a_journal_that_changes_meanwhile():
     """A reader may be older than a writer that is gone and never wrote FILE. It may write over that writer's journal:
     FILE alone is the database from then on, and nothing is refused."""
     for mode in "delete", "persist":
         for line, fault_of in READINGS:
-            with held_before_a_journal_is_lost(mode, line) as (session, held):
-                yield is_(f"{mode}, {line}: it is current", held.is_held and not is_alone(held), held.said)
-                found = session.says("UPDATE t SET number=-2 WHERE id<100")
-                yield is_(f"{mode}, {line}: it changes", found == [], found)
-                yield f"{mode}, {line}", fault_of(held.goes_on())
+            filled(mode)
+            with Session() as session:
+                for statement in f"PRAGMA journal_mode={mode}", "BEGIN", "SELECT count(*) FROM t":
+                    session.says(statement)
+                subprocess.run([sys.executable, "-c", GONE], check=True)
+                with Held(line) as held:
+                    yield is_(f"{mode}, {line}: it is current", held.is_held and not is_alone(held), held.said)
+                    found = session.says("UPDATE t SET number=-2 WHERE id<100")
+                    yield is_(f"{mode}, {line}: it changes", found == [], found)
+                    yield f"{mode}, {line}", fault_of(held.goes_on())
+                    session.says("ROLLBACK")
 
 
 # commands that print such a table while they read it
@@ -264,14 +256,20 @@ def a_journal_that_changes_behind_output():
     """It may do so also once a part was printed: what follows is read of FILE alone, and nothing is printed twice."""
     for mode in "delete", "persist":
         for line, fault_of in PRINTING:
-            with held_before_a_journal_is_lost(mode, line, MANY) as (session, held):
-                yield is_(f"{mode}, {line}: it is current", held.is_held and not is_alone(held), held.said)
-                begun = held.begins()
-                yield is_(f"{mode}, {line}: a part is printed", len(begun) > 0)
-                found = session.says("UPDATE t SET number=-2 WHERE id<100")
-                yield is_(f"{mode}, {line}: it changes", found == [], found)
-                answer = held.goes_on()
-                yield f"{mode}, {line}", fault_of(Answer(answer.status, begun + answer.out, answer.err))
+            filled(mode, MANY)
+            with Session() as session:
+                for statement in f"PRAGMA journal_mode={mode}", "BEGIN", "SELECT count(*) FROM t":
+                    session.says(statement)
+                subprocess.run([sys.executable, "-c", GONE], check=True)
+                with Held(line) as held:
+                    yield is_(f"{mode}, {line}: it is current", held.is_held and not is_alone(held), held.said)
+                    begun = held.begins()
+                    yield is_(f"{mode}, {line}: a part is printed", len(begun) > 0)
+                    found = session.says("UPDATE t SET number=-2 WHERE id<100")
+                    yield is_(f"{mode}, {line}: it changes", found == [], found)
+                    answer = held.goes_on()
+                    yield f"{mode}, {line}", fault_of(Answer(answer.status, begun + answer.out, answer.err))
+                    session.says("ROLLBACK")
 
 
 @test

@@ -193,8 +193,8 @@ fn tell_names<E: Write>(paths: &Paths, found: &Beheld, notes: &mut Notes<'_, E>)
     }
 }
 
-/// Opens the files beside a database file that were found, which is asked for at this commit frame. At 0 a journal that
-/// can't be opened any more is taken as a missing one where it is the only log.
+/// Opens the logs of a database file that were found, for the database at this commit frame. At 0 a journal that can't
+/// be opened any more is treated as missing if it is the only log.
 fn open_found<'a, R: Files, E: Write>(
     rt: &R,
     paths: &'a Paths,
@@ -235,7 +235,7 @@ where
     }
 }
 
-/// The same logs, of which the journal is taken as a missing one.
+/// These logs without the journal.
 fn without_journal<F: Drop>(logs: Beside<'_, F>) -> Beside<'_, F>
     ensures regular { AreRegular logs.entry.found → AreRegular result.found }
     ensures found { (result.found.wal ≡ logs.entry.found.wal) × (result.found.journal ≡ None) }
@@ -341,10 +341,10 @@ fn judge_logs<R: Files, F: SystemFile + Drop, E: Write>(
     Ok(())
 }
 
-/// Opens the logs beside a database file that the system finds, a write-ahead log that isn't empty and a journal of 28
-/// bytes at least, and says what is to be noted of them, where the database is asked for at this commit frame. A hot
-/// journal that is out of force is taken as a missing one, and so is any at 0 beside no write-ahead log: the file alone
-/// is the database, whatever a writer does to its journal meanwhile.
+/// Opens the logs of a database file that the system finds, a write-ahead log that isn't empty and a journal of 28
+/// bytes at least, and writes their notes, for the database at this commit frame. A hot journal that is out of force is
+/// treated as missing. So is any at 0 without a write-ahead log: the file alone is the database, whatever a writer does
+/// to its journal.
 pub fn open_logs<'a, R: Files, E: Write>(
     rt: &R,
     paths: &'a Paths,

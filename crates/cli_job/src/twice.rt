@@ -1,4 +1,4 @@
-//! A reading that is made once more of the database file alone, also where something was printed: its journal changed.
+//! A reading that is repeated with the database file alone, also after something was printed: its journal changed.
 ghost use Rattle.std.specs.Prelude.{◌≡◌, ◌≢◌, ◌⊎◌, Err, None};
 ghost use Rattle.cli_facts.specs.declared.outcome.Refusal.TheVariants.{FileChanged};
 ghost use Rattle.cli_show.specs.declared.error.ShowError.TheVariants.{Refused};
@@ -26,7 +26,7 @@ impl Given {
         sum: 0xcbf2_9ce4_8422_2325,
     };
 
-    /// The same with these bytes behind it. The sum is FNV-1a's.
+    /// This, followed by these bytes. The sum is FNV-1a's.
     fn with(self, bytes: &[u8]) -> Given {
         let mut sum = self.sum;
         for byte in bytes {
@@ -39,8 +39,8 @@ impl Given {
     }
 }
 
-/// A writer that is given what was read of files while they are as they were before: it is looked at that before a
-/// piece is given. Once they changed it is given nothing more.
+/// A writer for what is read of files while they are unchanged: that is checked before each piece. Once they changed it
+/// gets nothing more.
 pub struct WhileSame<'a, R, O> {
     rt: &'a R,
     paths: &'a Paths,
@@ -88,7 +88,7 @@ where
         }
     }
 
-    /// Whether the files are as they were before.
+    /// Whether the files are unchanged.
     fn are_same(&self) -> bool {
         let nowhere = NoteWriter::new(io::sink());
         let mut unheard = Notes::new(&nowhere, false, false);
@@ -102,7 +102,7 @@ where
         .is_ok()
     }
 
-    /// What was given of a reading that came to this, where the files changed; none where they didn't.
+    /// What a reading with this result gave before, if the files changed; none if they didn't.
     pub fn given_of<T>(&self, answer: &Result<T, ShowError>) -> Option<Given>
         ensures { result ≡ None → answer.now ≢ Err (Refused FileChanged) }
     {
@@ -164,7 +164,7 @@ impl<'a, O> Again<'a, O> {
         }
     }
 
-    /// What a reading came to that was printed once more. Refused by `FileChanged` where it doesn't begin with what was
+    /// The result of a reading that was printed once more. Refused by `FileChanged` if it doesn't begin with what was
     /// given before.
     pub fn settled<T: Drop>(&self, answer: Result<T, ShowError>) -> Result<T, ShowError>
         ensures { (result ≡ answer) ⊎ (result ≡ Err (Refused FileChanged)) }

@@ -28,7 +28,7 @@ pub struct DeepFinding {
     pub missing: Option<u32>,
 }
 
-/// What is told of a view beside its verdict.
+/// What is reported of a view with its verdict.
 #[derive(Clone, Copy)]
 struct Beside {
     front: Option<Front>,
@@ -45,7 +45,7 @@ impl Beside {
     };
 }
 
-/// What is found, or why nothing is, beside this.
+/// What is found, or why nothing is, with this.
 fn as_found(beside: Beside, found: Result<DeepVerdict, JudgeError>) -> Result<DeepFinding, Refusal>
     ensures ok { IfOk result (λ finding. (found ≡ Ok finding.verdict) × (finding.front ≡ beside.front)) }
     ensures counts { IfOk result (λ finding. finding.counts ≡ beside.counts) }
@@ -166,10 +166,10 @@ fn judged_plain<F: FileBytes + Drop>(
     }
 }
 
-/// What a check, or a deep one, finds of the pages of a file with its logs that SQLite would use, the front at which
-/// that view stands, and how many pages there were; by one that isn't deep also the least page that is missing. None of
-/// these if the file's own header names no database. Refused as the view is, by `AutoVacuum` if pointer maps aren't
-/// asked for, and by `FileFailed` where a file could not be read.
+/// What a check, or a deep one, finds of the pages of a file with its logs that SQLite would use, the front of that
+/// view, and how many pages there were; from one that isn't deep also the least page that is missing. None of these if
+/// the file's own header names no database. Refused as the view is, by `AutoVacuum` if pointer maps aren't asked for,
+/// and by `FileFailed` where a file could not be read.
 pub fn judged_as<F: FileBytes + Drop>(
     alloc: Global,
     asked: Asked,

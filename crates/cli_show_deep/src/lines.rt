@@ -77,7 +77,7 @@ fn write_whole_or_part<W: Write>(
     }
 }
 
-/// The counts at the front of the object of a well-formed database of which a page is missing.
+/// The counts at the front of the object of a well-formed database with a missing page.
 fn write_clean_counts<W: Write>(out: &mut W, report: &Report) -> io::Result<()>
     ensures { OnOk result (Appends (W.contents out.old) (W.contents out.new) (clean_counts report.now)) }
 {
@@ -95,7 +95,7 @@ fn write_clean_counts<W: Write>(out: &mut W, report: &Report) -> io::Result<()>
     )
 }
 
-/// A well-formed database of which this page is the least that is missing, as an object.
+/// A well-formed database with this least missing page, as an object.
 fn write_clean_object<W: Write>(out: &mut W, report: &Report, page: u32) -> io::Result<()>
     ensures { OnOk result (Appends (W.contents out.old) (W.contents out.new) (clean_object report.now page)) }
 {
@@ -121,7 +121,7 @@ fn write_clean<W: Write>(
     }
 }
 
-/// A fault at a page, where this one is the least that is missing, as an object.
+/// A fault at a page, with this least missing page, as an object.
 fn write_damage_object<W: Write>(out: &mut W, error: &CheckError, least: u32) -> io::Result<()>
     ensures { OnOk result (Appends (W.contents out.old) (W.contents out.new) (damage_object error.now least)) }
 {

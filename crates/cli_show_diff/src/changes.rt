@@ -350,8 +350,8 @@ fn print_framed<S: PageSource, T: PageSource, W: Write>(
 /// Refused by `LeftOut` where comments stand for texts or tables, by the faults of both schemas, by `Encoding` where an
 /// encoding isn't known or each has its own, by `NoSuchTable`, by `NotUnderstood` where it isn't known how the rows of
 /// a table WITHOUT ROWID are sorted and it has some, and in SQL where there is a virtual table, or a column of a table
-/// with changes isn't known or has a name with NUL or CR, and by faults of trees and rows behind what stands before
-/// them. A script that was begun then ends with a statement that fails, but behind `LeftOut`.
+/// with changes isn't known or has a name with NUL or CR, and by faults of trees and rows after what precedes them. A
+/// script that was begun then ends with a statement that fails, except with `LeftOut`.
 pub fn print_changes<S: PageSource, T: PageSource, W: Write>(
     alloc: Global,
     old: &mut S,

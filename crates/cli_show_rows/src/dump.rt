@@ -364,7 +364,7 @@ fn stopped<W: Write>(out: &mut W, notation: Notation, stop: Stop) -> Stop
 /// each text that sqlite3's shell would read otherwise than SQLite, and is counted in the last line. In CSV a line
 /// `table,"NAME"` stands before the heading of each table. Refused as `print_table` is, by the faults of the schema, by
 /// `Encoding` if the encoding of texts isn't known, and by `LeftOut` if comments stand for texts or tables; what was
-/// printed before stands, and a script that was begun ends with a statement that fails, but behind `LeftOut`.
+/// printed before stays, and a script that was begun ends with a statement that fails, except with `LeftOut`.
 pub fn print_tables<S: PageSource, W: Write>(
     alloc: Global,
     source: &mut S,

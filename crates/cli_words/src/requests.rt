@@ -94,7 +94,7 @@ pub struct Between {
 /// What a deep check may be asked besides.
 #[derive(Clone, Copy, Debug, PartialEq, Eq)]
 pub struct Deep {
-    /// To refuse a database that is sound, of which something isn't judged.
+    /// To refuse a sound database if something isn't judged.
     pub complete: bool,
 }
 

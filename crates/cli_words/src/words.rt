@@ -390,7 +390,7 @@ fn part_at(options: &[&str], at: Option<u32>) -> Option<Part>
     }
 }
 
-/// Whether the words behind a command ask for all to be judged.
+/// Whether the words after a command ask for all to be judged.
 pub fn asks_complete(words: &[&str]) -> bool
     ensures { AsksComplete (map (λ w. w.now) words.entry.now) result }
 {
@@ -410,7 +410,7 @@ fn deep_of(options: &[&str]) -> Option<Option<Deep>>
     if complete { None } else { Some(None) }
 }
 
-/// What the options of `check` ask for. None where they don't say so.
+/// What the options of `check` ask for. None if they aren't understood.
 fn check_asked<'a>(given: &'a [&'a str], file: &'a str, options: Options) -> Option<Request<'a>>
     ensures { MatchOption result (AreNoCheck (map (λ w. w.now) given.entry.now))
         (IsCheck (map (λ w. w.now) given.entry.now) file.entry options) }

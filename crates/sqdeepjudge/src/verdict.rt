@@ -86,7 +86,7 @@ impl DeepVerdict {
         matches!(self, DeepVerdict::Damaged(_))
     }
 
-    /// Whether it is a sound database of which something isn't judged, and not the bodies of views and triggers alone.
+    /// Whether it is a sound database and something isn't judged, and not the bodies of views and triggers alone.
     pub fn is_in_part(&self) -> bool
         ensures { result ≡ is_in_part self.now }
     {
@@ -207,8 +207,8 @@ fn judge_tables<F: FileBytes>(
     }
 }
 
-/// What is found of the indexes and the tables of a view that is sound inside, of which this is told, and this is the
-/// schema. Refused by NoMemory, and by Unread where a page could not be read.
+/// What is found of the indexes and the tables of a view that is sound inside, with this report and this schema.
+/// Refused by NoMemory, and by Unread if a page could not be read.
 fn judge_contents<F: FileBytes>(
     alloc: Global,
     view: &mut View<F>,
@@ -227,7 +227,7 @@ fn judge_contents<F: FileBytes>(
     }
 }
 
-/// What is found of the schema of a view that is sound inside, of which this is told. Refused as `judge_deep`.
+/// What is found of the schema of a view that is sound inside, with this report. Refused as `judge_deep`.
 fn judge_schema<F: FileBytes>(
     alloc: Global,
     view: &mut View<F>,
@@ -248,8 +248,8 @@ fn judge_schema<F: FileBytes>(
 }
 
 /// What a deep check finds of a view: a page that is missing, damage of its pages, inside, of its schema, of its
-/// indexes, or of its tables; long: how many bytes the view's file has. Refused by AutoVacuum and NoMemory, which say
-/// that a database can't be checked and not that it is damaged, and by Unread where a file could not be read.
+/// indexes, or of its tables; long: how many bytes the view's file has. Refused by AutoVacuum and NoMemory, which mean
+/// that a database can't be checked and not that it is damaged, and by Unread if a file could not be read.
 pub fn judge_deep<F: FileBytes>(
     alloc: Global,
     view: &mut View<F>,

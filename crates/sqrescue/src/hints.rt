@@ -57,7 +57,7 @@ fn step_after(cause: Option<ErrorKind>) -> &'static str {
     }
 }
 
-/// What to do where a command was refused behind what was printed.
+/// What to do if a command was refused after what was printed.
 pub(crate) fn step_after_untold(why: Untold) -> &'static str {
     match why {
         Untold::NoSuchTable =>

@@ -29,7 +29,7 @@ const FLAGS_END: u32 = 32;
 /// All is to be judged: a flag of deep checks alone.
 const COMPLETE: u32 = 32;
 
-/// The flags of a deep check are the bits below this one, but for those two.
+/// The flags of a deep check are the bits below this one, except those two.
 const DEEP_FLAGS_END: u32 = 64;
 
 /// What is answered where a flag isn't known.

@@ -237,10 +237,10 @@ fn judge_deep_asked(
 /// Whether the database that flags ask for, as for `sqr_check_with`, is well formed, and its records, its schema, its
 /// indexes and its tables are sound, with its pointer maps, where it has some. Answers Done with its counts, and the
 /// rows of the schema, from 0, of the indexes and then of the tables that aren't judged at the front of an array, as
-/// many as there is room for; with flag 32 NotJudged, and the same, if anything isn't judged but bodies of views and
-/// triggers; or Damaged with a fault that stands; otherwise TwoLogs, TooLarge, NoSuchCommit or CommitOverwritten, in
-/// this order, or NoMemory in place of any, or 24 where a flag is another one, and then leaves the report as it is
-/// (fileformat2, 1 to 4).
+/// many as there is room for; with flag 32 NotJudged, and the same, if anything isn't judged except bodies of views and
+/// triggers; or Damaged with a fault that it has; otherwise TwoLogs, TooLarge, NoSuchCommit or CommitOverwritten, in
+/// this order, or NoMemory in place of any, or 24 for another flag, and then leaves the report unchanged (fileformat2,
+/// 1 to 4).
 #[unsafe(no_mangle)]
 pub extern "C" fn sqr_check_deep(
     alloc: Global,
@@ -303,10 +303,9 @@ fn status_of(flags: u32, verdict: &DeepVerdict) -> Status
     }
 }
 
-/// The same as `sqr_check_deep`, and with Done or NotJudged how many things it doesn't judge, 0 only if all is judged:
-/// indexes, also partial ones, tables, CHECKs, foreign keys, views, triggers and virtual tables; and how many cells
-/// have a text that isn't one in the database's encoding. With Damaged both are 0. Otherwise the answer and the rows
-/// stay as they are.
+/// As `sqr_check_deep`, and with Done or NotJudged how many things it doesn't judge, 0 only if all is judged: indexes,
+/// also partial ones, tables, CHECKs, foreign keys, views, triggers and virtual tables; and how many cells have a text
+/// that isn't one in the database's encoding. With Damaged both are 0. Otherwise the answer and the rows don't change.
 #[unsafe(no_mangle)]
 pub extern "C" fn sqr_check_deep_all(
     alloc: Global,

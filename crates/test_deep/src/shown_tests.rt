@@ -20,7 +20,7 @@ const ASKED: Asked = Asked {
     maps: Maps::PLAIN,
 };
 
-/// What is told of a file without logs.
+/// What is reported of a file without logs.
 fn told(alloc: Global, deep: bool, file: &[u8]) -> Result<DeepFinding, Refusal> {
     let none = [].as_slice();
     judged_as(alloc, ASKED, deep, file, none, none)
@@ -73,7 +73,7 @@ fn lines_of_files(rt: HostRuntime) -> Result<(), Fail> {
     let damaged = file_with(alloc, 2, &[(1008, &[9])])?;
     let fault = b"{\"page\":2,\"cell\":2,\"fault\":42,\"name\":\"NotRecord\"}\n";
     assert!(rt; is_line(line(alloc, Style::Json, true, &damaged), fault));
-    // The second page lacks its last byte, which the check takes as zero.
+    // The second page lacks its last byte, which the check reads as zero.
     let mut cut = sound;
     let _ = cut.pop();
     let fault = b"{\"page\":2,\"fault\":36,\"name\":\"FileCut\"}\n";
