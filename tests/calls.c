@@ -1,7 +1,7 @@
 /* Loaded into a program, writes the calls that it makes of its files to the file that CALLS names, a line each. To
    the call whose number CALL names, from 1, or to each where CALL is 0, it does what MANNER says: `fail` refuses it;
    `half` carries out half of a read or write, and says so; `torn` carries out half of a write, and refuses it; `kill`
-   ends the program in its place, and `torn kill` after half of a write; `interrupt` refuses it as for a signal, and
+   ends the program in its place, and `torn kill` behind half of a write; `interrupt` refuses it as for a signal, and
    where CALL is 0 each other call; `taken` and `no links` are of a link. In the place of /proc/locks the file that FREE
    names is opened, and from the opening on whose number FROM names, from 1, the one that HELD names. */
 typedef unsigned long size_t;

@@ -4,7 +4,7 @@ container without added capabilities.
 usage: contained.py [--without CALL].. COMMAND..     without: this call isn't there, as on a system before it came
 
 The filter allows the calls that tests/contained.txt names; clone that makes no namespace; and personality that asks
-for what it is, or for Linux. clone3 is answered by ENOSYS, so threads are made by clone, and all else by EPERM."""
+for what it is, or for Linux. clone3 is answered by ENOSYS, so that threads are made by clone, and all else by EPERM."""
 import ctypes, os, re, struct, subprocess, sys
 
 LOAD, IS, ABOVE, FROM, HAS, ANSWER = 0x20, 0x15, 0x25, 0x35, 0x45, 0x06

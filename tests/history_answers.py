@@ -1,4 +1,4 @@
-"""What the parts of tests/history share: killed writers and their files, and what the program reports of commits."""
+"""What the parts of tests/history share: killed writers and their files, and what the program says of each commit."""
 import concurrent.futures, json, os, shutil, sqlite3, subprocess, sys, tempfile
 
 from history_twin import Past
@@ -44,7 +44,7 @@ def is_refused(answer):
 
 
 def ends_refused(answer):
-    """The same, after what was printed before."""
+    """The same, behind what was printed before."""
     status, out, err = answer
     return status == 3 and (err.endswith(REFUSED) or out.endswith(OBJECT))
 
@@ -126,7 +126,7 @@ def changes_of(lines):
     return {frame: sorted(changes, key=lambda change: change[:2]) for frame, changes in found.items()}
 
 
-# ---- what the program reports of a file and its log
+# ---- what the program says of a file and its log
 
 
 def reason_of(past, commit):
@@ -146,14 +146,14 @@ def reason_of(past, commit):
 
 
 def note_of(past, commit):
-    """The note that reports it, and names the next known commit."""
+    """The note that says so, and names the next commit that is known."""
     later = next(later for later in past.commits if later > commit and past.is_known(later))
     return (f"sqrescue: note: the database at frame {commit} isn't known: {reason_of(past, commit)}; "
             f"the first known commit after it is at frame {later}\n")
 
 
 class Files:
-    """A file and its log in a folder, and what the twin reports of them."""
+    """A file and its log in a folder, and what the twin says of them."""
 
     def __init__(self, folder, file, log, record=None, name="", maps=()):
         self.folder, self.name, self.record, self.maps = folder, name, record, list(maps)
@@ -188,7 +188,7 @@ class Files:
         return [*words, *self.maps] if words in MAPPED else words
 
     def asked(self, commit, looks=LOOKS):
-        """What the program reports of a commit, each with what it is to say."""
+        """What the program says of a commit, each with what it is to say."""
         out = os.path.join(self.folder, f"{commit}.out")
         found = {"recover": run("recover", self.path, "--to", out, "--at", commit), "made": content(out)}
         if os.path.exists(out):
@@ -286,7 +286,7 @@ class Files:
                 check(f"{name}: changes", changes_of(out).get(None, []), wanted)
 
     def judge_default(self):
-        """`diff` without words: from the first known commit, and its first line names it if that isn't 0."""
+        """`diff` without words: from the first commit that is known, and its first line says which if that isn't 0."""
         status, out, err = run("diff", self.path, "--json")
         first = next(commit for commit in self.commits if self.known[commit])
         wanted = changes_between(self.rows_at(first), self.rows_at(self.past.front))

@@ -81,7 +81,7 @@ def shell(path, *lines, library=None, ends=0):
 
 
 def judged(files, looks=LOOKS, pairs=4):
-    """A file and its log, by all that the program reports of them."""
+    """A file and its log, by all that the program says of them."""
     files.is_true()
     files.judge_all(looks=looks)
     files.front_is_shown([*looks, ("show",), ("show", "--log"), ("show", "--commits")])
@@ -148,8 +148,8 @@ def refused_words(files):
 
 @part
 def journal_beside_an_empty_log(folder):
-    """If the log has no bytes, a hot journal is current: the database is the one before its transaction, and FILE alone
-    at 0. If the log has commits, both are refused, at each of them too."""
+    """A hot journal counts beside a log without bytes: the database is the one before its transaction, at 0 FILE alone.
+    Beside a log that has commits both are refused, at each of them too."""
     path, out = os.path.join(folder, "j.db"), os.path.join(folder, "j.out")
     db = sqlite3.connect(path, isolation_level=None)
     for line in "PRAGMA page_size=512", "PRAGMA cache_size=5", "CREATE TABLE t(a INTEGER PRIMARY KEY, b)":
@@ -188,7 +188,7 @@ def log_of_commits(folder):
 
 
 def shrunk(folder, vacuum, by_itself=False, chunk=0, regrow=False):
-    """A later, smaller commit is copied and cuts the file, while a reader keeps the log from being begun again. Then a
+    """A later, smaller commit is copied and cuts the file, while a reader keeps the log from being begun anew. Then a
     larger one may lengthen it again. Chunks: the length is no commit's size."""
     live = Live(folder, vacuum)
     vacuumed = ["PRAGMA incremental_vacuum"] * (vacuum == 2)

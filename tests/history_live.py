@@ -11,7 +11,7 @@ ALONE = ["rows a.db --json --table t", "check a.db", "salvage a.db --to -", "row
 OVERWRITTEN, CHANGED = "commit overwritten", "file changed"
 
 # Each transaction changes three rows of sixty; what the rows are then is written down with the frame that ends it. A
-# reader keeps the log from being begun again for a time, so later frames are copied beside earlier commits.
+# reader keeps the log from being begun anew for a time, so that later frames are copied beside earlier commits.
 WRITER = """import hashlib, json, os, random, sqlite3, sys, time
 path, record = sys.argv[1:3]
 rng, rows = random.Random(7), {n: '%0150d' % n for n in range(60)}
@@ -115,7 +115,7 @@ def without_commit(beside, line, by, words, seen):
 
 
 def at_a_commit(beside, by, words, rng, seen):
-    """A reading of a commit that the log has, if the log isn't begun again meanwhile."""
+    """A reading of a commit that the log has, if the log isn't begun anew meanwhile."""
     frames = beside.frames()
     at = rng.choice([0, *frames[:6], *frames[:12], *frames])
     answer = launched(f"rows a.db --json --table t --at {at} {words}", by=by, cwd=os.path.dirname(beside.path))

@@ -70,8 +70,8 @@ def page_at(file, frames, commit, page):
 @part
 def every_file_before(_):
     """All logs of two frames and files of two pages, of two letters and zeros: a commit is known to the twin exactly if
-    all files that checkpoints turn into this one have the same database there. The page that is the reason for an
-    unknown one differs between them, or the length if that is the reason."""
+    all files that checkpoints make into this one have the same database there. The page that makes it unknown isn't the
+    same in all of them, nor is the length if that does."""
     most, letters = 2, "0ab"
     files = [file for length in range(most + 2) for file in itertools.product(letters, repeat=length)]
     one = list(itertools.product(range(1, most + 1), letters, range(most + 1)))
@@ -162,7 +162,7 @@ class Several:
                 if is_headed(past.last_frames(commit).get(1, past.of_file(1)), past.size)]
 
     def judge(self, *words):
-        """Exactly the unknown ones are refused, and a note explains why. Counts the unknown and the known ones."""
+        """Refused are exactly those that aren't known, and a note says why. How many aren't, and how many are."""
         counts = [0, 0]
         for commit in sorted({commit for path in self.pasts for commit in self.commits(path)}):
             paths = [path for path in self.pasts if commit in self.commits(path)]
@@ -185,7 +185,7 @@ class Several:
 
 
 def told_of_each(commit, paths, words):
-    """Why the database of a commit of these files is refused; None if it isn't. And the notes that explain it."""
+    """Why the database of a commit of these files is refused; None if it isn't. And the notes that say more of it."""
     told, notes, none = {}, [], os.path.join(os.path.dirname(paths[0]), "none")  # of several, one isn't there
     for first in range(0, len(paths), 100):
         _, out, err = run("check", "--json", *words, "--at", commit, *paths[first:first + 100], none)

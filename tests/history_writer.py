@@ -6,7 +6,7 @@ INDEX_FRONT, INDEX_SALTS = 16, 32  # where FILE-shm has the last frame, and the 
 
 
 def without_mode(content):
-    """A database's bytes except the two that say whether it has a write-ahead log."""
+    """A database's bytes but for the two that say whether it has a write-ahead log."""
     return content[:18] + b"\2\2" + content[20:]
 
 
@@ -115,7 +115,7 @@ class Writer:
     # ---- what lies beside
 
     def read(self):
-        """A reader keeps the log from being begun again, and later commits from being copied."""
+        """A reader keeps the log from being begun anew, and later commits from being copied."""
         if self.rng.random() < 0.35:
             if self.reader:
                 self.reader.close()

@@ -23,7 +23,7 @@ BUILT_BY = {"sqrescue-locked": "locks/build", "library": "./build-c"}
 
 WIDEST = 900  # of what is printed of a row that fails
 
-# For databases that a test only builds: then nobody waits for a disk. A rollback journal has other headers with it.
+# For databases that a test only makes: nobody waits then for a disk. A rollback journal has other headers with it.
 UNSYNCED = "PRAGMA synchronous = off"
 
 passed = failed = skipped = 0
@@ -73,7 +73,7 @@ def header_folder():
 
 
 def recorder(name):
-    """The script rig/NAME in a copy of rig/, so it leaves the recorder that it compiles there, not in bin/."""
+    """The script rig/NAME in a copy of rig/, so that it leaves the recorder that it compiles there, not in bin/."""
     need("gcc")
     shutil.copytree(TOP / "rig", Path(holder.name, "rig"))
     return os.path.join(holder.name, "rig", name)

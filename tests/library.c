@@ -61,7 +61,7 @@ static void check(int is_right, const char *what) {
     printf("failed: %s: %s\n", at_hand, what);
 }
 
-/* The bytes of a file in a block of just that length, so a read after it is seen; none of one that is missing. */
+/* The bytes of a file in a block of just that length, so that a read behind it is seen; none of one that is missing. */
 static uint8_t *bytes_of(const char *path, const char *end, size_t *len) {
     char name[4096];
     snprintf(name, sizeof name, "%s%s", path, end);
@@ -361,8 +361,8 @@ static void answer_unknown(const struct sqr_files *files, struct sqr_commit comm
     free(places);
 }
 
-/* The view at a commit that is known is the view of the files whose log ends after it, with the pages that its header
-   counts, and the database that recovery leaves of these: the file PATH.at-FRAME, if it is there. */
+/* The view at a commit that is known is the view of the files whose log ends behind it, with the pages that its header
+   counts, and the database that recovery leaves of these: the file PATH.at-FRAME, where it is there. */
 static void answer_commit(const struct sqr_files *files, struct sqr_commit commit, uint32_t page_size) {
     struct sqr_files cut = *files;
     struct sqr_view view = SQR_VIEW_INIT, wanted = SQR_VIEW_INIT, kept = view;
@@ -705,7 +705,7 @@ static void run_threads(char **paths) {
     }
 }
 
-/* The name is this text, and zeros after it. */
+/* The name is this text, and zeros behind it. */
 static int is_name(const struct sqr_name *name, uint32_t length, const char *text) {
     struct sqr_name wanted;
     memset(&wanted, 0, sizeof wanted);

@@ -1,14 +1,14 @@
-"""Readings during writes with a rollback journal, and during VACUUM. Readings with a connection that holds RESERVED
-alone, with a journal whose writer is gone, and with FILE.lock."""
+"""Readings beside writers with a rollback journal, beside VACUUM, beside a connection that holds RESERVED alone, beside
+a journal whose writer is gone, and beside FILE.lock."""
 import contextlib, os, re, sqlite3, subprocess, sys, time
 
 from locks_runs import *
 
 LONG = 10 if "--long" in sys.argv else 1
-BESIDE = int(os.environ.get("READINGS", 300 * LONG))  # readings during writes, a third in each mode
-VACUUMS = BESIDE * 2 // 3  # and during VACUUM
+BESIDE = int(os.environ.get("READINGS", 300 * LONG))  # readings beside writers, a third in each mode
+VACUUMS = BESIDE * 2 // 3  # and beside VACUUM
 ROWS = 300  # of a table whose rows all have the number of the last commit: some 200,000 bytes are printed
-MANY = 5000  # of a larger one: some 3 million bytes are printed
+MANY = 5000  # of one of which some 3 million bytes are printed
 NONE_CURRENT = "1073742337"  # the byte of the launcher's own lock
 
 WRITER = """import ctypes, random, sqlite3, sys
@@ -121,7 +121,7 @@ READINGS = [
 
 
 def beside(mode, kind, count):
-    """So many readings during writes: what is wrong with the first few of them."""
+    """So many readings beside a writer: what is wrong with the first few of them."""
     faults = []
     filled(mode)
     with Writer(mode, kind):
@@ -148,15 +148,15 @@ def readings_beside_vacuum():
 
 
 def is_alone(held):
-    """Whether the launcher holds its special lock, which means that no journal is current."""
+    """Whether the launcher took its own lock, which says that no journal is current."""
     numbers = held.said.split()[1].split(",")
     return NONE_CURRENT in read(f"/proc/{held.child.pid}/fdinfo/{numbers[0]}").decode()
 
 
 @test
 def a_connection_that_holds_reserved():
-    """FILE alone is the database while somebody is about to write, with a hot journal or none. Its journal may come
-    and go during the reading, and RESERVED is never locked."""
+    """FILE alone is the database beside one that is about to write, with a hot journal or none. Its journal may come
+    and go meanwhile, and RESERVED is never taken."""
     for mode in "delete", "truncate", "persist":
         for begins in ("BEGIN IMMEDIATE",), ("PRAGMA synchronous=off", "BEGIN IMMEDIATE", "UPDATE t SET number=-1"):
             filled(mode)
@@ -189,7 +189,7 @@ def a_writer_that_begins_meanwhile():
 
 
 def torn(mode):
-    """A database whose writer ended in the middle of a commit: it has a hot journal, and FILE has new pages."""
+    """A database whose writer ended in the middle of a commit: a hot journal lies beside it, and FILE has new pages."""
     filled(mode)
     before = read("a.db")
     left(f"PRAGMA journal_mode={mode}", "PRAGMA cache_size=5", "BEGIN",
@@ -199,7 +199,7 @@ def torn(mode):
 
 @test
 def a_journal_whose_writer_is_gone():
-    """A hot journal that nobody will finish is current: it is rolled back in what is read. Others may have it open."""
+    """A hot journal that nobody will finish is current: it is rolled back in what is read, beside others too."""
     for mode in "delete", "truncate", "persist":
         before = torn(mode)
         yield is_(f"{mode}: torn", read("a.db") != before and os.path.getsize("a.db-journal") > 512)
@@ -244,8 +244,8 @@ def held_before_a_journal_is_lost(mode, line, rows=ROWS):
 
 @test
 def a_journal_that_changes_meanwhile():
-    """A reader may be older than a writer that is gone and never wrote FILE. It may write over that writer's journal:
-    FILE alone is the database from then on, and nothing is refused."""
+    """A reader from before a writer that is gone, and never wrote FILE, may write over its journal: FILE alone is the
+    database from then on, and nothing is refused."""
     for mode in "delete", "persist":
         for line, fault_of in READINGS:
             with held_before_a_journal_is_lost(mode, line) as (session, held):

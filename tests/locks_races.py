@@ -48,7 +48,7 @@ def template(mode):
 
 
 class Race:
-    """Trials, one after the other, of a recovery in a folder beside two writers."""
+    """Trials, one behind the other, of a recovery in a folder beside two writers."""
 
     def __init__(self, files, seed, command):
         self.files, self.command, self.chance = files, command, random.Random(seed)
@@ -217,7 +217,7 @@ def fault_of(path, low, high, is_deep):
 
 def snapshots(name, command, copies=SNAPSHOTS):
     """What is wrong with copies that a command makes beside a workload, and how long the slowest took. Between two is
-    as much time as one took: readings without a pause keep SQLite from beginning its log again, and it grows."""
+    as much time as one took: readings without a pause keep SQLite from beginning its log anew, and it grows."""
     page_size, mode, kills, profiles = PROFILES[name]
     path, out = (os.path.join(os.getcwd(), name.replace(" ", "-") + end) for end in (".db", ".copy"))
     writers = Writers(path, page_size, mode, kills, profiles)

@@ -57,7 +57,7 @@ def a_recovery_beside_a_connection():
 
 @test
 def a_reader_beside_a_connection():
-    """Commits go on beside a reader; FILE, what is in its log and FILE-shm stay, and no last close deletes them."""
+    """Commits go on beside a reader; FILE, what stands in its log and FILE-shm stay, and no last close deletes them."""
     made("wal")
     session = Session()
     for line in "PRAGMA wal_autocheckpoint=0", "INSERT INTO t VALUES(zeroblob(9000))":

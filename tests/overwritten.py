@@ -11,7 +11,7 @@ def in_wal_mode(database):
 
 
 def changed(db, draw, number):
-    """One commit: some rows are written again, now and then many are added or deleted."""
+    """One commit: some rows are written anew, now and then many are added or deleted."""
     db.execute("BEGIN")
     for key in draw.sample(range(80), 2):
         db.execute("INSERT OR REPLACE INTO a VALUES(?, ?)", (key, draw.randbytes(300)))

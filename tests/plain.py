@@ -80,7 +80,7 @@ class Cell:
 
 
 def local_size(payload, usable, is_table_leaf):
-    """How much of a payload is in its cell (fileformat2, 1.6)."""
+    """How much of a payload stands in its cell (fileformat2, 1.6)."""
     most = usable - 35 if is_table_leaf else (usable - 12) * 64 // 255 - 23
     if payload <= most:
         return payload
@@ -320,7 +320,7 @@ def cells_in(page, head, usable):
 
 
 def freeblocks(page, at, start, usable):
-    """The places of a page's freeblocks; None if one can't be there."""
+    """Where the freeblocks of a page stand; None where one can't stand there."""
     spans, last = [], 0
     while at:
         if at < start or at <= last or at + 4 > usable:

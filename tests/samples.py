@@ -15,7 +15,7 @@ def words(*numbers):
 
 
 def put(file, at, piece):
-    """The file's bytes with those of the piece in the place of those that are there."""
+    """The file's bytes with those of the piece in the place of those that stand there."""
     piece = bytes(piece)
     assert at + len(piece) <= len(file)
     return file[:at] + piece + file[at + len(piece):]
@@ -29,7 +29,7 @@ def put_all(file, pieces):
 
 
 def page_of(*pieces):
-    """A page of zeros except these pieces at their places."""
+    """A page of zeros but for these pieces at their places."""
     return put_all(bytes(PAGE), pieces)
 
 

@@ -1,4 +1,4 @@
-"""How sqlite3 reads texts of tables and indexes, in the words of crates/test_schema, and texts written by rules."""
+"""What sqlite3 says of texts of tables and indexes, in the words of crates/test_schema, and texts made by rules."""
 import random, sqlite3
 
 LETTERS = {"": "B", "TEXT": "T", "NUM": "N", "INT": "I", "REAL": "R"}  # of the types that CREATE TABLE AS SELECT writes
@@ -26,7 +26,7 @@ def affinities(db, table):
 
 
 def collation(db, table, column):
-    """The collation of a column, which is the one of an index of it."""
+    """The collation of a column: that of an index of it."""
     schema = "temp." if rows(db, "SELECT 1 FROM sqlite_temp_schema WHERE name = ?", table) else ""
     db.execute(f"CREATE INDEX {schema}{OWN}_i ON {quoted(table)}({quoted(column)})")
     found = rows(db, f"PRAGMA index_xinfo({OWN}_i)")[0][4]
@@ -63,7 +63,7 @@ def described(db, table):
 
 
 def automatic(db, table):
-    """The indexes that sqlite3 creates for a table's keys, in its order: a column's number, its collation, DESC."""
+    """The indexes that sqlite3 makes of a table's keys, in its order: a column's number, its collation, DESC."""
     found = {it[1]: it[3] for it in rows(db, f"PRAGMA index_list({quoted(table)})") if it[3] in ("u", "pk")}
     out = ""
     for name in sorted(found, key=lambda it: int(it.rsplit("_", 1)[1])):
@@ -84,7 +84,7 @@ def index_described(db, name, table):
 
 
 def run(db, text):
-    """Whether sqlite3 accepts the first statement of a text. What follows it isn't looked at."""
+    """Whether sqlite3 takes the first statement of a text. What follows it isn't looked at."""
     before = db.total_changes, len(rows(db, "PRAGMA table_list")), len(rows(db, "SELECT 1 FROM sqlite_schema"))
     try:
         db.executescript(text)
@@ -104,19 +104,19 @@ def opened(*tables):
 
 
 def table_answer(text):
-    """How sqlite3 reads the columns of a table's text; None if it refuses it."""
+    """What sqlite3 says of the columns of a table's text; None if it refuses it."""
     db = opened()
     return described(db, table_of(db)) if run(db, text) and table_of(db) is not None else None
 
 
 def automatic_answer(text):
-    """How it reads the automatic indexes of a table's text."""
+    """What it says of the automatic indexes of a table's text."""
     db = opened()
     return automatic(db, table_of(db)) if run(db, text) and table_of(db) is not None else None
 
 
 def index_answer(text, *tables):
-    """How it reads an index's text over these tables."""
+    """What it says of an index's text over these tables."""
     db = opened(*tables)
     if not run(db, text):
         return None

@@ -1,5 +1,5 @@
-"""A second form of the definitions of schema_tokens, schema_text, schema_columns, schema_index and schema_ast: how
-they read a text.
+"""The definitions of schema_tokens, schema_text, schema_columns, schema_index and schema_ast once more: what they say
+of a text.
 Its functions have the names of these definitions, or of the rules of SQLite's grammar."""
 import re
 from collections import namedtuple
@@ -141,7 +141,7 @@ class Statement:
         return name_of(self.bytes_at(at))
 
     def head(self):
-        """What the statement creates, and which token is its name."""
+        """What the statement makes, and which token is its name."""
         temporary, unique = self.word(1, "TEMP", "TEMPORARY"), self.word(1, "UNIQUE")
         virtual = self.word(1, "VIRTUAL")
         at = 2 if temporary or unique or virtual else 1
@@ -155,7 +155,7 @@ class Statement:
             return "Table", name
         return ("Index" if self.word(at, "INDEX") and not temporary and not virtual else None), name
 
-    # ---- how many tokens a rule reads; 0 if it doesn't fit
+    # ---- how many tokens a rule takes; 0 if it doesn't fit
 
     def group(self, at):
         """`(` and its `)`, with tokens between them."""
@@ -214,7 +214,7 @@ class Statement:
         return 3 if self.word(at + 1, "+", "-") and self.value(at + 2) else 0
 
     def after(self, words, length):
-        """So many words, and a rule that reads tokens."""
+        """So many words, and a rule that takes tokens."""
         return words + length if length else 0
 
     def references(self, at):
@@ -371,7 +371,7 @@ def last(items, rule):
 
 
 class Table:
-    """The meaning of the clauses of a table; `clauses` is None if the text isn't read."""
+    """What the clauses of a table say; `clauses` is None if the text isn't read."""
 
     def __init__(self, text):
         self.statement = Statement(text)
@@ -484,7 +484,7 @@ class Table:
         return self.columns[at].collate if at < len(self.columns) else None
 
     def key_columns(self, key):
-        """For each column of a key its number, its collation and DESC."""
+        """Of each column of a key its number, its collation and DESC."""
         if key.own:
             descends = key.primary and self.statement.word(self.clauses[key.clause].start + 2, "DESC")
             return [self.key_column(key.columns - 1, None, descends)]
@@ -499,7 +499,7 @@ class Table:
         return at, self.collation_name(collate or self.collate_of(at)), bool(descends)
 
     def automatic_indexes(self):
-        """The columns of the indexes that SQLite creates for the keys, in order."""
+        """The columns of the indexes that SQLite makes of the keys, in order."""
         integer = self.integer_key()
         every = [self.key_columns(it) for it in self.keys() if not (it.primary and integer is not None)]
         if self.has("WithoutRowid") and integer is not None:
@@ -580,7 +580,7 @@ class IndexText:
         return name if not depth and not due else None
 
     def terms(self):
-        """For each term its column's name, or None; its collation, or None; DESC."""
+        """Of each term its column's name, or None; its collation, or None; DESC."""
         for start, end in self.extents():
             it = self.statement
             ordered = end - start > 1 and it.word(end - 1, "ASC", "DESC") and not self.is_due(start, end - 1)

@@ -1,7 +1,7 @@
 """Texts of CREATE for tests/scripts: made by a grammar with odd blanks, comments and quotes, and with dangerous pieces
 put in. A seed makes the same texts each time."""
 
-# What is between two words: mostly a blank.
+# What stands between two words: mostly a blank.
 CALM = [" "] * 24 + ["  ", "\n", "\t", "/* c */"]
 GAPS = [" "] * 12 + ["\n", "\n  ", "\t", "\f", "\r\n", " \v", "/* c */", " /*TEXT*/ ", "/*INT*/", "/**/", " --x\n",
                      "--x\r\n", " /*\ngo\n*/ ", "\n/*;*/", " \ufeff ", "/*BLOB*/", "--INT\n", " -- ;\n"]
@@ -20,7 +20,7 @@ CALLS = ["abs(a)", "length(a)", "writefile('pwn1',a)", "edit(a,'touch pwn1')", "
          "[edit] (a,'touch pwn1')"]
 WORDS = ["INT", "TEXT", "BLOB", "REAL", "NUM", "X", "INTEGER", "VARCHAR", "FLOAT", "ANY", "POINT", "CHA", "R", "go",
          "BO", "OB", "T"]
-ODD_WORDS = ['"INT"', "'TEXT'", "[BLOB]", "END"]  # of types; rows --sql doesn't take each with a number after it
+ODD_WORDS = ['"INT"', "'TEXT'", "[BLOB]", "END"]  # of types; rows --sql doesn't take each with a number behind it
 VALUES = [None, 0, 1, 2, 5, -7, 2.5, "abc", "", "it's\n.system touch pwn1\ngo\n", b"", b"\x00\xff", b"12", 2**63 - 1,
           -2**63, 1e300, float("inf"), "ABC", "go", "\n/\n", "\ufeff", "x\x00y", "p\r\nq", "lone\rCR", "p\nq"]
 

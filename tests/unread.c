@@ -1,5 +1,5 @@
 /* Loaded into a program, fails each read of the file that FAILS names where it begins at the place that FROM names or
-   after it; one that begins before that place ends there. */
+   behind it; one that begins before that place ends there. */
 typedef unsigned long size_t;
 typedef long ssize_t;
 typedef long off_t;

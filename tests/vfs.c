@@ -5,7 +5,7 @@
    vfs calls EXTENSION FILE      what the VFS opens, deletes and passes on, call by call; loaded twice
    vfs threads EXTENSION FILE    threads that open the sample database at its commits
    vfs in BOX COMMAND..          runs a command: `unread` without process_vm_readv(2), `closed` without close_range(2),
-                                 clone3(2) and unshare(2), so no call gets a task
+                                 clone3(2) and unshare(2), so that no call gets a task
 
    The last line of all but `in` is 'N passed, M failed'. */
 #define _GNU_SOURCE

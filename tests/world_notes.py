@@ -69,7 +69,7 @@ def a_super_journal_that_is_gone():
 
 @test
 def a_super_journal_of_another_word():
-    """The option takes two words, is before `--`, and says nothing of other logs."""
+    """The option takes two words, stands before `--`, and says nothing of other logs."""
     fill(DB, None, SUPER)
     for line in "recover --super-journal=maybe a.db", "check --super-journal a.db", "recover --super-journal= a.db":
         yield line, unchanged(line, 2, "", TEXT)
@@ -207,7 +207,7 @@ VERBOSE = [  # files, line, status, standard output, what notes say in any order
     ((first_page(2), WAL), "check", 1, TEXT, ["shorter"], ""),
 ]
 
-# The note of a file whose length differs from its header, and of a header with more pages than the log.
+# The note of a file that isn't as long as its header says, and of a header that counts more pages than the log.
 LENGTH = r"sqrescue: note: (\S+ (ends at byte|goes on for)|the header counts) .*\n"
 
 
@@ -265,7 +265,7 @@ UNREAD = [  # files, which of them can't be read and from where, and the lines o
 
 @test
 def verbose_of_what_cannot_be_read():
-    """The file, and what the system reports of it, also where it was open by then."""
+    """The file, and what the system says of it, also where it was open by then."""
     unread = preloaded(holder.name, "unread")
     for files, name, place, lines in UNREAD:
         fill(*files)
@@ -280,7 +280,7 @@ def verbose_of_what_cannot_be_read():
 
 @test
 def verbose_of_what_is_dropped():
-    """What `recover` leaves after the front."""
+    """What `recover` leaves behind the front."""
     size = PAGE + 24
     ends = [32 + frames * size for frames in range(7)]
     rows = [
@@ -417,7 +417,7 @@ def verbose_notes_that_cannot_be_written():
 
 @test
 def a_recovery_that_cannot_be_told():
-    """What was done is noted where it can't be printed; what is built again is taken away."""
+    """What was done is noted where it can't be printed; what is made anew is taken away."""
     done = {"wal: front 3, 3 pages": (DB, WAL), "journal: 1 records, 1 pages": (DB, None, JOURNAL)}
     with open("/dev/full", "wb") as full:
         for told, files in done.items():
@@ -485,7 +485,7 @@ def on_a_terminal(*words):
 
 @test
 def refusals_on_a_terminal():
-    """They come with the path, the cause and the next step; elsewhere the line is alone."""
+    """They come with the path, the cause and the next step; elsewhere the line stands alone."""
     rows = [
         ((DB, WAL), ["recover", "none.db"], r"none\.db: No such file.*", "see whether the name is right",
          "file failed"),
@@ -534,7 +534,7 @@ def a_full_disk():
 
 @test
 def files_of_another_length():
-    """A file that ends before its header says, or goes on after that, is noted where no log counts beside it."""
+    """A file that ends before its header says, or goes on behind that, is noted where no log counts beside it."""
     named = first_page(3)
     rows = {"cut": named + leaf(), "cut in a page": named + leaf() * 2, "longer": named + leaf() * 2 + b"x"}
     rows["cut in a page"] = rows["cut in a page"][:-1]

@@ -15,7 +15,7 @@ TEXT, ANY = re.compile(".+", re.S), re.compile(".*", re.S)
 
 TESTS = []
 
-# The program is in a folder that every user may look into.
+# The program stands in a folder that every user may look into.
 holder = tempfile.TemporaryDirectory()
 os.chmod(holder.name, 0o755)
 program = shutil.copy(path_of("sqrescue"), os.path.join(holder.name, "sqrescue"))

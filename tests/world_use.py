@@ -48,7 +48,7 @@ LENGTH_OF_ANY = re.compile(LENGTH.pattern.removesuffix("?").replace("a.db", r"\S
 
 @test
 def a_writer():
-    """In each mode, with its lock reserved, after the first pages that it wrote, and once it has committed."""
+    """In each mode, with its lock reserved, behind the first pages that it wrote, and once it has committed."""
     for kind in "shell", "module":
         for mode in MODES:
             with begun(kind, mode, "BEGIN IMMEDIATE;") as other:
@@ -177,7 +177,7 @@ def force():
 
 
 def beside_locks(content):
-    """What is before a command that is to find this text in place of the system's list of locks; no such file
+    """What stands before a command that is to find this text in place of the system's list of locks; no such file
     where it is None."""
     begins = ["unshare", "-m"] if IS_ROOT else ["unshare", "-rm"]
     if content is None:

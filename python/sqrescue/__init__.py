@@ -1,25 +1,25 @@
-"""The database that a SQLite file and its logs define, page by page, over libsqrescue (include/sqrescue.h).
+"""The database that a SQLite file shows with the logs beside it, page by page, over libsqrescue (include/sqrescue.h).
 
-    with View("ledger.db") as view:         # holds the locks of a reader of SQLite, and writes nothing
+    with View("ledger.db") as view:         # takes the locks of a reader of SQLite, and writes nothing
         print(len(view), view.page_size)
         first = view[1]                     # pages are counted from 1
-        view.read_into(2, buffer)           # a page into your buffer
+        view.read_into(2, buffer)           # a page into a buffer of your own
         for page in view:
             ...
         view.check()                        # a Report, or the exception Damaged
         view.roles()                        # what each page is used for, also of a damaged database
         for commit in view.commits():       # of the write-ahead log
             if commit.known:                # or a later checkpoint may have changed that database
-                before = view.at(commit.frame)  # a View of the database at that commit
-    recover_to("ledger.db", "copy.db")      # a new file with what a recovery would leave; any writer may go on
-    recover("ledger.db")                    # a recovery in place, while nobody else has it open
-    db.load_extension(extension())          # db: a connection of sqlite3, which then reads commits by SQL
+                before = view.at(commit.frame)  # a View of the database as it was at that commit
+    recover_to("ledger.db", "copy.db")      # a new file with what a recovery would leave, beside any writer
+    recover("ledger.db")                    # a recovery in its place, while nobody else has it open
+    db.load_extension(extension())          # of a connection of sqlite3, which then reads commits by SQL
     db.execute("ATTACH ? AS old", (uri("ledger.db", at=4),))
 
-The library is the file that SQRESCUE_LIBRARY names. Otherwise it is the one next to this file, as in a wheel, or the
-one of this repository, or the system's. While a View of a path is open, its bytes are of one moment, although others
-write. This also holds in a process that has the same database open with the module sqlite3. If you pass bytes, nobody
-may write to them during a call."""
+The library is the file that SQRESCUE_LIBRARY names, or the one beside this file, as a wheel has it, or that of this
+repository, or the system's. While a View of a path is open its bytes are of one moment, beside any writer, also in a
+process that has the same database open by the module sqlite3. Of bytes that are handed over nobody writes to them
+meanwhile."""
 import ctypes
 import errno
 import mmap
@@ -66,9 +66,9 @@ class Error(Exception):
 
 
 class Damaged(Error):
-    """The database isn't well formed: `fault` is the name of a fault, at page `page`. From a deep check also: what it
-    holds isn't sound, at cell `cell` of that page, or at row `row` of the schema, both from 0. A place that the fault
-    doesn't name is None."""
+    """The database isn't well formed: `fault` is the name of a fault, at page `page`. Of a deep check also: or what it
+    holds isn't sound, at cell `cell` of that page, or at row `row` of the schema, both from 0; None where it names
+    none."""
     status = 1
 
     def __init__(self, fault, page, cell=None, row=None):
@@ -82,7 +82,7 @@ class Damaged(Error):
 
 
 class NotJudged(Error):
-    """A deep check with `complete` found the database sound, but didn't judge all of it. `report`: its DeepReport."""
+    """A deep check with `complete` found the database sound, and judged not all of it. `report`: its DeepReport."""
     status = 31
 
     def __init__(self, report):
@@ -94,7 +94,7 @@ class NotJudged(Error):
 
 
 def _refusal(name, status, doc, base=None, number=None):
-    """The Error of this name and status; an OSError has this errno if the system names no other."""
+    """The Error of this name and status; an OSError has this errno, where the system names no other."""
     fields = {"__doc__": doc, "__module__": __name__, "status": status, "_errno": number}
     return type(name, (Error, base) if base else (Error,), fields)
 
@@ -208,7 +208,7 @@ FILES_ONLY, NO_LOCK, AT, LARGE, POINTER_MAPS, COMPLETE = 1, 2, 4, 8, 16, 32
 
 
 def _found(name="libsqrescue.so.1"):
-    """The path of the library, or of another file next to it."""
+    """Where the library is, or another file beside it."""
     here = os.path.dirname(os.path.abspath(__file__))
     top = os.path.dirname(os.path.dirname(here))
     for folder in (here, os.path.join(top, "lib"), os.path.join(top, "release", "lib")):
@@ -252,7 +252,7 @@ _library = _loaded()
 
 
 def _error(status, path=None, out=None, number=0):
-    """The exception for a refusal; if the system caused it, with its errno and the names of the files."""
+    """The exception of a refusal; of one that the system gave, with its errno and the names of the files."""
     error = ERRORS.get(status, Error)
     text = f"status {status}" if error is Error else error.__doc__
     if path is not None and issubclass(error, OSError):
@@ -262,7 +262,7 @@ def _error(status, path=None, out=None, number=0):
 
 
 def _by_path(call, path, out, *rest):
-    """Calls a function by path, and raises if it is refused."""
+    """Makes a call by path, and raises where it is refused."""
     names = [_path(path)] if out is None else [_path(path), _path(out)]
     ctypes.set_errno(0)
     status = call(*names, *rest)
@@ -271,14 +271,14 @@ def _by_path(call, path, out, *rest):
 
 
 def _judge(status):
-    """Raises if a status is a refusal."""
+    """Raises where a status is a refusal."""
     if status:
         raise _error(status)
 
 
 def _lent(content):
     """A pointer to these bytes, and their number. It keeps them alive; bytes, bytearrays and maps aren't copied. A
-    TypeError if it is no object like bytes."""
+    TypeError where it is no object like bytes."""
     if isinstance(content, (mmap.mmap, bytearray)):
         return ctypes.cast((ctypes.c_char * len(content)).from_buffer(content), Bytes), len(content)
     if not isinstance(content, bytes):
@@ -287,7 +287,7 @@ def _lent(content):
 
 
 def _all_of(call, lent, kind, out, count):
-    """The entries that a scan finds; `count` gets their number from what it writes to `out`."""
+    """The entries that a scan finds, of which `count` tells the number from what it writes to `out`."""
     entries = (kind * 1)()
     status = call(*lent, entries, 0, out)
     if status == NO_ROOM:
@@ -303,19 +303,19 @@ def _commits_of(lent):
 
 
 def _known_commits_of(files):
-    """The Commits of the write-ahead log of files, with whether the database of a commit is known."""
+    """The Commits of the write-ahead log of files, and of each whether its database is known."""
     known = _all_of(_library.sqr_known_commits, (files,), Byte, Word(), lambda out: out.value)
     return [it._replace(known=bool(is_known)) for it, is_known in zip(_commits_of((files.wal, files.wal_len)), known)]
 
 
 def commits_of(wal):
     """The Commits of a write-ahead log: the frame that ends each, from 1, how many frames it has, and how many pages
-    the database has there. `known` is None, because it depends on the database file."""
+    the database has there. `known` is None, because that takes the database file."""
     return _commits_of(_lent(wal))
 
 
 def scan_journal(journal):
-    """What a rollback journal holds: a Journal with its valid Records; its page size is 0 if it isn't hot."""
+    """What a rollback journal holds: a Journal with its Records that count; its page size is 0 where it isn't hot."""
     out = _Journal()
     found = _all_of(_library.sqr_journal_scan, _lent(journal), _Record, out, lambda out: out.records)
     records = [Record(record.at, record.page) for record in found]
@@ -362,7 +362,7 @@ def _checked(files, flags, frame=0):
 
 
 def _deeply_checked(files, flags, frame=0):
-    """The DeepReport of a sound database; otherwise Damaged, or NotJudged if everything was to be judged."""
+    """The DeepReport of a sound database; otherwise Damaged, or NotJudged where all was to be."""
     answer, rows = _DeepAnswer(), (Long * 0)()
     found = answer.report
     status = _library.sqr_check_deep_all(files, flags, frame, rows, 0, answer)
@@ -393,12 +393,12 @@ def _path(path):
 
 
 def _options(wait, at=0):
-    """How long to wait for locks, and the frame of a commit."""
+    """How long locks are waited for, and the frame of a commit."""
     return _Options(ctypes.sizeof(_Options), int(max(0, min(wait * 1000, 2**32 - 1))), at)
 
 
 class _Source:
-    """Files that are read within `with`, by any number of threads. They are released once they are closed and nobody
+    """Files that are read within `with`, by any number of threads. They are given up once they are closed and nobody
     reads them any more."""
 
     def __init__(self):
@@ -431,7 +431,7 @@ class _Source:
 
 
 class _Bytes(_Source):
-    """A database file and its logs, as bytes that a caller passes."""
+    """A database file and its logs, as bytes that are handed over."""
 
     def __init__(self, database, wal, journal):
         super().__init__()
@@ -440,8 +440,7 @@ class _Bytes(_Source):
 
 
 class _Path(_Source):
-    """A database file by its path, and the logs next to the file that it leads to. They don't change while it is
-    open."""
+    """A database file by its path, and the logs beside what it leads to, as they stay while it is open."""
 
     def __init__(self, path, flags, wait):
         super().__init__()
@@ -460,16 +459,16 @@ class _Path(_Source):
 
 
 def _source(database, wal, journal, flags, wait, lock):
-    """The files of a path, or their bytes."""
+    """The files of a path, or the bytes of each."""
     if isinstance(database, (str, os.PathLike)):
         return _Path(database, flags | (0 if lock else NO_LOCK), wait)
     return _Bytes(database, wal, journal)
 
 
 class View:
-    """The database that a file and its logs define. They are given as a path, with the logs next to the file that it
-    leads to, or as bytes. It is a sequence of pages, counted from 1. It waits for locks up to `wait` seconds. Without
-    `lock` it holds none, and nobody may write to the files while it is open."""
+    """The database that a file and its logs show: of a path, whose logs lie beside what it leads to, or of the bytes of
+    each. It is a sequence of pages, counted from 1. Locks are waited for up to `wait` seconds; without `lock` none are
+    taken, and nobody may write to the files meanwhile."""
 
     def __init__(self, database, wal=b"", journal=b"", *, wait=5.0, lock=True):
         self._is_part, self._commits, self._at = False, None, None
@@ -495,8 +494,8 @@ class View:
         self.close()
 
     def close(self):
-        """Releases the files and their locks, unless it is a view of `at`. Pages that were read stay; the view can't be
-        used any more."""
+        """Gives up the files, and their locks, unless `at` made it. Pages that were read stay; the view can't be used
+        any more."""
         self._view = self._files = None
         if not self._is_part:
             self._source.close()
@@ -507,7 +506,7 @@ class View:
         return (flags, 0) if self._at is None else (flags | AT, self._at)
 
     def _opened(self):
-        """The struct of the view, and the files; only within `with` of the source."""
+        """The struct of the view, and the files; within `with` of the source alone."""
         view, files = self._view, self._files
         if view is None or files is None:
             raise ValueError("the view is closed")
@@ -540,30 +539,29 @@ class View:
         return (self[number] for number in range(len(self), 0, -1))
 
     def check(self, *, large=False, pointer_maps=False):
-        """The Report of a database that is well formed; otherwise Damaged. A database with auto-vacuum raises
-        AutoVacuum without pointer_maps. With large it may have up to 2**40 bytes."""
+        """The Report of a database that is well formed; otherwise Damaged. With pointer_maps one of auto-vacuum too,
+        which otherwise is AutoVacuum; with large up to 2**40 bytes."""
         with self._source:
             return _checked(self._opened()[1], *self._asked(large, pointer_maps))
 
     def check_deep(self, *, large=False, complete=False):
-        """The DeepReport of a database that is well formed, and whose records, schema, indexes and rows are sound;
-        otherwise Damaged. The indexes and tables that aren't judged are in the rows `indexes` and `tables` of the
-        schema, from 0. Pointer maps are judged, too. With complete it raises NotJudged if anything isn't judged except
-        the bodies of views and triggers."""
+        """The DeepReport of a database that is well formed, and whose records, schema, indexes and rows are sound, but
+        for the indexes and the tables in the rows `indexes` and `tables` of the schema, from 0, which aren't judged;
+        otherwise Damaged. Pointer maps are judged, too. With complete NotJudged if anything isn't judged but the
+        bodies of views and triggers."""
         flags, frame = self._asked(large, False)
         with self._source:
             return _deeply_checked(self._opened()[1], _deep_flags(flags, complete), frame)
 
     def roles(self, *, large=False, pointer_maps=False):
-        """The Roles of the pages, page 1 first: the use of a page, one of USES, and the page that goes with it. That is
-        the root of its tree, or the page whose payload it holds. Also the fault that `check` finds, with its page, or
-        None."""
+        """The Roles of the pages, page 1 first: the use of each, one of USES, and the page that goes with it, the root
+        of its tree or the page whose payload it holds; and the fault that `check` finds, with its page, or None."""
         with self._source:
             return _roles_of(self._opened()[1], *self._asked(large, pointer_maps))
 
     def commits(self):
-        """The Commits of the write-ahead log, the first one first; none if there is no such log. If `known` is true,
-        `at` shows that database; otherwise it raises CommitOverwritten. They are looked for once."""
+        """The Commits of the write-ahead log, the first one first; none where there is no such log. `known` says
+        whether `at` shows that database, or raises CommitOverwritten. They are looked for once."""
         with self._source as source:
             self._opened()
             if self._commits is None:
@@ -575,9 +573,9 @@ class View:
             return self._commits
 
     def at(self, frame):
-        """The View of the database at a commit of the write-ahead log, by the frame that ends it, or at 0 before the
-        first commit. It is closed with this one. It raises NoSuchCommit if no commit ends there, and CommitOverwritten
-        if a later checkpoint may have changed that database."""
+        """The View of the database as it was at a commit of the write-ahead log, by the frame that ends it; at 0 before
+        the first commit. It is closed with this one. NoSuchCommit where no commit ends there; CommitOverwritten where a
+        later checkpoint may have changed that database."""
         frame = operator.index(frame)
         view = View.__new__(View)
         view._source, view._is_part, view._view = self._source, True, None
@@ -594,8 +592,8 @@ class View:
 
 
 def check(database, wal=b"", journal=b"", *, large=False, pointer_maps=False, wait=5.0, lock=True):
-    """The Report of a database that is well formed; otherwise Damaged, also if the files show none, and so have no
-    View. Otherwise as View.check."""
+    """The Report of a database that is well formed; otherwise Damaged, also where the files show none, and so have no
+    View. Else as View.check."""
     source = _source(database, wal, journal, FILES_ONLY, wait, lock)
     try:
         with source:
@@ -615,18 +613,18 @@ def check_deep(database, wal=b"", journal=b"", *, large=False, complete=False, w
 
 
 def recover(path, *, wait=5.0, lock=True):
-    """Recovers a database in place: folds its write-ahead log into it and empties the log, or rolls it back by a hot
-    journal. The Recovered names which of RECOVERIES it was. It raises InUse if somebody still has it open after `wait`
-    seconds. Without `lock` the caller must ensure that nobody has. After an error of the disk call it again."""
+    """Recovers a database in its place: folds its write-ahead log into it and empties that, or rolls it back by a hot
+    journal. The Recovered says which of RECOVERIES it was. InUse where somebody has it open still, once `wait` seconds
+    are over; without `lock` that nobody has is the caller's care. After an error of the disk it may be called again."""
     found = _Recovered()
     _by_path(_library.sqr_recover, path, None, 0 if lock else NO_LOCK, _options(wait), found)
     return Recovered(RECOVERIES[found.recovery], found.page_size, found.pages)
 
 
 def recover_to(path, out, *, at=None, wait=5.0, lock=True):
-    """Creates `out`, a new file with what a recovery would leave, or with the database at the commit that ends at the
-    frame `at`, or at 0 before the first. The database is only read, and any writer may go on. `out` is whole and
-    durable, or doesn't exist. It raises AlreadyThere if something exists at `out`."""
+    """Makes `out`, a new file with what a recovery would leave, or with the database as it was at the commit that ends
+    at the frame `at`, or at 0 before the first; the database is only read, beside any writer. `out` is whole and
+    durable, or not there; AlreadyThere where something is."""
     frame = 0 if at is None else operator.index(at)
     if not 0 <= frame < 2**32:
         raise NoSuchCommit(f"frame {frame}")
@@ -637,13 +635,13 @@ def recover_to(path, out, *, at=None, wait=5.0, lock=True):
 
 def extension():
     """The path of sqrescuevfs.so, the extension of SQLite, for `load_extension` of a connection of the module sqlite3.
-    If it isn't next to this file or in the repository, it is only the name: the system may find it."""
+    If it is neither beside this file nor in the repository, its name: the system may find it."""
     return _found("sqrescuevfs.so")
 
 
 def uri(path, *, at=None, wait=None, copy=None, flags=()):
-    """The URI of a database for a connection that has loaded `extension()`, to open or attach it with SQLite's
-    `uri=True`. `at` is the frame that ends a commit, or 0. `wait` is in seconds, `copy` in MiB, and `flags` are words
+    """The URI by which a connection that has loaded `extension()` opens or attaches a database, with SQLite's
+    `uri=True`. `at` is the frame that ends a commit, or 0; `wait` is in seconds, `copy` in MiB, and `flags` are words
     (docs/GUIDE.md, 'Read evidence by SQL')."""
     path = _path(path)
     if path.startswith(b"/"):
@@ -655,10 +653,10 @@ def uri(path, *, at=None, wait=None, copy=None, flags=()):
 
 
 def plan(database, wal=b"", journal=b"", *, wait=5.0, lock=True):
-    """The Steps of a recovery, one after another, for a caller's storage: the `content` of a page or of zeros at `at`,
-    a new length, or a `sync` of what was done before. They are for the database file, or if is_of_log is 1 for the
-    current log. In their order they leave what `recover` leaves. `database` is bytes, or a path, which is open until
-    the last step was read."""
+    """The Steps of what a recovery would do, one after another, for storage of a caller's own: the `content` of a page
+    or of zeros at `at`, a new length, what was done before made durable (`sync`); in the database file, or where
+    is_of_log is 1 in the log that counts. Carried out in their order they leave what `recover` leaves. `database` is
+    bytes, or a path, which is open until the last step was taken."""
     source = _source(database, wal, journal, FILES_ONLY, wait, lock)
     page_size, pages, made = Word(), Word(), _Plan()
     try:

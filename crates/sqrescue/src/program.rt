@@ -17,7 +17,8 @@ use cli_facts::{NoteWriter, Notes, Refusal, Status, SystemFile};
 use cli_files::{Count, Progress, tell_lock};
 use cli_held::Locks;
 use cli_job::{
-    Again, Answer, Begun, Given, Job, Source, Until, Watch, WhileSame, alone, before_of, source_of,
+    Again, Answer, Begun, Ended, Given, Job, Source, Until, Watch, WhileSame, alone, before_of,
+    source_of,
 };
 use cli_recover::{recover, recover_to};
 use cli_report::{VERSION, print_diff, report_to, salvage_to, tell_overwritten};
@@ -280,11 +281,14 @@ where
         Ok(before) => {
             let mut same = WhileSame::new(rt, &source.paths, before, &mut *out);
             let answer = read_from(rt, reading, &source, &mut same, notes);
-            let given = same.given_of(&answer);
+            let ended = same.ended(&answer);
             drop(same);
-            match given {
-                Some(given) => read_again(rt, reading, &alone(source), given, out, notes),
-                None => answer,
+            match ended {
+                Ended::Same => answer,
+                Ended::Changed(given) => {
+                    read_again(rt, reading, &alone(source), given, out, notes)
+                }
+                Ended::Unseen => Err(ShowError::Refused(Refusal::FileFailed)),
             }
         }
         Err(refusal) => Err(ShowError::Refused(refusal)),
