@@ -55,12 +55,12 @@ pub(crate) fn verbose_arg<'a>(alloc: Global) -> Arg<'a> {
 }
 
 pub(crate) fn super_journal_arg<'a>(alloc: Global) -> Arg<'a> {
-    let answers: &'static [&'static str] = &["present", "gone"];
+    let answers: &'static [&'static str] = &["present", "gone", "look"];
     option(
         alloc,
         "super-journal",
         "STATE",
-        "Whether the super-journal exists",
+        "Whether the super-journal exists; look: see if it does, as SQLite would",
     )
     .require_equals(true)
     .value_parser(answers)
@@ -89,6 +89,14 @@ pub(crate) fn large_arg<'a>(alloc: Global) -> Arg<'a> {
         alloc,
         "large",
         "Accept a database above 1 GiB, or a log above 2,097,152 frames",
+    )
+}
+
+pub(crate) fn any_arg<'a>(alloc: Global) -> Arg<'a> {
+    flag(
+        alloc,
+        "any",
+        "Accept any database: --large, --pointer-maps and --super-journal=look",
     )
 }
 

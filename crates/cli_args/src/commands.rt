@@ -1,12 +1,12 @@
 //! The commands and their options. Each function accepts and returns a `Result`, and none exits early: an unfinished
 //! command has much memory to free.
 use crate::arguments::{
-    Made, all_arg, all_deleted_arg, at_arg, cells_arg, changed_table_arg, changes_arg, commits_arg,
-    complete_arg, copy_arg, csv_arg, deep_arg, deleted_arg, deleted_changes_arg, each_commit_arg,
-    file_arg, files_arg, force_arg, from_arg, json_arg, large_arg, log_arg, no_lock_arg, only_with,
-    page_arg, pages_arg, places_arg, pointer_maps_arg, report_arg, script_arg, script_file_arg,
-    shown_maps_arg, sql_arg, super_journal_arg, table_arg, until_arg, verbose_arg, version_arg,
-    wait_arg,
+    Made, all_arg, all_deleted_arg, any_arg, at_arg, cells_arg, changed_table_arg, changes_arg,
+    commits_arg, complete_arg, copy_arg, csv_arg, deep_arg, deleted_arg, deleted_changes_arg,
+    each_commit_arg, file_arg, files_arg, force_arg, from_arg, json_arg, large_arg, log_arg,
+    no_lock_arg, only_with, page_arg, pages_arg, places_arg, pointer_maps_arg, report_arg,
+    script_arg, script_file_arg, shown_maps_arg, sql_arg, super_journal_arg, table_arg, until_arg,
+    verbose_arg, version_arg, wait_arg,
 };
 use crate::texts::{ALL, CHECK, DIFF, RECOVER, REPORT, ROWS, SALVAGE, SHOW};
 use clap::{Arg, Command};
@@ -38,6 +38,7 @@ fn base_command<'a>(
     let command = with_arg(command, Ok(verbose_arg(alloc)));
     let command = with_arg(command, Ok(json_arg(alloc)));
     let command = with_arg(command, at);
+    let command = with_arg(command, Ok(any_arg(alloc)));
     let command = with_arg(command, Ok(large_arg(alloc)));
     let command = with_arg(command, Ok(super_journal_arg(alloc)));
     let command = with_arg(command, Ok(wait_arg(alloc)));

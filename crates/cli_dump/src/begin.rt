@@ -15,8 +15,8 @@ use sqview::FileBytes;
 use std::alloc::Global;
 use std::io::{self, Write};
 
-/// The first commit of the log that counts, 0 among them, at which it is known which database was there; 0 where no
-/// write-ahead log counts. Refused as the log is, and as a view at 0 is, but never by CommitOverwritten.
+/// The first known commit of the current log, 0 among them; 0 if no write-ahead log is current. Refused as the log is,
+/// and as a view at 0 is, but never by CommitOverwritten.
 pub fn first_commit<F: FileBytes + Copy + Drop>(
     alloc: Global,
     limits: Limits,

@@ -82,7 +82,10 @@ window.addEventListener('load', () => {
       }
     });
   }
-  if (!byCommit.size && !lefts.length) put(section, 'div', 'No commit changed a row.', 'dim');
+  if (!byCommit.size && !lefts.length) {
+    const none = 'No commit of a write-ahead log changed a row. What a rollback journal undoes is not shown here.';
+    put(section, 'div', none, 'dim');
+  }
   for (const left of lefts) {
     const why = (left.page ? 'page ' + left.page.number + ': fault ' + left.fault.number + ' ' : '') + left['left out'];
     const words = left.from

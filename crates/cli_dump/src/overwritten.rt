@@ -1,4 +1,4 @@
-//! What is told of a commit at which it isn't known which database was there.
+//! Why a commit isn't known.
 ghost use Rattle.std.specs.Prelude.{IfOk};
 ghost use Rattle.sqwal.specs.Took.{TookWithin};
 ghost use Rattle.sqjournal.specs.Journal.{IsHot};
@@ -16,7 +16,7 @@ use std::alloc::Global;
 use std::fmt;
 use view_loss::{Loss, loss_at};
 
-/// A commit at which it isn't known which database was there, and why.
+/// A commit that isn't known, and why.
 #[derive(Clone, Copy, Debug)]
 pub struct Overwritten {
     /// The commit, by its last frame; 0 is before the first one.
@@ -94,7 +94,7 @@ impl fmt::Display for Overwritten {
     }
 }
 
-/// What is told of a commit of this scan that isn't known.
+/// Why a commit of this scan isn't known.
 fn overwritten_in<F: FileBytes + Copy + Drop>(
     alloc: Global,
     limits: Limits,

@@ -1,3 +1,4 @@
 pub mod ZerosBehindBytes
 pub mod ReadBefore
 pub mod JournalsLeft
+mod EndsOfJournals

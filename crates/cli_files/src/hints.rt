@@ -186,8 +186,8 @@ pub fn tell_dropped<E: Write>(
     Some(note)
 }
 
-/// Says of a database of so many pages where its header counts fewer or more; 0 if that count isn't valid. What is
-/// said.
+/// Notes if the header of a database of so many pages names fewer or more; 0 if that number isn't valid. Gives the
+/// note.
 pub fn tell_counts<E: Write>(notes: &Notes<'_, E>, all: u32, named: u32) -> Option<Note<'static>>
     ensures { option_map note_text result ≡ counts_text all named }
 {

@@ -20,8 +20,8 @@ const ROOM: usize = 8192;
 
 /// Asks whether a process holds a POSIX lock on a database file or on its FILE-shm, as each connection of SQLite does
 /// that reads, writes, or has a database in WAL mode open, or whether a folder FILE.lock is there, as with SQLite's
-/// unix-dotfile. Where the locks can't be read, nothing is refused, and why they can't be is kept. It asks for no
-/// memory, so that it can be asked also once a file was changed. What is read is counted.
+/// unix-dotfile. If the locks can't be read, nothing is refused, and the reason is kept. It allocates no memory, so it
+/// can also be asked after a file was changed. What is read is counted.
 pub struct OpenElsewhere<'a, R: Files, M> {
     pub rt: &'a R,
     pub paths: &'a Paths,
@@ -76,7 +76,7 @@ pub fn tell_unread<E: Write>(notes: &mut Notes<'_, E>, unread: &RefCell<Option<i
     }
 }
 
-/// Refused by `InUse` where what was found at FILE.lock is a folder, by which SQLite's unix-dotfile locks FILE.
+/// Refused by `InUse` if FILE.lock is a folder, by which SQLite's unix-dotfile locks FILE.
 fn unless_folder(found: io::Result<Metadata>) -> Result<(), Refusal>
     ensures folder { IfOk found (λ m. IsDir (file_type m) → result ≡ Err InUse) }
     ensures refused { IfErr result (λ refusal. IsOkAnd found (λ m. IsDir (file_type m)) × (refusal ≡ InUse)) }

@@ -1,7 +1,7 @@
 //! What a journal says that decides whether it counts, here and for SQLite.
 ghost use Rattle.std.specs.Prelude.{◌≡◌, ◌↔◌, IfOk, IsOkAnd, IsTrue, Some};
 ghost use Rattle.cli_words.specs.declared.requests.SuperJournal.TheVariants.{Gone};
-ghost use Rattle.cli_files.specs.Journals.{NamesSuperJournal};
+ghost use Rattle.cli_files.specs.Journals.{MayBeThere, NamesSuperJournal};
 
 use crate::opened_file::OpenedFile;
 use crate::paths::{is_missing, look_at};
@@ -30,10 +30,17 @@ pub fn names_super_journal<F: FileBytes>(journal: &mut F) -> Result<bool, Source
 }
 
 /// Whether a hot journal is out of force: it names a super-journal, and that one is gone.
-pub(crate) fn is_out_of_force(names_super: bool, said: Option<SuperJournal>) -> bool
-    ensures { IsTrue result ↔ (IsTrue names_super × (said ≡ Some Gone)) }
+pub(crate) fn is_out_of_force(names_super: bool, decided: Option<SuperJournal>) -> bool
+    ensures { IsTrue result ↔ (IsTrue names_super × (decided ≡ Some Gone)) }
 {
-    names_super && said == Some(SuperJournal::Gone)
+    names_super && decided == Some(SuperJournal::Gone)
+}
+
+/// Whether a hot journal that wasn't ignored may name a super-journal: one that is said to exist, or was looked for.
+pub fn may_be_there(said: Option<SuperJournal>) -> bool
+    ensures { IsTrue result ↔ MayBeThere said }
+{
+    said == Some(SuperJournal::Present) || said == Some(SuperJournal::Look)
 }
 
 /// The longest name of a super-journal that is read, in bytes: SQLite takes at most 512.

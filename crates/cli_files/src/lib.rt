@@ -13,12 +13,13 @@ mod opened_file;
 mod paths;
 mod place;
 mod progress;
+mod supers;
 mod watch;
 
 pub use fronts::{FrameHead, Seen, as_before};
 pub use hints::{ToldRefusal, tell_counts, tell_dropped, tell_length, told};
 pub use in_use::{OpenElsewhere, is_index_live, tell_unread};
-pub use journals::names_super_journal;
+pub use journals::{may_be_there, names_super_journal};
 pub use logs::{
     Beheld, Beside, counting_log, is_journal_hot, open_database, open_logs, tell_alone,
 };

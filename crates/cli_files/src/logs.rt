@@ -3,7 +3,6 @@ ghost use Rattle.std.specs.Prelude.{◌≡◌, ◌⊎◌, ◌↔◌, Option, IfE
 ghost use Rattle.std.specs.Prelude.{None};
 ghost use Rattle.std.specs.Option.{option_map};
 ghost use Rattle.std.specs.Fs.{metadata_len, file_type, IsFile};
-ghost use Rattle.cli_words.specs.declared.requests.SuperJournal.TheVariants.{Gone};
 ghost use Rattle.cli_facts.specs.Refusals.{refusal_of};
 ghost use Rattle.cli_facts.specs.declared.outcome.Refusal.TheVariants.{TwoLogs};
 ghost use Rattle.sqjournal.specs.Journal.{IsHot};
@@ -13,19 +12,18 @@ ghost use Rattle.cli_facts.specs.Quoted.{name_text};
 ghost use Rattle.sqview.specs.Laid.{part_or_zeros};
 ghost use Rattle.cli_files.specs.Files.{AreRegular, IsMissing, IsOpenedAt, IsOpenedOf, IsSteady, NeverFails};
 ghost use Rattle.cli_files.specs.Files.{opened_bytes, path_of};
-ghost use Rattle.cli_files.specs.Journals.{IsLeftOf, LeavesJournal, NamesSuperJournal};
+ghost use Rattle.cli_files.specs.Journals.{IsLeftOf, LeavesJournal, MayBeGone, NamesSuperJournal};
 ghost use Rattle.cli_files.specs.Notes.{NamesPages, alone_text, note_text};
 ghost use Rattle.cli_files.specs.declared.note.Named.{Named};
 ghost use Rattle.cli_files.specs.Refusals.{IsFromSystem};
 
 use crate::hints::{Logs, named_by, tell_choice, told, told_kind};
-use crate::journals::{
-    is_out_of_force, is_valid_for_sqlite_alone, names_super_journal, tell_super_journal,
-};
+use crate::journals::{is_valid_for_sqlite_alone, names_super_journal};
 use crate::note::{Note, alone_note};
 use crate::opened_file::OpenedFile;
 use crate::paths::{Paths, are_apart, is_missing, look_at};
 use crate::place::Place;
+use crate::supers::is_ignored;
 use cli_facts::{Notes, Refusal, SystemFile, identity_of};
 use cli_words::SuperJournal;
 use sqpage::SourceError;
@@ -193,8 +191,8 @@ fn tell_names<E: Write>(paths: &Paths, found: &Beheld, notes: &mut Notes<'_, E>)
     }
 }
 
-/// Opens the files beside a database file that were found, which is asked for at this commit frame. At 0 a journal that
-/// can't be opened any more is taken as a missing one where it is the only log.
+/// Opens the logs of a database file that were found, for the database at this commit frame. At 0 a journal that can't
+/// be opened any more is treated as missing if it is the only log.
 fn open_found<'a, R: Files, E: Write>(
     rt: &R,
     paths: &'a Paths,
@@ -235,7 +233,7 @@ where
     }
 }
 
-/// The same logs, of which the journal is taken as a missing one.
+/// These logs without the journal.
 fn without_journal<F: Drop>(logs: Beside<'_, F>) -> Beside<'_, F>
     ensures regular { AreRegular logs.entry.found → AreRegular result.found }
     ensures found { (result.found.wal ≡ logs.entry.found.wal) × (result.found.journal ≡ None) }
@@ -313,17 +311,14 @@ fn judge_logs<R: Files, F: SystemFile + Drop, E: Write>(
     ensures found { logs.new.found ≡ logs.old.found }
     ensures left_out { logs.new.are_left_out ≡ logs.old.are_left_out }
     ensures wal { logs.new.wal ≡ logs.old.wal }
-    ensures journal { ((super_journal ≡ Some Gone) × IsMissing logs.new.journal)
+    ensures journal { (MayBeGone super_journal × IsMissing logs.new.journal)
         ⊎ (logs.new.journal ≡ logs.old.journal) }
     ensures left { IsSteady F.bytes F.keeps_word logs.old.journal → OnOk result (IsLeftOf super_journal
         (opened_bytes F.bytes logs.old.journal) logs.old.journal logs.new.journal) }
 {
     let has_journal = logs.journal.len() != 0;
     let (is_hot, names_super) = marks_of(&logs.journal)?;
-    if names_super {
-        tell_super_journal(rt, &logs.journal, notes)?;
-    }
-    let is_out_of_force = is_out_of_force(names_super, super_journal);
+    let is_out_of_force = is_ignored(rt, &logs.journal, names_super, super_journal, notes)?;
     let is_hot = is_hot && !is_out_of_force;
     let_go(&mut logs.journal, is_out_of_force);
     tell_doubts(logs, is_hot, notes)?;
@@ -341,10 +336,10 @@ fn judge_logs<R: Files, F: SystemFile + Drop, E: Write>(
     Ok(())
 }
 
-/// Opens the logs beside a database file that the system finds, a write-ahead log that isn't empty and a journal of 28
-/// bytes at least, and says what is to be noted of them, where the database is asked for at this commit frame. A hot
-/// journal that is out of force is taken as a missing one, and so is any at 0 beside no write-ahead log: the file alone
-/// is the database, whatever a writer does to its journal meanwhile.
+/// Opens the logs of a database file that the system finds, a write-ahead log that isn't empty and a journal of 28
+/// bytes at least, and writes their notes, for the database at this commit frame. A hot journal that is out of force is
+/// treated as missing. So is any at 0 without a write-ahead log: the file alone is the database, whatever a writer does
+/// to its journal.
 pub fn open_logs<'a, R: Files, E: Write>(
     rt: &R,
     paths: &'a Paths,
@@ -356,7 +351,7 @@ where
     R::File: SystemFile,
     ensures regular { IfOk result (λ logs. AreRegular logs.found) }
     ensures wal { IfOk result (λ logs. IsOpenedOf logs.wal paths.entry.now.wal 1 logs.found.wal) }
-    ensures journal { IfOk result (λ logs. ((super_journal ≡ Some Gone) × IsMissing logs.journal)
+    ensures journal { IfOk result (λ logs. (MayBeGone super_journal × IsMissing logs.journal)
         ⊎ IsOpenedOf logs.journal paths.entry.now.journal 28 logs.found.journal) }
     ensures left { IfOk result (λ logs. LeavesJournal R.File.bytes R.File.keeps_word super_journal
         paths.entry.now.journal logs.found.journal logs.journal) }

@@ -77,12 +77,12 @@ pub enum Note<'a> {
         bytes: u64,
         stop: Stop,
     },
-    /// The database has so many pages above those that its header counts.
+    /// The database has so many pages above the number in its header.
     Unused {
         pages: u32,
         named: u32,
     },
-    /// Its header counts more pages than all of them.
+    /// Its header names more pages than there are.
     Excess {
         all: u32,
         named: u32,
@@ -250,7 +250,7 @@ pub(crate) fn dropped_note(length: u64, scan: &Scan) -> Option<Note<'static>>
     note_behind(length, header, front, stop)
 }
 
-/// What is noted of a database of so many pages, of which its header counts so many, 0 if that count isn't valid.
+/// The note for a database of so many pages, whose header names so many, 0 if that number isn't valid.
 pub(crate) fn counts_note(all: u32, named: u32) -> Option<Note<'static>>
     ensures { option_map note_text result ≡ counts_text all named }
 {

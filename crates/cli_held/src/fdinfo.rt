@@ -14,10 +14,10 @@ use std::{fmt, str};
 pub enum Held {
     /// None.
     Nothing,
-    /// A reader's on FILE, beside which there is no FILE-shm. A hot journal is current until it changes: from then on
-    /// FILE alone is the database.
+    /// A reader's on FILE, without a FILE-shm. A hot journal is current until it changes: from then on FILE alone is
+    /// the database.
     File,
-    /// The same, and no journal is current: none was hot, or somebody was about to write.
+    /// A reader's on FILE, and no journal is current: none was hot, or somebody was about to write.
     Alone,
     /// A reader's on FILE and on FILE-shm: FILE doesn't change, and of FILE-wal what stands up to the front that the
     /// index names; behind it somebody may write.

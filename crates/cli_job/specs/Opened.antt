@@ -3,7 +3,6 @@ use Rattle.std.specs.Prelude.{◌≡◌, ◌≢◌, ◌⊎◌, ℕ, Bool, true, 
 use Rattle.std.specs.Fs.{metadata_len}
 use Rattle.cli_words.specs.declared.requests.Part.TheVariants.{Log, Commits}
 use Rattle.cli_words.specs.declared.requests.SuperJournal.{SuperJournal}
-use Rattle.cli_words.specs.declared.requests.SuperJournal.TheVariants.{Gone}
 use Rattle.cli_facts.specs.Refusals.{refusal_of}
 use Rattle.cli_facts.specs.declared.outcome.Refusal.{Refusal}
 use Rattle.cli_facts.specs.declared.outcome.Refusal.TheVariants.{TwoLogs}
@@ -11,6 +10,7 @@ use Rattle.sqview.specs.Logs.{AreTwoLogs}
 use Rattle.sqview.specs.declared.read_ahead.ReadAhead.{ReadAhead}
 use Rattle.sqview.specs.declared.view_error.ViewError.{ViewError}
 use Rattle.cli_files.specs.Files.{AreRegular, IsMissing, IsOpenedAt, IsOpenedOf, IsSteady, NeverFails}
+use Rattle.cli_files.specs.Journals.{MayBeGone}
 use Rattle.cli_files.specs.Refusals.{IsFromSystem, IsFromWatch}
 use Rattle.cli_files.specs.declared.logs.Beheld.{Beheld}
 use Rattle.cli_files.specs.declared.opened_file.OpenedFile.{OpenedFile}
@@ -24,10 +24,10 @@ use Rattle.cli_job.specs.declared.metered.Metered.{Metered}
 use Rattle.cli_job.specs.declared.sources.Source.{Source}
 
 -- Where the system found logs beside a database file, they were opened: a write-ahead log that isn't empty and a journal of
--- 28 bytes at least, which is left out where its super-journal is said to be gone.
+-- 28 bytes at least, which is left out if its super-journal is gone.
 abbrev pub AreLogsOf : {F : Type 0} → Paths → Option SuperJournal → Beheld → (wal journal : OpenedFile F) → Type 0
 AreLogsOf paths said found wal journal = IsOpenedOf wal paths.wal 1 found.wal
-    × (((said ≡ Some Gone) × IsMissing journal) ⊎ IsOpenedOf journal paths.journal 28 found.journal)
+    × ((MayBeGone said × IsMissing journal) ⊎ IsOpenedOf journal paths.journal 28 found.journal)
 
 -- The database file and its logs were; at front 0, where no frame counts, none of the logs.
 abbrev pub AreAllOpened : {F : Type 0} → Paths → Option SuperJournal → (front : Option ℕ) → Beheld → Contents (OpenedFile F) → Type 0

@@ -16,7 +16,7 @@ pub enum Answer {
     Refused(Untold),
 }
 
-/// Why a command is refused behind what was printed.
+/// Why a command is refused after what was printed.
 #[derive(Clone, Copy, Debug, PartialEq, Eq, Error)]
 pub enum Untold {
     #[error("no such table")]
@@ -41,8 +41,8 @@ impl Answer {
         }
     }
 
-    /// That of a check, by what it found: where all was to be judged, refused by `NotJudged` if a database is sound of
-    /// which something isn't.
+    /// The answer of a check, by what it found. If all was to be judged, it is refused by `NotJudged` if the database
+    /// is sound and something isn't judged.
     pub fn of_check(deep: Option<Deep>, verdict: &DeepVerdict) -> Answer
         ensures { result ≡ answer_of_check deep verdict.now }
     {

@@ -161,7 +161,7 @@ where
     !may_have_log(rt, paths) && !is_journal_hot(rt, paths)
 }
 
-/// How files are watched under these locks, and the front of the log that its index names, where it is needed. Where no
+/// How files are watched under these locks, and the front of the log that its index names, if it is needed. If no
 /// journal is current, the file alone is the database; one that isn't hot is shown with all of a log, and is watched.
 fn watch_under<R: Files + Clock, E: Write>(
     rt: &R,
@@ -210,10 +210,9 @@ fn reads_past(extent: Extent, asked: Option<u32>) -> bool
     extent != Extent::One || asked.is_some()
 }
 
-/// How files are watched for a reading, and up to which front their log is read. Of all of a log, which may change
-/// where it may be begun anew, no front is taken, but where the file alone is the database; and where earlier commits
-/// are read, an index isn't enough. Refused by
-/// `NoSuchCommit` where the commit that is asked for is behind the front.
+/// How files are watched for a reading, and up to which front their log is read. For all of a log, which may change if
+/// it may be restarted, no front is used, unless the file alone is the database. If earlier commits are read, an index
+/// isn't enough. Refused by `NoSuchCommit` if the requested commit is after the front.
 fn read_to(
     extent: Extent,
     asked: Option<u32>,
@@ -297,8 +296,8 @@ pub enum Before {
     Indexed(IndexHead),
 }
 
-/// What the files are now; none where they stay so. Where only the logs are read, the database file needn't be
-/// readable.
+/// What the files are now; none if they stay so. If only the logs are read, and not beside a journal under locks, the
+/// database file needn't be readable.
 pub fn before_of<R: Files, E: Write>(
     rt: &R,
     paths: &Paths,
@@ -314,7 +313,7 @@ where
     match watch {
         Watch::Still | Watch::Alone => Ok(None),
         Watch::Dated => Ok(Some(Before::Dated(readings_of(rt, paths, only_logs, notes)?))),
-        Watch::Undated => Ok(Some(Before::Undated(readings_of(rt, paths, only_logs, notes)?))),
+        Watch::Undated => Ok(Some(Before::Undated(readings_of(rt, paths, false, notes)?))),
         Watch::Indexed(head) => Ok(Some(Before::Indexed(head))),
     }
 }

@@ -1,6 +1,7 @@
 //! A reading that is made once more of the database file alone, also where something was printed: its journal changed.
-ghost use Rattle.std.specs.Prelude.{◌≡◌, ◌≢◌, ◌⊎◌, Err, None};
+ghost use Rattle.std.specs.Prelude.{◌≡◌, ◌≢◌, ◌⊎◌, Err};
 ghost use Rattle.cli_facts.specs.declared.outcome.Refusal.TheVariants.{FileChanged};
+ghost use Rattle.cli_job.specs.declared.twice.Ended.TheVariants.{Same};
 ghost use Rattle.cli_show.specs.declared.error.ShowError.TheVariants.{Refused};
 
 use crate::sources::{Before, still_as_before};
@@ -39,8 +40,19 @@ impl Given {
     }
 }
 
-/// A writer that is given what was read of files while they are as they were before: it is looked at that before a
-/// piece is given. Once they changed it is given nothing more.
+/// What a reading ended with that had to see that its files stay as they were.
+#[derive(Clone, Copy, Debug, PartialEq, Eq)]
+pub enum Ended {
+    /// No change of the files was seen.
+    Same,
+    /// The files changed. This was given before.
+    Changed(Given),
+    /// A look at the files was refused, so nothing is known of a change.
+    Unseen,
+}
+
+/// A writer that passes on what was read of files while these stay as they were before. It looks at them before it
+/// passes on a piece. Once they have changed, or a look is refused, it passes on nothing more.
 pub struct WhileSame<'a, R, O> {
     rt: &'a R,
     paths: &'a Paths,
@@ -49,7 +61,8 @@ pub struct WhileSame<'a, R, O> {
     given: Given,
     /// How much of that may be given before the next look.
     left: u64,
-    is_changed: bool,
+    /// Why the last look at the files was refused.
+    refused: Option<Refusal>,
 }
 
 impl<R, O> Drop for WhileSame<'_, R, O> {
@@ -61,7 +74,7 @@ impl<R, O> Drop for WhileSame<'_, R, O> {
             out: _,
             given: _,
             left: _,
-            is_changed: _,
+            refused: _,
         } = self;
     }
 }
@@ -84,12 +97,12 @@ where
             out,
             given: Given::NOTHING,
             left: 0,
-            is_changed: false,
+            refused: None,
         }
     }
 
-    /// Whether the files are as they were before.
-    fn are_same(&self) -> bool {
+    /// Refused by `FileChanged` if the files aren't as they were before, and as the look at them was.
+    fn look(&self) -> Result<(), Refusal> {
         let nowhere = NoteWriter::new(io::sink());
         let mut unheard = Notes::new(&nowhere, false, false);
         still_as_before(
@@ -99,17 +112,17 @@ where
             (false, None),
             &mut unheard,
         )
-        .is_ok()
     }
 
-    /// What was given of a reading that came to this, where the files changed; none where they didn't.
-    pub fn given_of<T>(&self, answer: &Result<T, ShowError>) -> Option<Given>
-        ensures { result ≡ None → answer.now ≢ Err (Refused FileChanged) }
+    /// What a reading ended with that gave this answer.
+    pub fn ended<T>(&self, answer: &Result<T, ShowError>) -> Ended
+        ensures { result ≡ Same → answer.now ≢ Err (Refused FileChanged) }
     {
-        match answer {
-            Err(ShowError::Refused(Refusal::FileChanged)) => Some(self.given),
-            _ if self.is_changed => Some(self.given),
-            _ => None,
+        match (self.refused, answer) {
+            (Some(Refusal::FileChanged), _) => Ended::Changed(self.given),
+            (Some(_), _) => Ended::Unseen,
+            (None, Err(ShowError::Refused(Refusal::FileChanged))) => Ended::Changed(self.given),
+            (None, _) => Ended::Same,
         }
     }
 }
@@ -119,9 +132,12 @@ where
     R::File: SystemFile,
 {
     fn write(&mut self, buf: &[u8]) -> io::Result<usize> {
+        if self.refused.is_some() {
+            return Err(io::Error::from(ErrorKind::InvalidData));
+        }
         if buf.len() as u64 > self.left {
-            if !self.are_same() {
-                self.is_changed = true;
+            if let Err(refusal) = self.look() {
+                self.refused = Some(refusal);
                 return Err(io::Error::from(ErrorKind::InvalidData));
             }
             self.left = UNSEEN;

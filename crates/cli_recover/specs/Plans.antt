@@ -13,10 +13,9 @@ use Rattle.sqview.specs.Logs.{AreTwoLogs, CountsAnswer}
 use Rattle.sqview.specs.declared.logs.LogInUse.TheVariants.{Neither, Wal, Journal}
 use Rattle.cli_words.specs.declared.requests.Options.{Options}
 use Rattle.cli_words.specs.declared.requests.SuperJournal.{SuperJournal as Said}
-use Rattle.cli_words.specs.declared.requests.SuperJournal.TheVariants.{Present}
 use Rattle.cli_facts.specs.declared.outcome.Refusal.{Refusal}
 use Rattle.cli_facts.specs.declared.outcome.Refusal.TheVariants.{SuperJournal, UnknownLogVersion, NoSuchCommit, PageSizesDiffer, TooLarge, TwoLogs, NoMemory}
-use Rattle.cli_files.specs.Journals.{NamesSuperJournal}
+use Rattle.cli_files.specs.Journals.{MayBeThere, NamesSuperJournal}
 use Rattle.cli_show.specs.Contents.{KeepsBytes}
 use Rattle.cli_show.specs.Limits.{limits_named}
 use Rattle.cli_show.specs.declared.contents.Contents.{Contents}
@@ -34,10 +33,10 @@ abbrev pub HasOtherSize : (db : List ℕ) → (size : ℕ) → Type 0
 HasOtherSize db size =
     (18 ≤ length db) × HasMagic (part_or_zeros 100 0 db) × HasPageSize (part_or_zeros 100 0 db) × (size_named (part_or_zeros 100 0 db) ≢ size)
 
--- A hot journal is replayed, unless it names a super-journal that isn't said to be there.
+-- A hot journal is replayed, unless it names a super-journal and nothing says whether that exists.
 abbrev pub RollsBack : Option Said → (journal : List ℕ) → Result Recovery Refusal → Type 0
-RollsBack said journal (Ok plan) = (plan ≡ RollBack) × (NamesSuperJournal journal → said ≡ Some Present)
-RollsBack said journal (Err refusal) = (refusal ≡ SuperJournal) × NamesSuperJournal journal × (said ≢ Some Present)
+RollsBack said journal (Ok plan) = (plan ≡ RollBack) × (NamesSuperJournal journal → MayBeThere said)
+RollsBack said journal (Err refusal) = (refusal ≡ SuperJournal) × NamesSuperJournal journal × ¬ MayBeThere said
 
 -- a log without a valid header, of which no frame counts: it isn't whole, or something else is amiss than its version
 abbrev pub HasNoHeader : (wal : List ℕ) → Type 0

@@ -8,9 +8,9 @@ ghost use Rattle.cli_recover.specs.Plans.{AreAlike, AreKept, AreUnlike, HasOther
 ghost use Rattle.cli_recover.specs.internal.Scans.{FoldsByFront, FoldsBySize, NamesSize, ScansLog, ScansTo};
 
 use cli_facts::Refusal;
-use cli_files::names_super_journal;
+use cli_files::{may_be_there, names_super_journal};
 use cli_show::{Contents, limits_of, scanned};
-use cli_words::{Options, SuperJournal};
+use cli_words::Options;
 use sqpage::{SourceError, has_magic, named_page_size};
 use sqval::{Limits, PageSize};
 use sqview::{FileBytes, LogInUse};
@@ -60,12 +60,12 @@ pub fn plan_recovery<F: FileBytes>(
     }
 }
 
-/// What it does of a hot journal: one of a transaction over several files is replayed only where it is said to count.
+/// What it does of a hot journal: one of a transaction over several files is replayed only if it is known to count.
 fn plan_roll_back<F: FileBytes>(options: Options, journal: &mut F) -> Result<Recovery, Refusal>
     ensures plan { F.gives_bytes journal.old → RollsBack options.super_journal (F.bytes journal.old) result }
     ensures same { KeepsBytes F.bytes F.gives_bytes journal.old journal.new }
 {
-    if names_super_journal(journal)? && options.super_journal != Some(SuperJournal::Present) {
+    if names_super_journal(journal)? && !may_be_there(options.super_journal) {
         return Err(Refusal::SuperJournal);
     }
     Ok(Recovery::RollBack)

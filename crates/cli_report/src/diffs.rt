@@ -109,8 +109,8 @@ fn is_overwritten(printed: &Result<Printed, Refusal>) -> bool
     matches!(printed, Err(Refusal::CommitOverwritten))
 }
 
-/// What came of printing changes from the commit that is asked for. If none is named, and it isn't known which database
-/// was there at 0, they begin at the first commit that is known, and the first line says so.
+/// The result of printing changes from the requested commit. If none is named, and the database at 0 isn't known, they
+/// begin at the first known commit, and the first line names it.
 fn changes_from<R: Files + AllocGlobal + Clock, M: Count, W: Write, E: Write>(
     job: &Job<'_, R, M>,
     difference: Difference<'_>,
@@ -129,7 +129,7 @@ where
     }
 }
 
-/// The same of rows.
+/// The result of printing changes of rows.
 fn rows_from<R: Files + AllocGlobal + Clock, M: Count, W: Write, E: Write>(
     job: &Job<'_, R, M>,
     compared: Compared<'_>,
@@ -168,7 +168,7 @@ where
     }
 }
 
-/// What comes of changes whose first line isn't written.
+/// The result of changes whose first line isn't written.
 fn not_begun(error: io::Error) -> Printed
     ensures { IsUnwritten result }
 {
@@ -178,7 +178,7 @@ fn not_begun(error: io::Error) -> Printed
     }
 }
 
-/// The first commit of the log at which it is known which database was there, of files as they are now.
+/// The first known commit of the log, of files as they are now.
 fn first_known<R: Files + AllocGlobal + Clock, M: Count, E: Write>(
     job: &Job<'_, R, M>,
     notes: &mut Notes<'_, E>,

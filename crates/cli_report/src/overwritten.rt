@@ -1,4 +1,4 @@
-//! What is told of commits at which it isn't known which database was there.
+//! Notes on why commits aren't known.
 use cli_dump::overwritten_at;
 use cli_facts::{NoteWriter, Notes, SystemFile};
 use cli_files::Count;
@@ -26,9 +26,8 @@ fn tell_at<F: FileBytes + Copy + Drop, E: Write>(
     }
 }
 
-/// Notes of one commit, or of two that are compared, why it isn't known which database was there, if it isn't. Only
-/// where it is told why a command is refused, and with `--json`. The files are opened anew; nothing is told if they
-/// can't be read.
+/// Notes why one commit, or two that are compared, aren't known, if they aren't. Only if refusals are explained, and
+/// with `--json`. The files are opened again; nothing is noted if they can't be read.
 pub fn tell_overwritten<R: Files + AllocGlobal + Clock, M: Count, E: Write>(
     job: &Job<'_, R, M>,
     commits: (u32, Option<u32>),

@@ -2,6 +2,7 @@
 -- reads no line of hex as anything else.
 use Rattle.std.specs.Prelude.{ℕ, ◌==◌, if◌then◌else◌, List, [], ◌++◌, codes}
 use Rattle.std.specs.Fmt.{decimal}
+use Rattle.std.specs.List.{flat_map}
 use Rattle.hex.specs.Hex.{encode_lower}
 use Rattle.schema_print.specs.declared.refusals.Why.{Why}
 use Rattle.schema_print.specs.declared.refusals.Why.TheVariants.{NotWhole, NotCreate, OtherInRow, NotPlain, ReservedName, SemicolonInside, NotComplete, HasVariable, UnknownModule, ReturnInQuotes, EndsInComment, EndsSafeMode, NotSpaced}
@@ -37,3 +38,11 @@ unnamed_text name = left_out_text (codes "NUL or CR in its name") name
 -- how many texts and tables a script leaves out; nothing if it has all
 abbrev pub count_text : ℕ → List ℕ
 count_text n = if n == 0 then [] else codes "-- texts and tables left out: " ++ (decimal n ++ codes "\n")
+
+-- a row of the schema that is that of no object, as one whose root page is NULL
+abbrev pub stray_text : (bytes : List ℕ) → List ℕ
+stray_text bytes = left_out_text (codes "a row of the schema that is no object") bytes
+
+-- each of these rows, and how much a script leaves out with them
+abbrev pub left_text : (strays : List (List ℕ)) → (count : ℕ) → List ℕ
+left_text strays count = flat_map stray_text strays ++ count_text count

@@ -1,3 +1,5 @@
 pub mod Comments
 pub mod Names
 pub mod Texts
+pub mod Keys
+pub mod internal

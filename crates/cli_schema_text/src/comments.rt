@@ -1,7 +1,9 @@
 //! What a script says of what it leaves out.
-ghost use Rattle.std.specs.Prelude.{◌≡◌, OnOk};
+ghost use Rattle.std.specs.Prelude.{◌≡◌, OnOk, map};
 ghost use Rattle.std.specs.Io.KnownBytes.{Appends};
-ghost use Rattle.cli_schema_text.specs.Comments.{hex_line, left_out_text, why_text, unnamed_text, count_text};
+ghost use Rattle.std.specs.List.{flat_map};
+ghost use Rattle.cli_schema_text.specs.Comments.{count_text, hex_line, left_out_text, left_text};
+ghost use Rattle.cli_schema_text.specs.Comments.{stray_text, unnamed_text, why_text};
 
 use cli_text::write_hex;
 use schema_print::Why;
@@ -53,6 +55,24 @@ pub fn write_unnamed<W: Write>(out: &mut W, name: &[u8]) -> io::Result<()>
     write_left_out(out, b"NUL or CR in its name", name)
 }
 
+/// A comment of one line for a row of the schema that is that of no object, with the bytes of its text.
+fn write_stray<W: Write>(out: &mut W, bytes: &[u8]) -> io::Result<()>
+    ensures { OnOk result (Appends (W.contents out.old) (W.contents out.new) (stray_text bytes.now)) }
+{
+    write_left_out(out, b"a row of the schema that is no object", bytes)
+}
+
+/// The same for each of these. An error of the writer.
+pub fn write_strays<W: Write>(out: &mut W, strays: &[Vec<u8>]) -> io::Result<()>
+    ensures { OnOk result (Appends (W.contents out.old) (W.contents out.new)
+        (flat_map stray_text (map (λ v. v.items) strays.now))) }
+{
+    for bytes in strays {
+        write_stray(out, bytes.as_slice())?;
+    }
+    Ok(())
+}
+
 /// A comment of one line that counts the texts and tables that a script leaves out; nothing for none. An error of the
 /// writer.
 pub fn write_count<W: Write>(out: &mut W, count: usize) -> io::Result<()>
@@ -62,4 +82,15 @@ pub fn write_count<W: Write>(out: &mut W, count: usize) -> io::Result<()>
         return Ok(());
     }
     write!(out, "-- texts and tables left out: {count}\n")
+}
+
+/// What a script ends with if it leaves something out: a comment for each row of the schema that is that of no object,
+/// with the bytes of its text, and a line that counts these rows and the texts and tables that are left out. An error
+/// of the writer.
+pub fn write_left<W: Write>(out: &mut W, strays: &[Vec<u8>], count: usize) -> io::Result<()>
+    ensures { OnOk result (Appends (W.contents out.old) (W.contents out.new)
+        (left_text (map (λ v. v.items) strays.now) count)) }
+{
+    write_strays(out, strays)?;
+    write_count(out, count)
 }

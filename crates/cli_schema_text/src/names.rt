@@ -1,15 +1,18 @@
 //! Names of tables and columns.
-ghost use Rattle.std.specs.Prelude.{◌≡◌, ◌<◌, ◌^◌, ◌∷◌, ◌++◌, ◌==◌, ◌||◌, suc, IfOk, OnOk, codes, map};
+ghost use Rattle.std.specs.Prelude.{◌≡◌, ◌<◌, ◌^◌, ◌∷◌, ◌++◌, ◌==◌, ◌||◌, ℕ, List, suc, IfOk, OnOk};
+ghost use Rattle.std.specs.Prelude.{codes, false, map, not};
 ghost use Rattle.std.specs.Fmt.{decimal};
 ghost use Rattle.std.specs.Io.KnownBytes.{Appends};
 ghost use Rattle.std.specs.List.{list_any, list_all};
-ghost use Rattle.std.specs.Str.{str_eq_ignore_ascii_case};
+ghost use Rattle.std.specs.Str.{bytes_eq, str_to_ascii_lowercase};
 ghost use Rattle.cli_row_text.specs.Inserts.{quoted, columns_text};
 ghost use Rattle.cli_row_text.specs.Lines.{between_marks};
 ghost use Rattle.cli_schema_text.specs.Names.{can_be_named, are_distinct, numbered, column_names, fallback_text};
+ghost use Rattle.cli_schema_text.specs.internal.Seen.{has_lowered};
 
 use cli_row_text::write_between;
 use std::alloc::{AllocError, Global};
+use std::collections::BTreeSet;
 use std::io::{self, Write};
 
 fn has_nul_or_cr(name: &[u8]) -> bool
@@ -25,24 +28,48 @@ pub fn can_be_named(name: &[u8]) -> bool
     !has_nul_or_cr(name)
 }
 
-/// Whether a name is among others. SQLite's names don't tell ASCII's small letters from its capitals.
-fn is_among(name: &[u8], names: &[Vec<u8>]) -> bool
-    ensures { result ≡ list_any (λ m. str_eq_ignore_ascii_case m.items name.now) names.now }
+/// What a name is found by. SQLite's names don't tell ASCII's small letters from its capitals.
+fn lowered(alloc: Global, name: &[u8]) -> Result<Vec<u8>, AllocError>
+    ensures { IfOk result (λ v. v.items ≡ str_to_ascii_lowercase name.now) }
 {
-    names
-        .iter()
-        .any(|m| m.as_slice().eq_ignore_ascii_case(name))
+    let mut out = Vec::new(alloc);
+    for byte in name {
+        out.push(byte.to_ascii_lowercase())?;
+    }
+    Ok(out)
 }
 
-fn are_distinct(names: &[Vec<u8>]) -> bool
-    ensures { result ≡ are_distinct names.now }
+/// A set without names.
+fn no_names(alloc: Global) -> BTreeSet<Vec<u8>>
+    ensures { (key : List ℕ) → has_lowered result key ≡ false }
 {
-    for (i, name) in names.iter().enumerate() {
-        if is_among(name.as_slice(), &names[i + 1..]) {
-            return false;
+    BTreeSet::new(alloc)
+}
+
+/// Adds a name to a set. False if it was there.
+fn add_name(alloc: Global, seen: &mut BTreeSet<Vec<u8>>, name: &[u8]) -> Result<bool, AllocError>
+    ensures fresh { IfOk result (λ fresh. fresh ≡ not (has_lowered seen.old (str_to_ascii_lowercase name.now))) }
+    ensures held { OnOk result ((key : List ℕ) → has_lowered seen.new key
+        ≡ (has_lowered seen.old key || bytes_eq key (str_to_ascii_lowercase name.now))) }
+{
+    let key = lowered(alloc, name)?;
+    Ok(seen.insert(key)?)
+}
+
+/// Whether no two names are equal. Takes time like n log n.
+fn are_distinct(alloc: Global, names: &[Vec<u8>]) -> Result<bool, AllocError>
+    ensures { IfOk result (λ r. r ≡ are_distinct names.now) }
+{
+    let mut seen = no_names(alloc);
+    let mut left = names.len();
+    'names: while left > 0 {
+        let i = left - 1;
+        if !add_name(alloc, &mut seen, names[i].as_slice())? {
+            return Ok(false);
         }
+        left = i;
     }
-    true
+    Ok(true)
 }
 
 fn all_can_be_named(names: &[Vec<u8>]) -> bool
@@ -90,7 +117,10 @@ fn copied(alloc: Global, names: &[Vec<u8>]) -> Result<Vec<Vec<u8>>, AllocError>
 pub fn column_names(alloc: Global, names: &[Vec<u8>]) -> Result<Vec<Vec<u8>>, AllocError>
     ensures { IfOk result (λ v. map (λ n. n.items) v.items ≡ column_names names.now) }
 {
-    if all_can_be_named(names) && are_distinct(names) {
+    if !all_can_be_named(names) {
+        return numbered(alloc, names.len());
+    }
+    if are_distinct(alloc, names)? {
         copied(alloc, names)
     } else {
         numbered(alloc, names.len())

@@ -1,8 +1,8 @@
 -- The front of a view that is asked for, and of a log.
 use Rattle.std.proofs.Common.{◌≡◌, ◌≤◌, ◌⊎◌, ⊎_elim, ℕ, List, [], length, sym, ◌∙◌, ap, subst, arith}
-use Rattle.std.specs.Prelude.{Option, None, Some, Ok, Err}
+use Rattle.std.specs.Prelude.{Option, None, Some, Err}
 use Rattle.sqval.specs.Limits.{Bounds}
-use Rattle.sqwal.specs.Frames.{IsFront, IsValidFrame, IsCommit}
+use Rattle.sqwal.specs.Frames.{IsFront, IsCommit}
 use Rattle.sqwal.specs.Header.{named_size, IsHeader, HeaderRefused}
 use Rattle.sqwal.specs.declared.error.WalFormatError.{WalFormatError}
 use Rattle.sqwal.specs.declared.error.WalFormatError.TheVariants.{NotAWal, PageSize, HeaderSum, UnknownVersion, TooLong}

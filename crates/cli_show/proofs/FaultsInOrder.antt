@@ -1,21 +1,18 @@
 -- Faults in another order are the same faults.
-use Rattle.std.proofs.Common.{◌≡◌, ◌<◌, ◌⊎◌, ℕ, zero, suc, Bool, true, List, [], ◌∷◌, length, get_or, sym, subst, inl, inr, arith}
+use Rattle.std.proofs.Common.{◌≡◌, ◌<◌, ◌⊎◌, ℕ, zero, suc, Bool, true, List, [], ◌∷◌, length, get_or, sym, inl, inr, arith}
 use Rattle.std.specs.List.{Contains}
 use Rattle.std.specs.List.Sorted.{IsPermutation}
 use Rattle.std.proofs.lemmas.List.Sorted.{Contains-permutation, IsPermutation-sym, length_permutation}
 use Rattle.sqval.specs.Database.{Database}
 use Rattle.sqpage.specs.Lists.{In, Every}
 use Rattle.sqpage.proofs.chain.ListsByRecursion.{every_in, every_from_in}
-use Rattle.sqpage.specs.Freelist.{IsPage}
 use Rattle.sqpage.specs.declared.fault.CheckError.{CheckError}
 use Rattle.sqpage.specs.declared.fault.Fault.TheVariants as faults
 use Rattle.sqcheck.specs.declared.role.Role.{Role}
-use Rattle.sqcheck.specs.declared.role.Role.TheVariants.{Unused}
 use Rattle.sqcheck.specs.Found.{IsFaultOf, IsWrongAt}
 use Rattle.sqcheck.specs.Places.{Spot}
-use Rattle.sqcheck.specs.Roles.{IsRoleSetAside}
 use Rattle.sqcheck.specs.Stands.{is_of_header}
-use Rattle.sqcheck.specs.Surveys.{role_at, Names, IsLookedAt, IsLookedThrough, IsNamedFault, HasJudgedRole, AreFoundFaults}
+use Rattle.sqcheck.specs.Surveys.{Names, IsLookedAt, IsLookedThrough, IsNamedFault, HasJudgedRole, AreFoundFaults}
 
 contained : (xs : List CheckError) (x : CheckError) → In x xs → Contains xs x
 contained [] x i = absurd i

@@ -7,7 +7,6 @@ use Rattle.sqview.specs.Verdicts.{IsVerdictWith, IsUnjudgedWith, verdict_without
 use Rattle.sqview.specs.declared.judge_error.JudgeError.{JudgeError}
 use Rattle.sqview.specs.declared.judge_error.JudgeError.TheVariants as judgments
 use Rattle.sqview.specs.declared.verdict.Verdict.{Verdict}
-use Rattle.sqview.specs.declared.verdict.Verdict.TheVariants.{Damaged}
 use Rattle.sqview.specs.declared.view.View.{View}
 use Rattle.sqview.specs.declared.view_error.ViewError.{ViewError}
 use Rattle.sqview.specs.declared.view_error.ViewError.TheVariants as views

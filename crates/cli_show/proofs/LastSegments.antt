@@ -1,5 +1,5 @@
 -- Where the last segment of a hot journal ends: behind its last record, or behind its header.
-use Rattle.std.proofs.Common.{◌≡◌, ⊎_elim, inl, inr, ℕ, zero, suc, ◌+◌, ◌-◌, ◌*◌, ◌/◌, ◌^◌, ◌<◌, ◌≤◌, List, [], ◌∷◌, ◌++◌, length, append-nil, refl, sym, ◌∙◌, ap, subst, arith}
+use Rattle.std.proofs.Common.{◌≡◌, ⊎_elim, inl, inr, ℕ, ◌+◌, ◌-◌, ◌*◌, ◌/◌, ◌^◌, ◌<◌, ◌≤◌, List, [], ◌∷◌, ◌++◌, length, refl, sym, ◌∙◌, ap, subst, arith}
 use Rattle.std.specs.Prelude.{◌⊎◌, min, Option, None, Some, slice_get}
 use Rattle.std.proofs.lemmas.Nat.{div-mul-add}
 use Rattle.std.proofs.Math.Nat.{div-mul-le_self}
@@ -9,7 +9,7 @@ use Rattle.sqjournal.specs.Header.{next_header}
 use Rattle.sqjournal.specs.Journal.{Segment, Sizes, sizes_of, record_len, records_end, IsHeader, IsRecord, AreRecords, StopsAtHeader, AreSegments, IsHot, IsJournal, placed, entries, entry_of}
 use Rattle.sqjournal.specs.Slots.{IsRecordSlot}
 use Rattle.sqjournal.specs.NonceSum.{nonce_sum}
-use Rattle.sqjournal.specs.Took.{HasEntry, HasCount, Says, StopsSo}
+use Rattle.sqjournal.specs.Took.{HasEntry, HasCount, StopsSo}
 use Rattle.sqjournal.specs.declared.reading.Record.{Record}
 use Rattle.sqjournal.specs.declared.reading.Why.{Why}
 use Rattle.sqjournal.specs.declared.reading.Why.TheVariants.{End, Header, Short, PageZero, Sum}

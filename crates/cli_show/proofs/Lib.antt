@@ -11,6 +11,7 @@ mod WrittenLogs
 mod WrittenCommits
 mod NamesOfTrees
 mod LinesBehind
+mod GenerationsInOrder
 mod LastSegments
 mod RunsInOrder
 mod RunsOfPages

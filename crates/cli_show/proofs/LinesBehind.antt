@@ -1,15 +1,16 @@
 -- Lines of what stands behind the stop of a log.
-use Rattle.std.proofs.Common.{◌≡◌, ⊎_elim, inl, inr, ℕ, zero, suc, ◌+◌, ◌-◌, ◌*◌, ◌/◌, ◌^◌, ◌<◌, ◌≤◌, List, [], ◌++◌, length, Option, refl, sym, ap, subst, ◌∙◌, add-one, add-mul, arith}
+use Rattle.std.proofs.Common.{◌≡◌, ⊎_elim, inl, inr, ℕ, zero, suc, ◌+◌, ◌-◌, ◌*◌, ◌/◌, ◌^◌, ◌<◌, ◌≤◌, List, ◌++◌, length, Option, refl, sym, ap, subst, ◌∙◌, add-one, add-mul, arith}
 use Rattle.std.specs.Prelude.{◌≢◌, ◌⊎◌, ◌↔◌, ◌%◌, ◌==◌, min, Bool, IsTrue, None, Some, Result, Ok, Err, IfErr, OnOk}
+use Rattle.std.specs.List.{flat_map}
 use Rattle.std.specs.Option.{option_map}
 use Rattle.std.specs.Io.KnownBytes.{Appends}
-use Rattle.std.proofs.KnownBytes.{Appends-nil, Appends-trans}
+use Rattle.std.proofs.KnownBytes.{Appends-trans}
 use Rattle.std.proofs.Math.Nat.{le-mul_of_pos_right, mul-le-mul_right, div-mul-le_self}
 use Rattle.sqval.specs.Bytes.{part, word}
 use Rattle.sqjournal.proofs.journal.DependenceOnPrefix.{word_part}
 use Rattle.sqwal.specs.Frames.{frame_at, frame_end}
 use Rattle.sqwal.specs.Answers.{HeaderFound}
-use Rattle.sqwal.specs.Header.{named_size, IsHeaderOf}
+use Rattle.sqwal.specs.Header.{named_size, IsHeader, IsHeaderOf}
 use Rattle.sqwal.specs.declared.header.WalHeader.{WalHeader}
 use Rattle.sqwal.specs.declared.slots.Slot.{Slot}
 use Rattle.sqwal.specs.Slots.{IsSlot, stored}
@@ -35,12 +36,13 @@ use Rattle.cli_facts.specs.declared.outcome.Refusal.{Refusal}
 use Rattle.cli_facts.specs.declared.outcome.Refusal.TheVariants.{NoMemory}
 use Rattle.cli_text.specs.Behind.{end_text, record_slot_text, slot_text}
 use Rattle.cli_text.specs.declared.behind.SlotKind.{SlotKind}
-use Rattle.cli_show.specs.Behind.{AreLines, AreRecordLines, BeginsZeroed, HasFellow, IsBehindRecords, EndsSegments, IsBehindText, IsRestLine, IsSlotLine, IsWholeLogText, IsZeroedLine, as_written, over_from, slot_place, slots_from}
+use Rattle.cli_show.specs.Generations.{AreGenerations, generation_text}
+use Rattle.cli_show.specs.declared.generations.Generation.{Generation}
+use Rattle.cli_show.specs.Behind.{AreLines, AreRecordLines, AreSlotLines, BeginsZeroed, HasFellow, IsBehindFrames, IsBehindRecords, EndsSegments, IsBehindText, IsRestLine, IsSlotLine, IsWholeLogText, IsZeroedLine, as_written, over_from, slot_place, slots_from}
 use Rattle.cli_show.specs.Contents.{KeepsBytes}
 use Rattle.cli_show.specs.Errors.{IfRefused}
 use Rattle.cli_show.specs.Logs.{IsUnreadLog}
 use Rattle.cli_show.specs.LogsShown.{IsLogText}
-use Rattle.cli_show.specs.declared.contents.Contents.{Contents}
 use Rattle.cli_show.specs.declared.error.ShowError.{ShowError}
 use Rattle.cli_show.specs.declared.error.ShowError.TheVariants.{Refused, Unwritten}
 use Rattle.cli_show.specs.internal.Behind.{IsNonceBefore, IsRecordOf}
@@ -76,6 +78,18 @@ unfolding frame_at
 number_below size first i end some below small =
     let least : first + i - 1 ≤ (first + i - 1) * (24 + size) = le-mul_of_pos_right (first + i - 1) (omega arith) in
     omega (arith, least)
+
+number_least : (size first i end : ℕ) → 1 ≤ first → frame_at size (first + i) ≤ end → end < 2 ^ 64 → first + i < 2 ^ 64 - 1
+unfolding frame_at
+number_least size first i end some below small =
+    let least : first + i - 1 ≤ (first + i - 1) * (24 + size) = le-mul_of_pos_right (first + i - 1) (omega arith) in
+    omega (arith, least)
+
+-- the number of one that is whole, and of the next
+pub number_low : (size first i end : ℕ) → 1 ≤ first → frame_end size (first + i) ≤ end → end < 2 ^ 64 → first + i < 2 ^ 64 - 1
+number_low size first i end some below small =
+    let here : frame_at size (first + i) + 24 + size ≡ frame_end size (first + i) = frame_at-end size (first + i) (omega arith) in
+    number_least size first i end some (omega (arith, here, below)) small
 
 -- a log's stop is no further than its end
 stop_within : (size : ℕ) (w : List ℕ) (f : ℕ) (why : Why) → 1 ≤ f → StopsFor size w f why → frame_at size f ≤ length w
@@ -190,6 +204,17 @@ ended style kind IsLine i n m over rest old mid new text least most count over_i
       (text, subst (λ (k : ℕ). AreLines IsLine k text) all lines, refl),
       Appends-trans old mid new text (end_text style kind m rest) first told,
     )
+
+-- the slots of a log from its stop on, and then of which logs they are
+pub frames_shown : (style : Style) (w : List ℕ) (stop : ℕ) (why : Why) (old mid new : Option (List ℕ)) (gs : List Generation) → IsHeader (named_size w) w → IsStop w stop why
+    → (text : List ℕ) × AreSlotLines style w stop text × Appends old mid text
+    → AreGenerations (named_size w) w stop (stop + slots_from (frame_at (named_size w) stop) (24 + named_size w) w) gs
+    → Appends mid new (flat_map (generation_text style) gs) → (text : List ℕ) × IsBehindFrames style w text × Appends old new text
+frames_shown style w stop why old mid new gs header is shown are last = (
+  shown.0 ++ flat_map (generation_text style) gs,
+  inr (inl (header, (stop, why, is, (shown.0, flat_map (generation_text style) gs, shown.1, (gs, are, refl), refl)))),
+  Appends-trans old mid new shown.0 (flat_map (generation_text style) gs) shown.2 last,
+)
 
 -- what keeps its bytes twice
 pub kept_twice : {F : Type 0} (bytes : F → List ℕ) (gives : F → Type 0) (a b c : F) → KeepsBytes bytes gives a b → KeepsBytes bytes gives b c → KeepsBytes bytes gives a c
@@ -317,6 +342,10 @@ pub refused_none : {T : Type 0} (answer : Result T ShowError) (P : Refusal → T
 refused_none (Ok x) P none = tt
 refused_none (Err Unwritten) P none = tt
 refused_none (Err (Refused refusal)) P none = absurd none
+
+pub refused_memory : (error : ShowError) → IfRefused (λ _. ⊥) error → IfRefused (λ refusal. refusal ≡ NoMemory) error
+refused_memory Unwritten none = tt
+refused_memory (Refused refusal) none = absurd none
 
 pub memory_unread : (limits : Bounds) (wal journal : List ℕ) (error : ShowError) → IfRefused (λ refusal. refusal ≡ NoMemory) error
     → IfRefused (IsUnreadLog limits wal journal) error

@@ -1,6 +1,6 @@
 -- What is shown of files, and why it isn't.
 use Rattle.std.proofs.Common.{◌≡◌, ℕ, List, [], ◌∷◌, length, arith, inl, inr}
-use Rattle.std.specs.Prelude.{Option, None, Some, Err}
+use Rattle.std.specs.Prelude.{Err}
 use Rattle.sqval.specs.Limits.{Bounds}
 use Rattle.sqval.specs.Database.{Database, page}
 use Rattle.sqpage.specs.Header.{IsHeader, HeaderRefused}
@@ -8,7 +8,6 @@ use Rattle.sqpage.specs.declared.fault.Fault.{Fault}
 use Rattle.sqpage.specs.declared.fault.Fault.TheVariants as faults
 use Rattle.sqpage.specs.declared.header.DbHeader.{DbHeader}
 use Rattle.sqjournal.specs.Journal.{IsHot}
-use Rattle.sqview.specs.declared.view_error.ViewError.{ViewError}
 use Rattle.cli_facts.specs.declared.outcome.Refusal.{Refusal}
 use Rattle.cli_facts.specs.declared.outcome.Refusal.TheVariants.{TooLarge, FileFailed, NotADatabase, NoSuchPage, NoMemory}
 use Rattle.cli_words.specs.Commits.{commit_named}

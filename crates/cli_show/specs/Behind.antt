@@ -1,5 +1,6 @@
 -- What is printed of what stands behind the stop of the log that counts (own).
 use Rattle.std.specs.Prelude.{◌≡◌, ◌≢◌, ◌⊎◌, ◌↔◌, IsTrue, ℕ, zero, suc, ◌+◌, ◌-◌, ◌*◌, ◌/◌, ◌%◌, ◌^◌, ◌<◌, ◌≤◌, ◌==◌, ◌&&◌, min, Bool, false, if◌then◌else◌, List, [], ◌∷◌, ◌++◌, length, Option, None, Some}
+use Rattle.std.specs.List.{flat_map}
 use Rattle.sqval.specs.Bytes.{part, word}
 use Rattle.sqwal.specs.Frames.{frame_at}
 use Rattle.sqwal.specs.Header.{named_size, IsHeader, HeaderRefused}
@@ -21,6 +22,8 @@ use Rattle.sqpage.specs.Header.{IsHeader as IsDatabaseHeader}
 use Rattle.sqpage.specs.declared.header.DbHeader.{DbHeader}
 use Rattle.cli_text.specs.Behind.{end_text, record_slot_text, slot_text}
 use Rattle.cli_text.specs.declared.behind.SlotKind.TheVariants.{Frame, Record}
+use Rattle.cli_show.specs.Generations.{AreGenerations, generation_text}
+use Rattle.cli_show.specs.declared.generations.Generation.{Generation}
 use Rattle.cli_show.specs.LogsShown.{IsLogText}
 use Rattle.cli_show.specs.declared.contents.Contents.{Contents}
 
@@ -52,11 +55,19 @@ AreSlotLines style w first text =
     (lines : List ℕ) × AreLines (IsSlotLine style w first) count lines
     × (text ≡ lines ++ end_text style Frame count (over_from place (24 + named_size w) w))
 
--- those of a write-ahead log from its stop on. Of one that is shorter than a header its bytes are over, and of one whose
+-- of which earlier log they are, and how many commits of each are whole
+abbrev pub AreGenerationLines : Style → (wal : List ℕ) → (first : ℕ) → (text : List ℕ) → Type 0
+AreGenerationLines style w first text = (gs : List Generation)
+    × AreGenerations (named_size w) w first (first + slots_from (frame_at (named_size w) first) (24 + named_size w) w) gs
+    × (text ≡ flat_map (generation_text style) gs)
+
+-- both of a write-ahead log from its stop on. Of one that is shorter than a header its bytes are over, and of one whose
 -- header is refused nothing is printed.
 abbrev pub IsBehindFrames : Style → (wal text : List ℕ) → Type 0
 IsBehindFrames style w text = ((length w < 32) × (text ≡ end_text style Frame 0 (length w)))
-    ⊎ ((IsHeader (named_size w) w × ((stop : ℕ) × (why : Why) × IsStop w stop why × AreSlotLines style w stop text))
+    ⊎ ((IsHeader (named_size w) w × ((stop : ℕ) × (why : Why) × IsStop w stop why
+    × ((slots : List ℕ) × (generations : List ℕ) × AreSlotLines style w stop slots × AreGenerationLines style w stop generations
+    × (text ≡ slots ++ generations))))
     ⊎ (((error : WalFormatError) × (32 ≤ length w) × HeaderRefused w error) × (text ≡ [])))
 
 -- where slot k begins, from 0, of slots of one length from a place on

@@ -4,6 +4,7 @@ pub mod Contents
 pub mod Errors
 pub mod Found
 pub mod Fronts
+pub mod Generations
 pub mod Limits
 pub mod Logged
 pub mod Logs

@@ -2,7 +2,6 @@
 use Rattle.std.specs.Prelude.{ℕ, List, Result, Ok, Err}
 use Rattle.sqpage.specs.declared.fault.CheckError.{CheckError}
 use Rattle.sqcheck.specs.declared.report.Report.{Report}
-use Rattle.sqcheck.specs.declared.role.Role.{Role}
 use Rattle.cli_words.specs.declared.requests.Style.{Style}
 use Rattle.cli_text.specs.Verdicts.{fault_text, report_text}
 use Rattle.cli_show.specs.declared.surveys.Found.{Found}

@@ -1,6 +1,6 @@
 //! What stands behind the stop of a log, which is no part of the database (own).
 ghost use Rattle.std.specs.Prelude.{◌≡◌, ◌≢◌, ◌⊎◌, ◌↔◌, ℕ, ◌+◌, ◌-◌, ◌*◌, ◌/◌, ◌%◌, ◌^◌, ◌<◌, ◌≤◌, List, length};
-ghost use Rattle.std.specs.Prelude.{IfErr, IsOk, IsOkAnd, IsTrue, OnOk, Some};
+ghost use Rattle.std.specs.Prelude.{IfErr, IfOk, IsOk, IsOkAnd, IsTrue, OnOk, Some};
 ghost use Rattle.std.specs.Io.KnownBytes.{Appends};
 ghost use Rattle.std.specs.Option.{option_map};
 ghost use Rattle.sqval.specs.Bytes.{AreBytes, word};
@@ -20,10 +20,12 @@ ghost use Rattle.cli_show.specs.Behind.{EndsSegments, slots_from};
 ghost use Rattle.cli_show.specs.Contents.{AreGiven, KeepsBytes, contents_of};
 ghost use Rattle.cli_show.specs.Errors.{IfRefused};
 ghost use Rattle.cli_show.specs.internal.Behind.{IsLastPlace, IsRecordOf};
+ghost use Rattle.cli_show.specs.internal.Generations.{AreRead};
 ghost use Rattle.cli_show.specs.internal.LogsShown.{IsShownLog};
 
 use crate::contents::Contents;
 use crate::error::ShowError;
+use crate::generations::Generations;
 use crate::logs::Shown;
 use byteorder::{BigEndian, ByteOrder};
 use cli_text::{SlotKind, write_end, write_record_slot, write_slot};
@@ -191,7 +193,40 @@ fn show_slots<F: FileBytes, W: Write>(
     Ok(())
 }
 
-/// Prints the frame slots of a write-ahead log from its stop on.
+/// The generations of the frame slots of a write-ahead log from that of a number on.
+fn generations_of<F: FileBytes>(
+    alloc: Global,
+    wal: &mut F,
+    header: &WalHeader,
+    first: u32,
+    frame: &mut [u8],
+) -> Result<Generations, ShowError>
+    requires { length frame.old ≡ 24 + header.now.page_size }
+    ensures read { F.gives_bytes wal.old → IsHeaderOf (F.bytes wal.old) header.now → 1 ≤ first
+        → frame_at header.now.page_size first ≤ length (F.bytes wal.old)
+        → IfOk result (AreRead header.now.page_size (F.bytes wal.old) first
+        (first + slots_from (frame_at header.now.page_size first) (24 + header.now.page_size) (F.bytes wal.old))) }
+    ensures refused { F.gives_bytes wal.old → IsHeaderOf (F.bytes wal.old) header.now → 1 ≤ first
+        → frame_at header.now.page_size first ≤ length (F.bytes wal.old)
+        → IfErr result (IfRefused (λ refusal. refusal ≡ NoMemory)) }
+    ensures same { KeepsBytes F.bytes F.gives_bytes wal.old wal.new }
+{
+    let slots = Slots::new(
+        frame_place(header.page_size, first),
+        frame.len() as u64,
+        wal.len(),
+    );
+    let mut before = sum_before(wal, header, first)?;
+    let mut generations = Generations::new(alloc);
+    for i in 0..slots.count {
+        let slot = slot_at(wal, header, before, slots.place(i), frame)?;
+        generations.add(u64::from(first).saturating_add(i), &slot)?;
+        before = slot.sum;
+    }
+    Ok(generations)
+}
+
+/// Prints the frame slots of a write-ahead log from its stop on, and then of which earlier logs they are.
 fn show_frames<F: FileBytes, W: Write>(
     alloc: Global,
     wal: &mut F,
@@ -212,7 +247,13 @@ fn show_frames<F: FileBytes, W: Write>(
     };
     let length = 24 + header.page_size.get() as usize;
     let mut frame = vec![in alloc; 0u8; length]?;
-    show_slots(wal, &header, scan.stop().frame, &mut frame, style, out)
+    let first = scan.stop().frame;
+    show_slots(wal, &header, first, &mut frame, style, out)?;
+    let generations = generations_of(alloc, wal, &header, first, &mut frame)?;
+    match generations.write(out, style) {
+        Ok(()) => Ok(()),
+        Err(_) => Err(ShowError::Unwritten),
+    }
 }
 
 /// The records behind those that count: where they begin, the number of the first one, and the nonce from which their

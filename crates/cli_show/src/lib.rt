@@ -7,6 +7,7 @@ mod cells;
 mod commits;
 mod contents;
 mod error;
+mod generations;
 mod held;
 mod limits;
 mod logs;

@@ -145,7 +145,7 @@ pub struct Asked {
     pub maps: Maps,
 }
 
-/// What is found, or why nothing is, beside this front and these counts.
+/// What is found, or why nothing is, with this front and these counts.
 fn as_found(
     front: Option<Front>,
     counts: Option<Counts>,
@@ -166,10 +166,9 @@ fn as_found(
     }
 }
 
-/// What is found of the pages of a file with its logs that SQLite would use, the front at which that view stands, and
-/// how many pages there were; neither if the file's own header names no database. Refused as the view is, by
-/// `AutoVacuum` if pointer maps aren't asked for, and by `FileFailed`
-/// where a file could not be read.
+/// What is found of the pages of a file with its logs that SQLite would use, the front of that view, and how many pages
+/// there were; neither if the file's own header names no database. Refused as the view is, by `AutoVacuum` if pointer
+/// maps aren't asked for, and by `FileFailed` where a file could not be read.
 pub fn judged<F: FileBytes + Drop>(
     alloc: Global,
     asked: Asked,

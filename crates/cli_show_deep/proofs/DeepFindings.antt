@@ -25,17 +25,19 @@ use Rattle.cli_facts.specs.internal.Refusals.{refusal_of_judge}
 use Rattle.cli_facts.specs.declared.fronts.Front.{Front as LogFront}
 use Rattle.cli_facts.specs.declared.outcome.Refusal.{Refusal}
 use Rattle.cli_show.specs.Fronts.{IsAskedFront}
-use Rattle.cli_show.specs.Views.{IsAskedView, IsWholeView, AskedRefused, IsHeadless, IsNotFound}
+use Rattle.cli_show.specs.Views.{AreAskedCounts, IsAskedView, IsWholeView, AskedRefused, IsHeadless, IsNotFound}
 use Rattle.cli_show.proofs.AskedFronts.{asked_read, front_asked, shows_asked}
 use Rattle.cli_show_deep.specs.Found.{HasPage, IsFoundAs, IsFoundDeep, IsHeadlessDeep, IsMissingFound, IsWholeOrCut}
 use Rattle.cli_show_deep.specs.internal.Plain.{IsPlain}
+use Rattle.sqdeepjudge.specs.Counted.{FindsExcess}
 use Rattle.sqdeepjudge.specs.Missing.{FindsCut, IsLeast, IsMissing, IsMissingOf, cut_of}
 use Rattle.sqdeepjudge.proofs.MissingPages.{least_same, missing_at, missing_now}
 use Rattle.sqdeepjudge.specs.Verdicts.{FindsInside, FindsSchema, FindsDeep}
 use Rattle.sqdeepjudge.specs.Verdicts.{deep_without}
 use Rattle.cli_show_deep.specs.declared.found.DeepFinding.{DeepFinding}
-use Rattle.sqdeepjudge.specs.declared.verdict.Damage.TheVariants.{Cut, Check, Inner, Schema, Content, Row}
+use Rattle.sqdeepjudge.specs.declared.verdict.Damage.TheVariants.{Cut, Excess, Check, Inner, Schema, Content, Row}
 use Rattle.sqdeepjudge.specs.declared.verdict.DeepVerdict.{DeepVerdict}
+use Rattle.sqdeepjudge.specs.declared.verdict.Lengths.{Lengths}
 use Rattle.sqdeepjudge.specs.declared.verdict.DeepVerdict.TheVariants as deep
 
 found_by : (P : DeepVerdict → Type 0) (front : Option LogFront) (q : Result DeepVerdict JudgeError) (r : Result DeepFinding Refusal)
@@ -73,6 +75,10 @@ same_place : (places wholes : List ℕ) (count p : ℕ) → places ≡ take coun
 same_place places wholes count p is one le =
     ap (λ (l : List ℕ). get_or l (p - 1) 0) is ∙ get_or-take count wholes (p - 1) 0 (omega (arith, one, le))
 
+-- how long the database of files is, by its file, its log and its header
+abbrev pub AreLengths : (at : Commit) → (db wal journal : List ℕ) → Lengths → Type 0
+AreLengths at db wal journal lengths = (lengths.long ≡ length db) × AreAskedCounts at db wal journal lengths.counts
+
 -- of a view
 module _ {F : Type 0} (maps : Bool) (limits : Bounds) (bytes : F → List ℕ) (db wal journal : List ℕ) where
   missing_whole : (at : Commit) (v : View F) (long p : ℕ) → IsWholeView limits bytes at db wal journal v → 1 ≤ p → p ≤ v.count
@@ -99,12 +105,18 @@ module _ {F : Type 0} (maps : Bool) (limits : Bounds) (bytes : F → List ℕ) (
       (least_same (IsMissingOf v long) (IsMissing (HasPage at v.page_size wal journal) v.page_size long) (length (pages_of bytes v)) (cut_of verdict)
       (λ p one le. missing_of at v long p shown one (let n = length_laid v.page_size v.count (bytes v.db) (bytes v.log) v.places.items in omega (arith, n, le))) finds)
 
-  found_of : (at : Commit) (v : View F) (long : ℕ) (q : Result DeepVerdict JudgeError) → IsAskedView limits bytes at db wal journal v → long ≡ length db
-      → IfOk q (FindsDeep maps (pages_of bytes v) v.page_size) → IfOk q (FindsCut (IsMissingOf v long) (length (pages_of bytes v)))
+  found_of : (at : Commit) (v : View F) (lengths : Lengths) (q : Result DeepVerdict JudgeError) → IsAskedView limits bytes at db wal journal v → AreLengths at db wal journal lengths
+      → IfOk q (FindsDeep maps (pages_of bytes v) v.page_size) → IfOk q (FindsCut (IsMissingOf v lengths.long) (length (pages_of bytes v))) → IfOk q (FindsExcess lengths.counts)
       → IfOk q (IsFoundDeep maps limits at db wal journal)
-  found_of at v long (Ok verdict) shown is finds cut =
-      inl (v.page_size, pages_of bytes v, shows_asked limits bytes db wal journal v at shown, finds, cut_of_files at v long verdict shown is cut)
-  found_of at v long (Err e) shown is finds cut = tt
+  found_of at v lengths (Ok verdict) shown are finds cut excess = inl (
+    v.page_size,
+    pages_of bytes v,
+    shows_asked limits bytes db wal journal v at shown,
+    finds,
+    cut_of_files at v lengths.long verdict shown are.0 cut,
+    (lengths.counts, are.1, excess),
+  )
+  found_of at v lengths (Err e) shown are finds cut excess = tt
 
   unjudged_of : (at : Commit) (v : View F) (q : Result DeepVerdict JudgeError) → IsAskedView limits bytes at db wal journal v → IfErr q (IsUnjudgedWith maps (pages_of bytes v))
       → IfErr q (λ e. IsNotFound maps limits at db wal journal (refusal_of_judge e))
@@ -117,9 +129,9 @@ module _ {F : Type 0} (maps : Bool) (limits : Bounds) (bytes : F → List ℕ) (
   unjudged_of at v (Err judgments.NoSuchCommit) shown refused = absurd refused
 
   module _ (at : Commit) (v : View F) (front : Option LogFront) (q : Result DeepVerdict JudgeError) (r : Result DeepFinding Refusal) (shown : IsAskedView limits bytes at db wal journal v) where
-    pub view_found : (long : ℕ) → long ≡ length db → IfOk r (λ x. (q ≡ Ok x.verdict) × (x.front ≡ front)) → IfOk q (FindsDeep maps (pages_of bytes v) v.page_size)
-        → IfOk q (FindsCut (IsMissingOf v long) (length (pages_of bytes v))) → IfOk r (λ x. IsFoundDeep maps limits at db wal journal x.verdict)
-    view_found long same is finds cut = found_by (IsFoundDeep maps limits at db wal journal) front q r is (found_of at v long q shown same finds cut)
+    pub view_found : (lengths : Lengths) → AreLengths at db wal journal lengths → IfOk r (λ x. (q ≡ Ok x.verdict) × (x.front ≡ front)) → IfOk q (FindsDeep maps (pages_of bytes v) v.page_size)
+        → IfOk q (FindsCut (IsMissingOf v lengths.long) (length (pages_of bytes v))) → IfOk q (FindsExcess lengths.counts) → IfOk r (λ x. IsFoundDeep maps limits at db wal journal x.verdict)
+    view_found lengths are is finds cut excess = found_by (IsFoundDeep maps limits at db wal journal) front q r is (found_of at v lengths q shown are finds cut excess)
 
     pub view_front : IfOk r (λ x. (q ≡ Ok x.verdict) × (x.front ≡ front)) → IsFrontOf v.front v.page_size front
         → IfOk r (λ x. IsAskedFront at wal journal x.front ⊎ ((x.front ≡ None) × IsHeadlessDeep limits at db wal journal x.verdict))
@@ -180,6 +192,7 @@ headless_plain : (maps : Bool) (limits : Bounds) (at : Commit) (db wal journal :
     → IsHeadlessDeep limits at db wal journal verdict → IsFoundAs false maps limits at db wal journal verdict
 headless_plain maps limits at db wal journal (deep.Damaged (Check e)) is = (plain.Damaged e, refl, inr is)
 headless_plain maps limits at db wal journal (deep.Damaged (Cut p)) is = absurd is
+headless_plain maps limits at db wal journal (deep.Damaged (Excess n)) is = absurd is
 headless_plain maps limits at db wal journal (deep.Damaged (Inner e)) is = absurd is
 headless_plain maps limits at db wal journal (deep.Damaged (Schema e)) is = absurd is
 headless_plain maps limits at db wal journal (deep.Damaged (Content e)) is = absurd is

@@ -2,12 +2,14 @@
 use Rattle.std.specs.Prelude.{◌≡◌, ◌⊎◌, ℕ, Bool, true, false, List, Option, None, length}
 use Rattle.sqval.specs.Limits.{Bounds}
 use Rattle.sqval.specs.Database.{Database}
-use Rattle.sqdeepjudge.specs.declared.verdict.Damage.TheVariants.{Cut, Check, Inner, Schema, Content, Row}
+use Rattle.sqdeepjudge.specs.declared.verdict.Damage.TheVariants.{Cut, Excess, Check, Inner, Schema, Content, Row}
 use Rattle.sqview.specs.declared.verdict.Verdict.{Verdict}
 use Rattle.sqview.specs.declared.verdict.Verdict.TheVariants as plain
 use Rattle.cli_words.specs.declared.requests.Commit.{Commit}
 use Rattle.cli_words.specs.declared.requests.Commit.TheVariants.{Last, Front, At}
-use Rattle.cli_show.specs.Views.{AskedShows, IsFound, IsHeadless}
+use Rattle.sqpast.specs.declared.used.Counts.{Counts}
+use Rattle.cli_show.specs.Views.{AreAskedCounts, AskedShows, IsFound, IsHeadless}
+use Rattle.sqdeepjudge.specs.Counted.{FindsExcess}
 use Rattle.sqdeepjudge.specs.Missing.{FindsCut, IsInFrames, IsInLog, IsLeast, IsMissing}
 use Rattle.sqdeepjudge.specs.Verdicts.{FindsDeep, verdict_as}
 use Rattle.sqdeepjudge.specs.declared.verdict.DeepVerdict.{DeepVerdict}
@@ -19,6 +21,7 @@ abbrev pub IsHeadlessDeep : (limits : Bounds) → (at : Commit) → (db wal jour
 IsHeadlessDeep limits at db wal journal (deep.Clean report) = ⊥
 IsHeadlessDeep limits at db wal journal (deep.Sound report schema unjudged) = ⊥
 IsHeadlessDeep limits at db wal journal (deep.Damaged (Cut p)) = ⊥
+IsHeadlessDeep limits at db wal journal (deep.Damaged (Excess n)) = ⊥
 IsHeadlessDeep limits at db wal journal (deep.Damaged (Check e)) = IsHeadless limits at db wal journal (plain.Damaged e)
 IsHeadlessDeep limits at db wal journal (deep.Damaged (Inner e)) = ⊥
 IsHeadlessDeep limits at db wal journal (deep.Damaged (Schema e)) = ⊥
@@ -35,11 +38,17 @@ HasPage (At m) size wal journal p = IsInFrames size wal m p
 abbrev pub IsWholeOrCut : (at : Commit) → (size : ℕ) → (db wal journal : List ℕ) → Database → DeepVerdict → Type 0
 IsWholeOrCut at size db wal journal d verdict = FindsCut (IsMissing (HasPage at size wal journal) size (length db)) (length d) verdict
 
+-- A header that counts more pages than the database has there by its log is the fault, if no page is missing, and no other fault is
+-- found but one that comes first.
+abbrev pub IsCounted : (at : Commit) → (db wal journal : List ℕ) → DeepVerdict → Type 0
+IsCounted at db wal journal verdict = (counts : Counts) × AreAskedCounts at db wal journal counts × FindsExcess counts verdict
+
 -- Of files within limits, at the commit that is asked for: what is found of the database that they show there, or the
 -- fault of a header that names none.
 abbrev pub IsFoundDeep : (maps : Bool) → (limits : Bounds) → (at : Commit) → (db wal journal : List ℕ) → DeepVerdict → Type 0
 IsFoundDeep maps limits at db wal journal verdict =
-    ((size : ℕ) × (d : Database) × AskedShows at size db wal journal d × FindsDeep maps d size verdict × IsWholeOrCut at size db wal journal d verdict)
+    ((size : ℕ) × (d : Database) × AskedShows at size db wal journal d × FindsDeep maps d size verdict × IsWholeOrCut at size db wal journal d verdict
+    × IsCounted at db wal journal verdict)
     ⊎ IsHeadlessDeep limits at db wal journal verdict
 
 -- the same by a deep check, or by one that isn't

@@ -18,7 +18,7 @@ use Rattle.cli_text.specs.Facts.{number_text, object_text, word_text}
 use Rattle.cli_text.specs.Verdicts.{fault_text, report_text}
 use Rattle.sqschema.specs.declared.check.Schema.{Schema as OwnSchema}
 use Rattle.sqdeepjudge.specs.declared.not_judged.NotJudged.{NotJudged}
-use Rattle.sqdeepjudge.specs.declared.verdict.Damage.TheVariants.{Cut, Check, Inner, Schema, Content, Row}
+use Rattle.sqdeepjudge.specs.declared.verdict.Damage.TheVariants.{Cut, Excess, Check, Inner, Schema, Content, Row}
 use Rattle.sqdeepjudge.specs.declared.verdict.DeepVerdict.{DeepVerdict}
 use Rattle.sqdeepjudge.specs.declared.verdict.DeepVerdict.TheVariants.{Clean, Sound, Damaged}
 use Rattle.cli_show_deep.specs.Parts.{part_line, part_object}
@@ -91,6 +91,11 @@ abbrev pub cut_text : Style → (p : ℕ) → List ℕ
 cut_text Lines p = codes "page " ++ (decimal p ++ codes ": fault 36 FileCut\n")
 cut_text Json p = codes "{\"page\":" ++ (decimal p ++ codes ",\"fault\":36,\"name\":\"FileCut\"}\n")
 
+-- a header that counts too many pages: fault 37, at page 1
+abbrev pub excess_text : Style → List ℕ
+excess_text Lines = codes "page 1: fault 37 PageCount\n"
+excess_text Json = codes "{\"page\":1,\"fault\":37,\"name\":\"PageCount\"}\n"
+
 -- a fault inside, at a page, or at a cell of it
 abbrev pub inner_text : Style → InnerError → List ℕ
 inner_text Lines e =
@@ -132,6 +137,7 @@ abbrev pub found_text : Style → DeepVerdict → (missing : Option ℕ) → Lis
 found_text style (Clean report) missing = clean_text style report missing
 found_text style (Sound report schema unjudged) missing = whole_or_part style report schema unjudged.all.items unjudged.ill_formed
 found_text style (Damaged (Cut p)) missing = cut_text style p
+found_text style (Damaged (Excess n)) missing = excess_text style
 found_text style (Damaged (Check e)) missing = damage_text style e missing
 found_text style (Damaged (Inner e)) missing = inner_text style e
 found_text style (Damaged (Schema e)) missing = schema_text style e

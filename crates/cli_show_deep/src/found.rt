@@ -12,7 +12,7 @@ ghost use Rattle.sqview.specs.Verdicts.{IsUnjudgedWith};
 use cli_facts::{Front, Refusal};
 use cli_show::{Asked, Used, used_view_of};
 use sqcheck::Options as Maps;
-use sqdeepjudge::{DeepVerdict, deep_without, first_missing, judge_deep};
+use sqdeepjudge::{DeepVerdict, Lengths, deep_without, first_missing, judge_deep};
 use sqpast::{Counts, PastError};
 use sqview::{FileBytes, JudgeError, View, judge_view_with};
 use std::alloc::Global;
@@ -28,7 +28,7 @@ pub struct DeepFinding {
     pub missing: Option<u32>,
 }
 
-/// What is told of a view beside its verdict.
+/// What is reported of a view with its verdict.
 #[derive(Clone, Copy)]
 struct Beside {
     front: Option<Front>,
@@ -45,7 +45,7 @@ impl Beside {
     };
 }
 
-/// What is found, or why nothing is, beside this.
+/// What is found, or why nothing is, with this.
 fn as_found(beside: Beside, found: Result<DeepVerdict, JudgeError>) -> Result<DeepFinding, Refusal>
     ensures ok { IfOk result (λ finding. (found ≡ Ok finding.verdict) × (finding.front ≡ beside.front)) }
     ensures counts { IfOk result (λ finding. finding.counts ≡ beside.counts) }
@@ -96,7 +96,7 @@ fn judged_deep<F: FileBytes + Drop>(
         Ok(used) => {
             let Used { mut view, counts } = used;
             let front = Front::of_view(&view);
-            let found = judge_deep(alloc, &mut view, long, asked.maps);
+            let found = judge_deep(alloc, &mut view, Lengths { long, counts }, asked.maps);
             let beside = Beside {
                 front,
                 counts: Some(counts),
@@ -166,10 +166,10 @@ fn judged_plain<F: FileBytes + Drop>(
     }
 }
 
-/// What a check, or a deep one, finds of the pages of a file with its logs that SQLite would use, the front at which
-/// that view stands, and how many pages there were; by one that isn't deep also the least page that is missing. None of
-/// these if the file's own header names no database. Refused as the view is, by `AutoVacuum` if pointer maps aren't
-/// asked for, and by `FileFailed` where a file could not be read.
+/// What a check, or a deep one, finds of the pages of a file with its logs that SQLite would use, the front of that
+/// view, and how many pages there were; from one that isn't deep also the least page that is missing. None of these if
+/// the file's own header names no database. Refused as the view is, by `AutoVacuum` if pointer maps aren't asked for,
+/// and by `FileFailed` where a file could not be read.
 pub fn judged_as<F: FileBytes + Drop>(
     alloc: Global,
     asked: Asked,

@@ -1,9 +1,9 @@
 //! How it is printed what a deep check finds.
 ghost use Rattle.std.specs.Prelude.{OnOk};
 ghost use Rattle.std.specs.Io.KnownBytes.{Appends};
-ghost use Rattle.cli_show_deep.specs.Lines.{content_text, cut_text, found_text, inner_text, schema_text, sound_text};
+ghost use Rattle.cli_show_deep.specs.Lines.{content_text, cut_text, excess_text, found_text, inner_text, schema_text};
 ghost use Rattle.cli_show_deep.specs.Lines.{clean_counts, clean_object, clean_text, damage_object, damage_text};
-ghost use Rattle.cli_show_deep.specs.Lines.{place_text, table_row_text, whole_or_part};
+ghost use Rattle.cli_show_deep.specs.Lines.{place_text, sound_text, table_row_text, whole_or_part};
 
 use crate::parts::{write_part_line, write_part_object};
 use cli_text::{Fact, number, write_facts, write_fault, write_report};
@@ -77,7 +77,7 @@ fn write_whole_or_part<W: Write>(
     }
 }
 
-/// The counts at the front of the object of a well-formed database of which a page is missing.
+/// The counts at the front of the object of a well-formed database with a missing page.
 fn write_clean_counts<W: Write>(out: &mut W, report: &Report) -> io::Result<()>
     ensures { OnOk result (Appends (W.contents out.old) (W.contents out.new) (clean_counts report.now)) }
 {
@@ -95,7 +95,7 @@ fn write_clean_counts<W: Write>(out: &mut W, report: &Report) -> io::Result<()>
     )
 }
 
-/// A well-formed database of which this page is the least that is missing, as an object.
+/// A well-formed database with this least missing page, as an object.
 fn write_clean_object<W: Write>(out: &mut W, report: &Report, page: u32) -> io::Result<()>
     ensures { OnOk result (Appends (W.contents out.old) (W.contents out.new) (clean_object report.now page)) }
 {
@@ -121,7 +121,7 @@ fn write_clean<W: Write>(
     }
 }
 
-/// A fault at a page, where this one is the least that is missing, as an object.
+/// A fault at a page, with this least missing page, as an object.
 fn write_damage_object<W: Write>(out: &mut W, error: &CheckError, least: u32) -> io::Result<()>
     ensures { OnOk result (Appends (W.contents out.old) (W.contents out.new) (damage_object error.now least)) }
 {
@@ -157,6 +157,16 @@ fn write_cut<W: Write>(out: &mut W, style: Style, page: u32) -> io::Result<()>
     match style {
         Style::Lines => writeln!(out, "page {page}: fault 36 FileCut"),
         Style::Json => writeln!(out, "{{\"page\":{page},\"fault\":36,\"name\":\"FileCut\"}}"),
+    }
+}
+
+/// A header that counts more pages than there are.
+fn write_excess<W: Write>(out: &mut W, style: Style) -> io::Result<()>
+    ensures { OnOk result (Appends (W.contents out.old) (W.contents out.new) (excess_text style)) }
+{
+    match style {
+        Style::Lines => writeln!(out, "page 1: fault 37 PageCount"),
+        Style::Json => writeln!(out, "{{\"page\":1,\"fault\":37,\"name\":\"PageCount\"}}"),
     }
 }
 
@@ -280,6 +290,7 @@ pub fn write_found<W: Write>(
             write_whole_or_part(out, style, report, schema, unjudged)
         }
         DeepVerdict::Damaged(Damage::Cut(page)) => write_cut(out, style, *page),
+        DeepVerdict::Damaged(Damage::Excess(_)) => write_excess(out, style),
         DeepVerdict::Damaged(Damage::Check(error)) => write_damage(out, style, error, missing),
         DeepVerdict::Damaged(Damage::Inner(error)) => write_inner(out, style, error),
         DeepVerdict::Damaged(Damage::Schema(error)) => write_schema(out, style, error),

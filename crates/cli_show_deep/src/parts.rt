@@ -236,7 +236,7 @@ fn first_of(all: &[NotJudged]) -> &[NotJudged]
     &all[..MOST_LISTED.min(all.len())]
 }
 
-/// The counts at the front of the object of a database of which not all is judged.
+/// The counts at the front of the object of a database that isn't fully judged.
 fn write_part_counts<W: Write>(out: &mut W, report: &Report) -> io::Result<()>
     ensures { OnOk result (Appends (W.contents out.old) (W.contents out.new) (part_counts report.now)) }
 {

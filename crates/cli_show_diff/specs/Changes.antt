@@ -1,8 +1,7 @@
 -- The changes between two databases as they are printed, and why they aren't (own).
-use Rattle.std.specs.Prelude.{◌≡◌, ◌≢◌, ◌⊎◌, ◌<◌, ◌≤◌, ℕ, Bool, true, false, List, [], ◌∷◌, length, map, take, slice_get, Option, Some, None, All}
+use Rattle.std.specs.Prelude.{◌≡◌, ◌≢◌, ◌⊎◌, ◌<◌, ◌≤◌, ◌+◌, ◌++◌, ℕ, Bool, true, false, List, [], ◌∷◌, length, map, take, slice_get, Option, Some, None, All}
 use Rattle.std.specs.Borrow.{Bor}
 use Rattle.std.specs.Io.KnownBytes.{Appends}
-use Rattle.std.specs.List.{Contains}
 use Rattle.sqval.specs.Bytes.{word}
 use Rattle.sqval.specs.Database.{Database, page}
 use Rattle.sqtables.specs.declared.list.Object.{Object}
@@ -11,16 +10,16 @@ use Rattle.sqdeep.specs.declared.text.Encoding.{Encoding}
 use Rattle.sqdeep.specs.declared.text.Encoding.TheVariants.{Utf8}
 use Rattle.sqdeep.specs.Records.{encoding_of}
 use Rattle.cli_show_rows.specs.declared.stop.Stop.{Stop}
-use Rattle.cli_show_rows.specs.declared.stop.Stop.TheVariants.{Encoding as Encodings, LeftOut, NotUnderstood, NoSuchTable}
-use Rattle.cli_schema_text.specs.Comments.{count_text}
+use Rattle.cli_show_rows.specs.declared.stop.Stop.TheVariants.{Encoding as Encodings, LeftOut, NoSuchTable}
 use Rattle.cli_show_rows.specs.Schemas.{HasObjectsRead}
+use Rattle.cli_show_rows.specs.Strays.{HasStrays}
 use Rattle.cli_show_rows.specs.Stops.{IsUnheaded, SchemaRefused}
 use Rattle.cli_show_diff.specs.declared.changes.Schemas.{Schemas}
 use Rattle.cli_show_diff.specs.declared.form.ChangeForm.{ChangeForm}
 use Rattle.cli_show_diff.specs.declared.pair.Pair.{Pair}
 use Rattle.cli_show_diff.specs.declared.turn.Turn.{Turn}
 use Rattle.cli_show_diff.specs.declared.turn.Side.TheVariants.{Old, New}
-use Rattle.cli_show_diff.specs.Frames.{IsClosingText, IsOpeningText, IsStopToldIn, IsWritten}
+use Rattle.cli_show_diff.specs.Frames.{IsClosingText, IsOpeningText, IsStopToldIn, left_text_of, strays_in}
 use Rattle.cli_show_diff.specs.LeftOut.{LeavesOut}
 use Rattle.cli_show_diff.specs.Pairs.{IsPairPrinted, IsPairStopped}
 use Rattle.cli_show_diff.specs.Turns.{AreTurnsPrinted, AreTurnsStopped, IsFound}
@@ -40,6 +39,11 @@ IsCommon None None encoding = encoding ≡ Utf8
 IsCommon None (Some is) encoding = encoding ≡ is
 IsCommon (Some was) None encoding = encoding ≡ was
 IsCommon (Some was) (Some is) encoding = (encoding ≡ was) × (encoding ≡ is)
+
+-- the rows of its schema that are those of no object
+abbrev pub HasStraysOf : Database → Option Encoding → List (List ℕ) → Type 0
+HasStraysOf d None strays = strays ≡ []
+HasStraysOf d (Some encoding) strays = HasStrays d encoding strays
 
 -- the tables of the old database in their turn, and those of the new one that it lacks
 abbrev pub turn_old : Schemas → (internal : Bool) → Turn
@@ -117,35 +121,35 @@ pub record AreFramed (d e : Database) (schemas : Schemas) (names : List (List �
   pub ended : Option (List ℕ)
   pub asked : AreAskedPrinted d e schemas names form begun ended
   pub closing : List ℕ
-  pub closes : IsClosingText form schemas.new.now closing
+  pub closes : IsClosingText form schemas.old.now schemas.new.now closing
   pub last : Appends ended after closing
   pub counted : LeavesOut form names schemas.old.now schemas.new.now left
 
--- They were, and none is left out.
-abbrev pub AreFramedPrinted : Database → Database → Schemas → (names : List (List ℕ)) → ChangeForm → Encoding → (before after : Option (List ℕ)) → Type 0
-AreFramedPrinted d e schemas names form encoding before after = AreFramed d e schemas names form encoding 0 before after
+-- They were, and none is left out; beside these rows of both schemas, which are those of no object.
+abbrev pub AreFramedPrinted : Database → Database → Schemas → (names : List (List ℕ)) → ChangeForm → Encoding → (strays : List (List ℕ)) → (before after : Option (List ℕ)) → Type 0
+AreFramedPrinted d e schemas names form encoding strays before after = AreFramed d e schemas names form encoding 0 before after × (strays ≡ [])
 
--- All were printed but what this many comments stand for, which the last line counts.
-abbrev pub AreSomeLeftOut : Database → Database → Schemas → (names : List (List ℕ)) → ChangeForm → Encoding → Stop → (before after : Option (List ℕ)) → Type 0
-AreSomeLeftOut d e schemas names form encoding (LeftOut n) before after =
-    (mid : Option (List ℕ)) × AreFramed d e schemas names form encoding n before mid × (0 < n) × Appends mid after (count_text n)
-AreSomeLeftOut d e schemas names form encoding _ before after = ⊥
+-- All were printed but what is left out, those rows with it, which the last line of a script counts.
+abbrev pub AreSomeLeftOut : Database → Database → Schemas → (names : List (List ℕ)) → ChangeForm → Encoding → (strays : List (List ℕ)) → Stop → (before after : Option (List ℕ)) → Type 0
+AreSomeLeftOut d e schemas names form encoding strays (LeftOut n) before after =
+    (out : ℕ) × (mid : Option (List ℕ)) × AreFramed d e schemas names form encoding out before mid × (n ≡ out + length strays) × (0 < n)
+    × Appends mid after (left_text_of form strays n)
+AreSomeLeftOut d e schemas names form encoding strays _ before after = ⊥
 
--- They weren't: the writer failed, or memory ran out before anything was written; an object can't be written; the printing stopped
--- behind what stands before, which a script tells; or a script leaves something out.
-abbrev pub AreFramedStopped : Database → Database → Schemas → (names : List (List ℕ)) → ChangeForm → Encoding → Stop → (before after : Option (List ℕ)) → Type 0
-AreFramedStopped d e schemas names form encoding stop before after =
+-- They weren't: the writer failed, or memory ran out before anything was written; the printing stopped behind what stands before,
+-- which a script tells; or something is left out.
+abbrev pub AreFramedStopped : Database → Database → Schemas → (names : List (List ℕ)) → ChangeForm → Encoding → (strays : List (List ℕ)) → Stop → (before after : Option (List ℕ)) → Type 0
+AreFramedStopped d e schemas names form encoding strays stop before after =
     IsUnheaded stop before after
-    ⊎ ((o : Object) × (Contains schemas.old.now o ⊎ Contains schemas.new.now o) × (¬ IsWritten form o) × (stop ≡ NotUnderstood) × (before ≡ after))
     ⊎ ((opening : List ℕ) × (begun mid : Option (List ℕ)) × IsOpeningText form encoding schemas.old.now schemas.new.now opening × Appends before begun opening
     × AreAskedStopped d e schemas names form stop begun mid × IsStopToldIn form mid after)
-    ⊎ AreSomeLeftOut d e schemas names form encoding stop before after
+    ⊎ AreSomeLeftOut d e schemas names form encoding strays stop before after
 
 -- The changes between two databases were printed, whose texts are in one encoding.
 abbrev pub AreChangesPrinted : Database → Database → (names : List (List ℕ)) → ChangeForm → (before after : Option (List ℕ)) → Type 0
 AreChangesPrinted d e names form before after =
     (schemas : Schemas) × (was is : Option Encoding) × (encoding : Encoding) × HasObjectsOf d was schemas.old.now × HasObjectsOf e is schemas.new.now
-    × IsCommon was is encoding × AreFramedPrinted d e schemas names form encoding before after
+    × IsCommon was is encoding × (olds news : List (List ℕ)) × HasStraysOf d was olds × HasStraysOf e is news × AreFramedPrinted d e schemas names form encoding (strays_in form (olds ++ news)) before after
 
 -- They weren't to their end: the objects of one of both aren't listed, their texts are in two encodings, or the printing stopped.
 abbrev pub AreChangesStopped : Database → Database → (names : List (List ℕ)) → ChangeForm → Stop → (before after : Option (List ℕ)) → Type 0
@@ -153,4 +157,4 @@ AreChangesStopped d e names form stop before after =
     ((SchemaRefused d stop ⊎ SchemaRefused e stop) × (before ≡ after))
     ⊎ ((was is : Encoding) × IsEncoded d was × IsEncoded e is × (was ≢ is) × (stop ≡ Encodings) × (before ≡ after))
     ⊎ ((schemas : Schemas) × (was is : Option Encoding) × (encoding : Encoding) × HasObjectsOf d was schemas.old.now × HasObjectsOf e is schemas.new.now
-    × IsCommon was is encoding × AreFramedStopped d e schemas names form encoding stop before after)
+    × IsCommon was is encoding × (olds news : List (List ℕ)) × HasStraysOf d was olds × HasStraysOf e is news × AreFramedStopped d e schemas names form encoding (strays_in form (olds ++ news)) stop before after)

@@ -1,5 +1,5 @@
 -- What stands before and behind the changes of a script (own).
-use Rattle.std.specs.Prelude.{◌≡◌, ◌≢◌, ◌⊎◌, ℕ, ◌<◌, Bool, true, false, if◌then◌else◌, MatchBool, All, List, [], ◌∷◌, ◌++◌, codes, nat_eq, Option}
+use Rattle.std.specs.Prelude.{◌≡◌, ◌⊎◌, ℕ, Bool, true, false, if◌then◌else◌, MatchBool, All, List, [], ◌∷◌, ◌++◌, codes, nat_eq, Option}
 use Rattle.std.specs.Cmp.Lexicographic.{pointwise}
 use Rattle.std.specs.List.{Contains}
 use Rattle.std.specs.Str.{str_eq_ignore_ascii_case}
@@ -7,10 +7,10 @@ use Rattle.sqdeep.specs.declared.text.Encoding.{Encoding}
 use Rattle.sqtables.specs.declared.list.Object.{Object}
 use Rattle.schema_print.specs.declared.refusals.Printed.{Printed}
 use Rattle.cli_row_text.specs.Lines.{between_marks}
-use Rattle.cli_schema_text.specs.Comments.{hex_line, unnamed_text}
+use Rattle.cli_schema_text.specs.Comments.{hex_line, left_text, unnamed_text}
 use Rattle.cli_schema_text.specs.Names.{can_be_named}
 use Rattle.cli_schema_text.specs.Texts.{IsJudged, is_left_out}
-use Rattle.cli_show_rows.specs.Dumps.{IsStatementText, start_text}
+use Rattle.cli_show_rows.specs.Dumps.{IsStatementText, IsVirtual, start_text}
 use Rattle.cli_show_rows.specs.Stops.{IsFailingWritten}
 use Rattle.cli_show_diff.specs.declared.form.ChangeForm.{ChangeForm}
 use Rattle.cli_show_diff.specs.declared.form.ChangeForm.TheVariants.{Lines, Json, Sql}
@@ -37,16 +37,39 @@ abbrev pub drop_trigger : (stays : Bool) → (name : List ℕ) → List ℕ
 drop_trigger stays name =
     if stays then codes "-- not dropped, its new text isn't printed" ++ hex_line name else codes "DROP TRIGGER " ++ (between_marks 34 name ++ codes ";\n")
 
--- What is written of an object of the old database: what drops a trigger, unless it stays or no statement can name it.
+-- Both are virtual tables of one name and one text.
+pub record IsSameVirtual (o p : Object) : Type 0 where
+  pub first : IsVirtual o
+  pub second : IsVirtual p
+  pub name : p.name.items ≡ o.name.items
+  pub sql : p.sql.items ≡ o.sql.items
+
+-- An object is a virtual table that the other database lacks, or has with another text.
+abbrev pub IsVirtualChanged : (others : List Object) → Object → Type 0
+IsVirtualChanged others o = IsVirtual o × All (λ p. ¬ IsSameVirtual o p) others
+
+-- Whether it is one.
+abbrev pub IsVirtualLeft : (others : List Object) → Object → Bool → Type 0
+IsVirtualLeft others o left = MatchBool left (IsVirtualChanged others o) (¬ IsVirtualChanged others o)
+
+-- a comment that says so of an object of the old database, and of one of the new one; nothing of any other
+abbrev pub undropped_text : (left : Bool) → Object → List ℕ
+undropped_text left o = if left then codes "-- not dropped, a virtual table" ++ hex_line o.name.items else []
+
+abbrev pub unmade_text : (left : Bool) → Object → List ℕ
+unmade_text left o = if left then codes "-- not made, a virtual table" ++ hex_line o.sql.items else []
+
+-- What is written of an object of the old database: what drops a trigger, unless it stays or no statement can name it, and a
+-- comment for a virtual table that the new one lacks.
 abbrev pub IsDropText : (news : List Object) → Object → List ℕ → Type 0
 IsDropText news o t =
     MatchBool (is_trigger o)
     (MatchBool (can_be_named o.name.items) ((stays : Bool) × IsStaying o.name.items news stays × (t ≡ drop_trigger stays o.name.items)) (t ≡ unnamed_text o.name.items))
-    (t ≡ [])
+    ((left : Bool) × IsVirtualLeft news o left × (t ≡ undropped_text left o))
 
--- What is written of one of the new database: the text of a trigger.
-abbrev pub IsMakeText : Object → List ℕ → Type 0
-IsMakeText o t = MatchBool (is_trigger o) (IsStatementText o t) (t ≡ [])
+-- What is written of one of the new database: the text of a trigger, and a comment for a virtual table that the old one lacks.
+abbrev pub IsMakeText : (olds : List Object) → Object → List ℕ → Type 0
+IsMakeText olds o t = MatchBool (is_trigger o) (IsStatementText o t) ((left : Bool) × IsVirtualLeft olds o left × (t ≡ unmade_text left o))
 
 -- The texts of these objects, of which each is such a one.
 abbrev pub AreTextsOf : (Object → List ℕ → Type 0) → List Object → List ℕ → Type 0
@@ -60,10 +83,10 @@ IsOpeningText Lines encoding olds news t = t ≡ []
 IsOpeningText (Json commit) encoding olds news t = t ≡ []
 IsOpeningText Sql encoding olds news t = (drops : List ℕ) × AreTextsOf (IsDropText news) olds drops × (t ≡ start_text encoding ++ drops)
 
-abbrev pub IsClosingText : ChangeForm → (news : List Object) → List ℕ → Type 0
-IsClosingText Lines news t = t ≡ []
-IsClosingText (Json commit) news t = t ≡ []
-IsClosingText Sql news t = (makes : List ℕ) × AreTextsOf IsMakeText news makes × (t ≡ codes "COMMIT;\n" ++ makes)
+abbrev pub IsClosingText : ChangeForm → (olds news : List Object) → List ℕ → Type 0
+IsClosingText Lines olds news t = t ≡ []
+IsClosingText (Json commit) olds news t = t ≡ []
+IsClosingText Sql olds news t = (makes : List ℕ) × AreTextsOf (IsMakeText olds) news makes × (t ≡ codes "COMMIT;\n" ++ makes)
 
 -- That it had to stop is told in a script alone.
 abbrev pub IsStopToldIn : ChangeForm → (before after : Option (List ℕ)) → Type 0
@@ -71,8 +94,14 @@ IsStopToldIn Lines before after = before ≡ after
 IsStopToldIn (Json commit) before after = before ≡ after
 IsStopToldIn Sql before after = IsFailingWritten before after
 
--- An object can be written: in SQL no virtual table, whose own tables its module makes.
-abbrev pub IsWritten : ChangeForm → Object → Type 0
-IsWritten Lines o = Unit {0}
-IsWritten (Json commit) o = Unit {0}
-IsWritten Sql o = (0 < o.root) ⊎ (o.kind.items ≢ codes "table")
+-- of the rows of a schema that are those of no object a script alone says something
+abbrev pub strays_in : {A : Type 0} → ChangeForm → List A → List A
+strays_in Lines strays = []
+strays_in (Json commit) strays = []
+strays_in Sql strays = strays
+
+-- behind all else in a script: the rows of both schemas that are those of no object, and how much is left out with them
+abbrev pub left_text_of : ChangeForm → (strays : List (List ℕ)) → (count : ℕ) → List ℕ
+left_text_of Lines strays count = []
+left_text_of (Json commit) strays count = []
+left_text_of Sql strays count = left_text strays count

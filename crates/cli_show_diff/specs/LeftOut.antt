@@ -9,7 +9,7 @@ use Rattle.cli_schema_text.specs.Names.{can_be_named}
 use Rattle.cli_show_rows.specs.Dumps.{is_internal}
 use Rattle.cli_show_diff.specs.declared.form.ChangeForm.{ChangeForm}
 use Rattle.cli_show_diff.specs.declared.form.ChangeForm.TheVariants.{Lines, Json, Sql}
-use Rattle.cli_show_diff.specs.Frames.{IsTextLeft, is_trigger}
+use Rattle.cli_show_diff.specs.Frames.{IsTextLeft, IsVirtualLeft, is_trigger}
 use Rattle.cli_show_diff.specs.Pairs.{AreKept}
 use Rattle.cli_show_diff.specs.Turns.{IsFound}
 
@@ -21,9 +21,9 @@ is_asked names o = nat_eq (length names) 0 || list_any (λ n. str_eq_ignore_asci
 abbrev pub IsStated : (names : List (List ℕ)) → Object → Type 0
 IsStated names o = (is_trigger o ≡ true) ⊎ (IsTable o × (is_asked names o ≡ true))
 
--- It is left out if none can name it.
-abbrev pub IsOldLeft : (names : List (List ℕ)) → Object → Bool → Type 0
-IsOldLeft names o left = (IsStated names o × (left ≡ not (can_be_named o.name.items))) ⊎ ((¬ IsStated names o) × (left ≡ false))
+-- It is left out if none can name it, and a virtual table if the new database doesn't have the same.
+abbrev pub IsOldLeft : (names : List (List ℕ)) → (news : List Object) → Object → Bool → Type 0
+IsOldLeft names news o left = (IsStated names o × (left ≡ not (can_be_named o.name.items))) ⊎ ((¬ IsStated names o) × IsVirtualLeft news o left)
 
 -- A table of the new database is made: the old one has none of its name, or one whose rows aren't compared with its own.
 abbrev pub IsMade : (olds : List Object) → Object → Type 0
@@ -41,12 +41,13 @@ IsMadeLeft o left = (text : Bool) × IsTextLeft o text × (left ≡ (not (can_be
 abbrev pub IsPassed : (names : List (List ℕ)) → (olds : List Object) → Object → Type 0
 IsPassed names olds o = (¬ IsTable o) ⊎ (is_asked names o ≡ false) ⊎ IsThere olds o
 
--- Whether an object of the new database is left out, or its text: a trigger, or a table that is asked for and made.
+-- Whether an object of the new database is left out, or its text: a trigger, a table that is asked for and made, or a virtual
+-- table, if the old database doesn't have the same.
 abbrev pub IsNewLeft : (names : List (List ℕ)) → (olds : List Object) → Object → Bool → Type 0
 IsNewLeft names olds o left =
     ((is_trigger o ≡ true) × IsTextLeft o left)
     ⊎ (IsTable o × (is_asked names o ≡ true) × IsMade olds o × IsMadeLeft o left)
-    ⊎ ((is_trigger o ≡ false) × IsPassed names olds o × (left ≡ false))
+    ⊎ ((is_trigger o ≡ false) × IsPassed names olds o × IsVirtualLeft olds o left)
 
 -- So many of these objects are.
 abbrev pub HasCount : (Object → Bool → Type 0) → List Object → ℕ → Type 0
@@ -58,4 +59,4 @@ abbrev pub LeavesOut : ChangeForm → (names : List (List ℕ)) → (olds news :
 LeavesOut Lines names olds news n = n ≡ 0
 LeavesOut (Json commit) names olds news n = n ≡ 0
 LeavesOut Sql names olds news n =
-    (a b : ℕ) × HasCount (IsOldLeft names) olds a × HasCount (IsNewLeft names olds) news b × (n ≡ a + b)
+    (a b : ℕ) × HasCount (IsOldLeft names news) olds a × HasCount (IsNewLeft names olds) news b × (n ≡ a + b)

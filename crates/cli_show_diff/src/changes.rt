@@ -1,28 +1,31 @@
 //! The changes of all tables of a database, or of one of a name.
-ghost use Rattle.std.specs.Prelude.{◌≡◌, ◌≢◌, OnOk, IfOk, IfErr, MatchOption, Some};
+ghost use Rattle.std.specs.Prelude.{◌≡◌, ◌≢◌, ◌+◌, ◌++◌, OnOk, IfOk, IfErr, IfSome, MatchOption, Some, length};
+ghost use Rattle.std.specs.Io.KnownBytes.{Appends};
 ghost use Rattle.sqpage.specs.Source.{KeepsPages};
 ghost use Rattle.cli_show_rows.specs.Stops.{IsEnded, SchemaRefused};
 ghost use Rattle.cli_show_rows.specs.internal.Stopping.{IsCounted};
-ghost use Rattle.cli_show_diff.specs.Frames.{IsStopToldIn};
+ghost use Rattle.cli_show_rows.specs.Strays.{bytes_of};
+ghost use Rattle.cli_show_diff.specs.Frames.{IsStopToldIn, left_text_of, strays_in};
 ghost use Rattle.cli_show_rows.specs.declared.stop.Stop.{Stop};
 ghost use Rattle.cli_show_diff.specs.Changes.{AreAllPrinted, AreAllStopped, AreAskedPrinted, AreAskedStopped};
 ghost use Rattle.cli_show_diff.specs.Changes.{AreChangesPrinted, AreChangesStopped, AreFramedPrinted, AreFramedStopped};
-ghost use Rattle.cli_show_diff.specs.Changes.{AreTablesPrinted, AreTablesStopped, HasObjectsOf, IsNamedPrinted};
-ghost use Rattle.cli_show_diff.specs.Changes.{AreNamedPrinted, AreNamedStopped, IsCommon, IsNamedStopped, texts_of};
-ghost use Rattle.cli_show_diff.specs.internal.Framing.{AreBegunPrinted, AreBegunStopped, IsFrameOf};
+ghost use Rattle.cli_show_diff.specs.Changes.{AreTablesPrinted, AreTablesStopped, HasObjectsOf, HasStraysOf};
+ghost use Rattle.cli_show_diff.specs.Changes.{AreNamedPrinted, AreNamedStopped, IsCommon, IsNamedPrinted};
+ghost use Rattle.cli_show_diff.specs.Changes.{IsNamedStopped, texts_of};
+ghost use Rattle.cli_show_diff.specs.internal.Framing.{AreBegunPrinted, AreBegunStopped, IsFrameOf, strays_of};
 
 use crate::form::ChangeForm;
-use crate::frame::{are_written, closing_of, opening_of};
+use crate::frame::{closing_of, opening_of};
 use crate::left::left_out;
 use crate::pair::{Pair, print_pair};
 use crate::turn::{Side, Turn, print_turn};
-use cli_schema_text::write_count;
+use cli_schema_text::{write_left, write_strays};
 use cli_show_rows::{Schema, Stop, listed, stopped_script};
 use sqdeep::Encoding;
 use sqpage::PageSource;
 use sqtables::{Object, table_named};
 use std::alloc::Global;
-use std::io::Write;
+use std::io::{self, Write};
 
 /// The objects of both databases.
 #[derive(Clone, Copy)]
@@ -31,21 +34,42 @@ pub(crate) struct Schemas<'a> {
     pub(crate) new: &'a [Object],
 }
 
+/// What a database has: its encoding, its objects, and the texts of the rows of its schema that are those of none.
+#[derive(Drop)]
+pub(crate) struct Found {
+    pub(crate) encoding: Option<Encoding>,
+    pub(crate) objects: Vec<Object>,
+    pub(crate) strays: Vec<Vec<u8>>,
+}
+
 /// The objects of a database, and the encoding of its texts. One without pages has neither.
-fn objects_of<S: PageSource>(
-    alloc: Global,
-    source: &mut S,
-) -> Result<(Option<Encoding>, Vec<Object>), Stop>
+fn objects_of<S: PageSource>(alloc: Global, source: &mut S) -> Result<Found, Stop>
     ensures ok { S.gives_pages source.old → IfOk result (λ found.
-        HasObjectsOf (S.pages source.old) found.0 found.1.items) }
+        HasObjectsOf (S.pages source.old) found.encoding found.objects.items) }
+    ensures strays { S.gives_pages source.old → IfOk result (λ found.
+        HasStraysOf (S.pages source.old) found.encoding (bytes_of found.strays.items)) }
     ensures err { S.gives_pages source.old → IfErr result (SchemaRefused (S.pages source.old)) }
     ensures keeps { KeepsPages S.pages S.size S.reads_right S.gives_pages source.old source.new }
 {
     if source.count() == 0 {
-        return Ok((None, Vec::new(alloc)));
+        return Ok(Found {
+            encoding: None,
+            objects: Vec::new(alloc),
+            strays: Vec::new(alloc),
+        });
     }
     match listed(alloc, source) {
-        Ok(Schema { encoding, objects }) => Ok((Some(encoding), objects)),
+        Ok(
+            Schema {
+                encoding,
+                objects,
+                strays,
+            },
+        ) => Ok(Found {
+            encoding: Some(encoding),
+            objects,
+            strays,
+        }),
         Err(stop) => Err(stop),
     }
 }
@@ -194,6 +218,8 @@ pub(crate) struct Asked<'a> {
     pub(crate) form: ChangeForm,
     /// That of the texts of both.
     pub(crate) encoding: Encoding,
+    /// The texts of the rows of both schemas that are those of no object.
+    pub(crate) strays: (&'a [Vec<u8>], &'a [Vec<u8>]),
 }
 
 /// Prints the changes of the tables that are asked for.
@@ -240,7 +266,7 @@ fn frame_of(alloc: Global, asked: Asked<'_>) -> Result<Frame, Stop>
         Ok(opening) => opening,
         Err(stop) => return Err(stop),
     };
-    let closing = match closing_of(alloc, asked.form, new) {
+    let closing = match closing_of(alloc, asked.form, old, new) {
         Ok(closing) => closing,
         Err(stop) => return Err(stop),
     };
@@ -288,15 +314,58 @@ fn stopped<W: Write>(out: &mut W, form: ChangeForm, stop: Stop) -> Stop
     }
 }
 
+/// Such rows, if a script is printed.
+fn strays_in(form: ChangeForm, strays: &[Vec<u8>]) -> &[Vec<u8>]
+    ensures { result.now ≡ strays_in form strays.now }
+{
+    match form {
+        ChangeForm::Lines | ChangeForm::Json(_) => &[],
+        ChangeForm::Sql => strays,
+    }
+}
+
+/// How much is left out, such rows with it. None if there are more than a number can say.
+fn total(left: usize, strays: (&[Vec<u8>], &[Vec<u8>])) -> Option<usize>
+    ensures { IfSome result (λ n. n ≡ left + (length strays.entry.0.now + length strays.entry.1.now)) }
+{
+    let rows = strays.0.len().checked_add(strays.1.len())?;
+    left.checked_add(rows)
+}
+
+/// What a script ends with if it leaves something out: comments for the rows of both schemas that are those of no
+/// object, and how much is left out with them.
+fn write_left_of<W: Write>(
+    out: &mut W,
+    form: ChangeForm,
+    strays: (&[Vec<u8>], &[Vec<u8>]),
+    count: usize,
+) -> io::Result<()>
+    ensures { OnOk result (Appends (W.contents out.old) (W.contents out.new)
+        (left_text_of form (bytes_of strays.entry.0.now ++ bytes_of strays.entry.1.now) count)) }
+{
+    match form {
+        ChangeForm::Lines | ChangeForm::Json(_) => return Ok(()),
+        ChangeForm::Sql => {}
+    }
+    write_strays(out, strays.0)?;
+    write_left(out, strays.1, count)
+}
+
 /// Counts what is left out, if anything is.
-fn print_count<W: Write>(count: usize, out: &mut W) -> Result<(), Stop>
+fn print_count<W: Write>(
+    out: &mut W,
+    form: ChangeForm,
+    strays: (&[Vec<u8>], &[Vec<u8>]),
+    count: usize,
+) -> Result<(), Stop>
     ensures ok { OnOk result ((count ≡ 0) × (W.contents out.old ≡ W.contents out.new)) }
-    ensures err { IfErr result (λ stop. IsCounted count stop (W.contents out.old) (W.contents out.new)) }
+    ensures err { IfErr result (λ stop. IsCounted (left_text_of form (bytes_of strays.entry.0.now
+        ++ bytes_of strays.entry.1.now) count) count stop (W.contents out.old) (W.contents out.new)) }
 {
     if count == 0 {
         return Ok(());
     }
-    match write_count(out, count) {
+    match write_left_of(out, form, strays, count) {
         Ok(()) => Err(Stop::LeftOut(count)),
         Err(error) => Err(Stop::Write(error)),
     }
@@ -312,31 +381,27 @@ fn print_framed<S: PageSource, T: PageSource, W: Write>(
 ) -> Result<(), Stop>
     ensures ok { S.gives_pages old.old → T.gives_pages new.old → OnOk result (AreFramedPrinted (S.pages old.old)
         (T.pages new.old) asked.entry.schemas (texts_of asked.entry.selected.names.now) asked.entry.form
-        asked.entry.encoding (W.contents out.old) (W.contents out.new)) }
+        asked.entry.encoding (strays_of asked.entry) (W.contents out.old) (W.contents out.new)) }
     ensures err { S.gives_pages old.old → T.gives_pages new.old → IfErr result (λ stop. AreFramedStopped
         (S.pages old.old) (T.pages new.old) asked.entry.schemas (texts_of asked.entry.selected.names.now)
-        asked.entry.form asked.entry.encoding stop
+        asked.entry.form asked.entry.encoding (strays_of asked.entry) stop
         (W.contents out.old) (W.contents out.new)) }
     ensures keeps { KeepsPages S.pages S.size S.reads_right S.gives_pages old.old old.new
         × KeepsPages T.pages T.size T.reads_right T.gives_pages new.old new.new }
 {
-    let Schemas {
-        old: olds,
-        new: news,
-    } = asked.schemas;
-    if !are_written(asked.form, olds) || !are_written(asked.form, news) {
-        return Err(Stop::NotUnderstood);
-    }
     let frame = match frame_of(alloc, asked) {
         Ok(frame) => frame,
         Err(stop) => return Err(stop),
+    };
+    let Some(left) = total(frame.left, asked.strays) else {
+        return Err(Stop::NoMemory);
     };
     match print_begun(alloc, old, new, asked, &frame.opening, out) {
         Ok(()) => {}
         Err(stop) => return Err(stopped(out, asked.form, stop)),
     }
     match out.write_all(&frame.closing) {
-        Ok(()) => print_count(frame.left, out),
+        Ok(()) => print_count(out, asked.form, asked.strays, left),
         Err(error) => Err(Stop::Write(error)),
     }
 }
@@ -345,13 +410,14 @@ fn print_framed<S: PageSource, T: PageSource, W: Write>(
 /// each: the user's before SQLite's own, those that the old database has before those that it lacks, and each by rowid,
 /// or by key in one WITHOUT ROWID. Tables are matched by name; where only one has a table, or their texts differ, all
 /// rows went and all came. In SQL all of it is a script in one transaction, and tables are made as `print_making` makes
-/// them; a comment stands for each statement that would need a name with NUL or CR, and for the text of a trigger that
-/// sqlite3's shell would read otherwise than SQLite: then that of the old database stays. The last line counts them.
-/// Refused by `LeftOut` where comments stand for texts or tables, by the faults of both schemas, by `Encoding` where an
-/// encoding isn't known or each has its own, by `NoSuchTable`, by `NotUnderstood` where it isn't known how the rows of
-/// a table WITHOUT ROWID are sorted and it has some, and in SQL where there is a virtual table, or a column of a table
-/// with changes isn't known or has a name with NUL or CR, and by faults of trees and rows behind what stands before
-/// them. A script that was begun then ends with a statement that fails, but behind `LeftOut`.
+/// them; a comment replaces each statement that would need a name with NUL or CR, the text of a trigger that sqlite3's
+/// shell would read differently from SQLite (then that of the old database stays), a virtual table that only one has or
+/// whose texts differ (the tables of its module are printed as others are), and each row of a schema that is that of no
+/// object. The last line counts them. Refused by `LeftOut` if anything is left out, by the faults of both schemas, by
+/// `Encoding` where an encoding isn't known or each has its own, by `NoSuchTable`, by `NotUnderstood` where it isn't
+/// known how the rows of a table WITHOUT ROWID are sorted and it has some, and in SQL where a column of a table with
+/// changes isn't known or has a name with NUL or CR, and by faults of trees and rows behind what stands before them. A
+/// script that was begun then ends with a statement that fails, except after `LeftOut`.
 pub fn print_changes<S: PageSource, T: PageSource, W: Write>(
     alloc: Global,
     old: &mut S,
@@ -370,27 +436,28 @@ pub fn print_changes<S: PageSource, T: PageSource, W: Write>(
     ensures keeps { KeepsPages S.pages S.size S.reads_right S.gives_pages old.old old.new
         × KeepsPages T.pages T.size T.reads_right T.gives_pages new.old new.new }
 {
-    let (was, olds) = match objects_of(alloc, old) {
+    let was = match objects_of(alloc, old) {
         Ok(found) => found,
         Err(stop) => return Err(stop),
     };
-    let (is, news) = match objects_of(alloc, new) {
+    let is = match objects_of(alloc, new) {
         Ok(found) => found,
         Err(stop) => return Err(stop),
     };
-    let encoding = match common_of(was, is) {
+    let encoding = match common_of(was.encoding, is.encoding) {
         Some(encoding) => encoding,
         None => return Err(Stop::Encoding),
     };
     let schemas = Schemas {
-        old: &olds,
-        new: &news,
+        old: &was.objects,
+        new: &is.objects,
     };
     let asked = Asked {
         schemas,
         selected,
         form,
         encoding,
+        strays: (strays_in(form, &was.strays), strays_in(form, &is.strays)),
     };
     print_framed(alloc, old, new, asked, out)
 }

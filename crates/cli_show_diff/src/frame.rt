@@ -7,13 +7,13 @@ ghost use Rattle.sqtables.specs.declared.list.Object.{Object};
 ghost use Rattle.cli_schema_text.specs.Comments.{hex_line, unnamed_text};
 ghost use Rattle.cli_show_rows.specs.declared.stop.Stop.{Stop};
 ghost use Rattle.cli_show_diff.specs.Frames.{AreTextsOf, IsClosingText, IsDropText, IsMakeText, IsOpeningText};
-ghost use Rattle.cli_show_diff.specs.Frames.{IsStaying, IsTextLeft, IsTriggerNamed, IsWritten, drop_trigger};
-ghost use Rattle.cli_show_diff.specs.Frames.{is_trigger};
+ghost use Rattle.cli_show_diff.specs.Frames.{IsSameVirtual, IsStaying, IsTextLeft, IsTriggerNamed, IsVirtualLeft};
+ghost use Rattle.cli_show_diff.specs.Frames.{drop_trigger, is_trigger, undropped_text, unmade_text};
 
 use crate::form::ChangeForm;
 use cli_row_text::write_between;
 use cli_schema_text::{can_be_named, is_left_out, judged, write_unnamed};
-use cli_show_rows::{Stop, print_statement, write_start};
+use cli_show_rows::{Stop, is_virtual, print_statement, write_start};
 use cli_text::write_hex;
 use sqdeep::Encoding;
 use sqtables::Object;
@@ -68,8 +68,8 @@ fn is_staying(alloc: Global, news: &[Object], name: &[u8]) -> Result<bool, Alloc
     Ok(false)
 }
 
-/// A name in hex at the end of a comment.
-fn write_stay_name<W: Write>(out: &mut W, name: &[u8]) -> io::Result<()>
+/// Bytes in hex at the end of a comment.
+fn write_hex_name<W: Write>(out: &mut W, name: &[u8]) -> io::Result<()>
     ensures { OnOk result (Appends (W.contents out.old) (W.contents out.new) (hex_line name.now)) }
 {
     out.write_all(b": x'")?;
@@ -82,7 +82,7 @@ fn write_stay<W: Write>(out: &mut W, name: &[u8]) -> io::Result<()>
     ensures { OnOk result (Appends (W.contents out.old) (W.contents out.new) (drop_trigger true name.now)) }
 {
     out.write_all(b"-- not dropped, its new text isn't printed")?;
-    write_stay_name(out, name)
+    write_hex_name(out, name)
 }
 
 /// What drops a trigger of this name.
@@ -131,6 +131,86 @@ fn add_unnamed(name: &[u8], out: &mut Vec<u8>) -> Result<(), Stop>
     }
 }
 
+/// Whether both are virtual tables of one name and one text.
+fn is_same_virtual(object: &Object, other: &Object) -> bool
+    ensures yes { IsTrue result → IsSameVirtual object.now other.now }
+    ensures not { result ≡ false → ¬ IsSameVirtual object.now other.now }
+{
+    is_virtual(object)
+        && is_virtual(other)
+        && other.name.as_slice() == object.name.as_slice()
+        && other.sql.as_slice() == object.sql.as_slice()
+}
+
+/// Whether one of these objects is the same virtual table.
+fn has_virtual(others: &[Object], object: &Object) -> bool
+    ensures yes { IsTrue result → (p : Object) × Contains others.now p × IsSameVirtual object.now p }
+    ensures not { result ≡ false → All (λ p. ¬ IsSameVirtual object.now p) others.now }
+{
+    for other in others {
+        if is_same_virtual(object, other) {
+            return true;
+        }
+    }
+    false
+}
+
+/// Whether an object is a virtual table that the other database lacks, or has with another text.
+pub(crate) fn is_virtual_left(others: &[Object], object: &Object) -> bool
+    ensures { IsVirtualLeft others.now object.now result }
+{
+    if !is_virtual(object) {
+        return false;
+    }
+    !has_virtual(others, object)
+}
+
+/// A comment that says so of an object of the old database.
+fn write_undropped<W: Write>(out: &mut W, left: bool, object: &Object) -> io::Result<()>
+    ensures { OnOk result (Appends (W.contents out.old) (W.contents out.new) (undropped_text left object.now)) }
+{
+    if !left {
+        return Ok(());
+    }
+    out.write_all(b"-- not dropped, a virtual table")?;
+    write_hex_name(out, object.name.as_slice())
+}
+
+/// And of one of the new one.
+fn write_unmade<W: Write>(out: &mut W, left: bool, object: &Object) -> io::Result<()>
+    ensures { OnOk result (Appends (W.contents out.old) (W.contents out.new) (unmade_text left object.now)) }
+{
+    if !left {
+        return Ok(());
+    }
+    out.write_all(b"-- not made, a virtual table")?;
+    write_hex_name(out, object.sql.as_slice())
+}
+
+/// Adds such a comment for an object of the old database.
+fn add_undropped(news: &[Object], object: &Object, out: &mut Vec<u8>) -> Result<(), Stop>
+    ensures ok { OnOk result ((left : Bool) × IsVirtualLeft news.now object.now left
+        × (out.new.items ≡ out.old.items ++ undropped_text left object.now)) }
+    ensures err { IfErr result (λ stop. stop ≡ Stop.NoMemory) }
+{
+    match write_undropped(out, is_virtual_left(news, object), object) {
+        Ok(()) => Ok(()),
+        Err(_) => Err(Stop::NoMemory),
+    }
+}
+
+/// And for one of the new one.
+fn add_unmade(olds: &[Object], object: &Object, out: &mut Vec<u8>) -> Result<(), Stop>
+    ensures ok { OnOk result ((left : Bool) × IsVirtualLeft olds.now object.now left
+        × (out.new.items ≡ out.old.items ++ unmade_text left object.now)) }
+    ensures err { IfErr result (λ stop. stop ≡ Stop.NoMemory) }
+{
+    match write_unmade(out, is_virtual_left(olds, object), object) {
+        Ok(()) => Ok(()),
+        Err(_) => Err(Stop::NoMemory),
+    }
+}
+
 /// Adds what is written of an object of the old database.
 fn add_drop(alloc: Global, news: &[Object], object: &Object, out: &mut Vec<u8>) -> Result<(), Stop>
     ensures ok { OnOk result ((t : List ℕ) × IsDropText news.now object.now t
@@ -138,7 +218,7 @@ fn add_drop(alloc: Global, news: &[Object], object: &Object, out: &mut Vec<u8>) 
     ensures err { IfErr result (λ stop. stop ≡ Stop.NoMemory) }
 {
     if !is_trigger(object) {
-        return Ok(());
+        return add_undropped(news, object, out);
     }
     let name = object.name.as_slice();
     if !can_be_named(name) {
@@ -148,12 +228,13 @@ fn add_drop(alloc: Global, news: &[Object], object: &Object, out: &mut Vec<u8>) 
 }
 
 /// Adds what is written of an object of the new one.
-fn add_make(alloc: Global, object: &Object, out: &mut Vec<u8>) -> Result<(), Stop>
-    ensures ok { OnOk result ((t : List ℕ) × IsMakeText object.now t × (out.new.items ≡ out.old.items ++ t)) }
+fn add_make(alloc: Global, olds: &[Object], object: &Object, out: &mut Vec<u8>) -> Result<(), Stop>
+    ensures ok { OnOk result ((t : List ℕ) × IsMakeText olds.now object.now t
+        × (out.new.items ≡ out.old.items ++ t)) }
     ensures err { IfErr result (λ stop. stop ≡ Stop.NoMemory) }
 {
     if !is_trigger(object) {
-        return Ok(());
+        return add_unmade(olds, object, out);
     }
     match print_statement(alloc, object, out) {
         Ok(()) => Ok(()),
@@ -177,12 +258,13 @@ fn add_drops(alloc: Global, olds: &[Object], news: &[Object], out: &mut Vec<u8>)
 }
 
 /// And of each of the new one.
-fn add_makes(alloc: Global, news: &[Object], out: &mut Vec<u8>) -> Result<(), Stop>
-    ensures ok { OnOk result ((t : List ℕ) × AreTextsOf IsMakeText news.now t × (out.new.items ≡ out.old.items ++ t)) }
+fn add_makes(alloc: Global, olds: &[Object], news: &[Object], out: &mut Vec<u8>) -> Result<(), Stop>
+    ensures ok { OnOk result ((t : List ℕ) × AreTextsOf (IsMakeText olds.now) news.now t
+        × (out.new.items ≡ out.old.items ++ t)) }
     ensures err { IfErr result (λ stop. stop ≡ Stop.NoMemory) }
 {
     for object in news {
-        match add_make(alloc, object, out) {
+        match add_make(alloc, olds, object, out) {
             Ok(()) => {}
             Err(stop) => return Err(stop),
         }
@@ -216,9 +298,14 @@ pub(crate) fn opening_of(
     }
 }
 
-/// What stands behind all changes to a database of these objects.
-pub(crate) fn closing_of(alloc: Global, form: ChangeForm, news: &[Object]) -> Result<Vec<u8>, Stop>
-    ensures ok { IfOk result (λ v. IsClosingText form news.now v.items) }
+/// What stands behind all changes of a database of these objects, which became those.
+pub(crate) fn closing_of(
+    alloc: Global,
+    form: ChangeForm,
+    olds: &[Object],
+    news: &[Object],
+) -> Result<Vec<u8>, Stop>
+    ensures ok { IfOk result (λ v. IsClosingText form olds.now news.now v.items) }
     ensures err { IfErr result (λ stop. stop ≡ Stop.NoMemory) }
 {
     let mut out = Vec::new(alloc);
@@ -230,32 +317,8 @@ pub(crate) fn closing_of(alloc: Global, form: ChangeForm, news: &[Object]) -> Re
         Ok(()) => {}
         Err(_) => return Err(Stop::NoMemory),
     }
-    match add_makes(alloc, news, &mut out) {
+    match add_makes(alloc, olds, news, &mut out) {
         Ok(()) => Ok(out),
         Err(stop) => Err(stop),
     }
-}
-
-/// Whether an object can be written: in SQL no virtual table, whose own tables its module makes.
-fn is_written(form: ChangeForm, object: &Object) -> bool
-    ensures yes { IsTrue result → IsWritten form object.now }
-    ensures not { result ≡ false → ¬ IsWritten form object.now }
-{
-    match form {
-        ChangeForm::Lines | ChangeForm::Json(_) => true,
-        ChangeForm::Sql => object.root > 0 || object.kind.as_slice() != b"table".as_slice(),
-    }
-}
-
-/// Whether each of these objects can be.
-pub(crate) fn are_written(form: ChangeForm, objects: &[Object]) -> bool
-    ensures yes { IsTrue result → All (IsWritten form) objects.now }
-    ensures not { result ≡ false → (o : Object) × Contains objects.now o × (¬ IsWritten form o) }
-{
-    for object in objects {
-        if !is_written(form, object) {
-            return false;
-        }
-    }
-    true
 }

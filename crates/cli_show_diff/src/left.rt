@@ -10,7 +10,7 @@ ghost use Rattle.cli_show_diff.specs.LeftOut.{HasCount, IsMade, IsMadeLeft, IsNe
 ghost use Rattle.cli_show_diff.specs.LeftOut.{IsThere, LeavesOut, is_asked};
 
 use crate::form::ChangeForm;
-use crate::frame::{is_text_left, is_trigger};
+use crate::frame::{is_text_left, is_trigger, is_virtual_left};
 use crate::pair::are_kept;
 use cli_schema_text::can_be_named;
 use cli_show_rows::{Stop, is_internal};
@@ -47,23 +47,23 @@ fn is_stated(names: &[&str], object: &Object) -> bool
 }
 
 /// Whether an object of the old database is left out.
-fn is_old_left(names: &[&str], object: &Object) -> bool
-    ensures { IsOldLeft (texts_of names.now) object.now result }
+fn is_old_left(names: &[&str], news: &[Object], object: &Object) -> bool
+    ensures { IsOldLeft (texts_of names.now) news.now object.now result }
 {
     if !is_stated(names, object) {
-        return false;
+        return is_virtual_left(news, object);
     }
     !can_be_named(object.name.as_slice())
 }
 
 /// How many of these are.
-fn count_olds(names: &[&str], olds: &[Object]) -> usize
-    ensures counted { HasCount (IsOldLeft (texts_of names.now)) olds.now result }
+fn count_olds(names: &[&str], news: &[Object], olds: &[Object]) -> usize
+    ensures counted { HasCount (IsOldLeft (texts_of names.now) news.now) olds.now result }
     ensures few { result ≤ length olds.now }
 {
     let mut count = 0;
     for object in olds {
-        if is_old_left(names, object) {
+        if is_old_left(names, news, object) {
             count += 1;
         }
     }
@@ -123,7 +123,7 @@ fn is_new_left(
     if is_made(names, olds, object) {
         return is_made_left(alloc, object);
     }
-    Ok(false)
+    Ok(is_virtual_left(olds, object))
 }
 
 /// How many of these are.
@@ -160,7 +160,7 @@ pub(crate) fn left_out(
         ChangeForm::Lines | ChangeForm::Json(_) => return Ok(0),
         ChangeForm::Sql => {}
     }
-    let old = count_olds(names, olds);
+    let old = count_olds(names, news, olds);
     match count_news(alloc, names, olds, news) {
         Ok(new) => Ok(old + new),
         Err(_) => Err(Stop::NoMemory),

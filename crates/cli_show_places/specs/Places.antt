@@ -10,6 +10,8 @@ use Rattle.sqtables.specs.Objects.{IsTable, IsTableNamed}
 use Rattle.cli_words.specs.declared.requests.Style.{Style}
 use Rattle.cli_show_rows.specs.Dumps.{is_internal}
 use Rattle.cli_show_rows.specs.Schemas.{HasObjectsRead}
+use Rattle.cli_show_rows.specs.Strays.{HasStrays}
+use Rattle.sqdeep.specs.Records.{encoding_of}
 use Rattle.cli_show_places.specs.declared.table.Form.{Form}
 use Rattle.cli_show_places.specs.Lines.{table_text}
 
@@ -37,11 +39,20 @@ AreTurnsPlaced d frames form own [] before after = before ≡ after
 AreTurnsPlaced d frames form own (o ∷ objects) before after =
     (mid : Option (List ℕ)) × IsTurnPlaced d frames form own o before mid × AreTurnsPlaced d frames form own objects mid after
 
--- It was printed of each table: of the user's, and behind them of SQLite's own.
+-- It was printed of each table among these objects: of the user's, and behind them of SQLite's own.
+abbrev pub AreObjectsPlaced : Database → (frames : ℕ → Option ℕ) → Style → List Object → (before after : Option (List ℕ)) → Type 0
+AreObjectsPlaced d frames style objects before after =
+    (mid : Option (List ℕ)) × AreTurnsPlaced d frames (form_of style true) false objects before mid
+    × AreTurnsPlaced d frames (form_of style true) true objects mid after
+
+-- It was printed of each table of a database, beside these rows of its schema, which are those of no object.
+abbrev pub AreTablesPlacedBeside : Database → (frames : ℕ → Option ℕ) → Style → (strays : List (List ℕ)) → (before after : Option (List ℕ)) → Type 0
+AreTablesPlacedBeside d frames style strays before after =
+    (objects : List Object) × HasObjectsRead d objects × HasStrays d (encoding_of d) strays × AreObjectsPlaced d frames style objects before after
+
+-- It was, and there is no such row.
 abbrev pub AreTablesPlaced : Database → (frames : ℕ → Option ℕ) → Style → (before after : Option (List ℕ)) → Type 0
-AreTablesPlaced d frames style before after =
-    (objects : List Object) × (mid : Option (List ℕ)) × HasObjectsRead d objects
-    × AreTurnsPlaced d frames (form_of style true) false objects before mid × AreTurnsPlaced d frames (form_of style true) true objects mid after
+AreTablesPlaced d frames style before after = AreTablesPlacedBeside d frames style [] before after
 
 -- It was printed of a table of this name.
 abbrev pub IsNamedPlaced : Database → (frames : ℕ → Option ℕ) → Style → (name : List ℕ) → (before after : Option (List ℕ)) → Type 0

@@ -1,5 +1,5 @@
 -- Why it isn't printed of all rows where they stand, and what was printed until then (own).
-use Rattle.std.specs.Prelude.{◌≡◌, ◌⊎◌, ℕ, All, Bool, true, false, List, ◌++◌, length, take, slice_get, Option, Some, None}
+use Rattle.std.specs.Prelude.{◌≡◌, ◌⊎◌, ◌<◌, ℕ, All, Bool, true, false, List, ◌++◌, length, take, slice_get, Option, Some, None}
 use Rattle.std.specs.Io.KnownBytes.{Appends}
 use Rattle.std.specs.List.{Contains}
 use Rattle.sqval.specs.Database.{Database}
@@ -9,12 +9,12 @@ use Rattle.sqtables.specs.declared.list.Object.{Object}
 use Rattle.sqtables.specs.Objects.{IsTableNamed}
 use Rattle.cli_words.specs.declared.requests.Style.{Style}
 use Rattle.cli_show_rows.specs.declared.stop.Stop.{Stop}
-use Rattle.cli_show_rows.specs.declared.stop.Stop.TheVariants.{Fault, NoSuchTable, NoMemory}
+use Rattle.cli_show_rows.specs.declared.stop.Stop.TheVariants.{Fault, LeftOut, NoSuchTable, NoMemory}
 use Rattle.cli_show_rows.specs.Schemas.{HasObjectsRead}
 use Rattle.cli_show_rows.specs.Stops.{IsWriteError, SchemaRefused}
 use Rattle.cli_show_places.specs.declared.table.Form.{Form}
 use Rattle.cli_show_places.specs.Lines.{head_text, places_text}
-use Rattle.cli_show_places.specs.Places.{AreTurnsPlaced, IsTableOf, form_of}
+use Rattle.cli_show_places.specs.Places.{AreTablesPlacedBeside, AreTurnsPlaced, IsTableOf, form_of}
 
 -- Where the tree is sound, these are its first cells.
 abbrev pub AreFirst : Database → (root : ℕ) → List Entry → Type 0
@@ -44,13 +44,20 @@ IsTurnStopped d frames form own objects stop before after =
     (i : ℕ) × (o : Object) × (mid : Option (List ℕ)) × (slice_get objects i ≡ Some o) × AreTurnsPlaced d frames form own (take i objects) before mid
     × IsTableOf own o × IsTableStopped d frames form o stop mid after
 
--- The objects aren't listed; or it stopped at one of the user's tables, or behind them at one of SQLite's own.
+-- It stopped at one of the user's tables among these objects, or behind them at one of SQLite's own.
+abbrev pub AreObjectsStopped : Database → (frames : ℕ → Option ℕ) → Style → List Object → Stop → (before after : Option (List ℕ)) → Type 0
+AreObjectsStopped d frames style objects stop before after =
+    IsTurnStopped d frames (form_of style true) false objects stop before after
+    ⊎ ((mid : Option (List ℕ)) × AreTurnsPlaced d frames (form_of style true) false objects before mid
+    × IsTurnStopped d frames (form_of style true) true objects stop mid after)
+
+-- The objects aren't listed; or it stopped at one of them; or all was printed, and so many rows of the schema are those of no
+-- object.
 abbrev pub AreTablesStopped : Database → (frames : ℕ → Option ℕ) → Style → Stop → (before after : Option (List ℕ)) → Type 0
 AreTablesStopped d frames style stop before after =
     (SchemaRefused d stop × (before ≡ after))
-    ⊎ ((objects : List Object) × HasObjectsRead d objects × IsTurnStopped d frames (form_of style true) false objects stop before after)
-    ⊎ ((objects : List Object) × (mid : Option (List ℕ)) × HasObjectsRead d objects × AreTurnsPlaced d frames (form_of style true) false objects before mid
-    × IsTurnStopped d frames (form_of style true) true objects stop mid after)
+    ⊎ ((objects : List Object) × HasObjectsRead d objects × AreObjectsStopped d frames style objects stop before after)
+    ⊎ ((strays : List (List ℕ)) × (0 < length strays) × (stop ≡ LeftOut (length strays)) × AreTablesPlacedBeside d frames style strays before after)
 
 -- The objects aren't listed, or none is a table of this name; or it stopped at that one.
 abbrev pub IsNamedStopped : Database → (frames : ℕ → Option ℕ) → Style → (name : List ℕ) → Stop → (before after : Option (List ℕ)) → Type 0

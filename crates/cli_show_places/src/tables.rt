@@ -1,9 +1,11 @@
 //! Where the rows of each table of a database stand, or those of one of a name.
-ghost use Rattle.std.specs.Prelude.{◌≡◌, false, OnOk, IfErr, IsTrue};
+ghost use Rattle.std.specs.Prelude.{◌≡◌, ◌<◌, false, OnOk, IfErr, IsTrue};
 ghost use Rattle.sqpage.specs.Source.{KeepsPages};
-ghost use Rattle.cli_show_places.specs.Places.{AreTablesPlaced, AreTurnsPlaced, IsNamedPlaced, IsTableOf};
-ghost use Rattle.cli_show_places.specs.Places.{IsTurnPlaced};
-ghost use Rattle.cli_show_places.specs.Stops.{AreTablesStopped, IsNamedStopped, IsTableStopped, IsTurnStopped};
+ghost use Rattle.cli_show_rows.specs.declared.stop.Stop.TheVariants.{LeftOut};
+ghost use Rattle.cli_show_places.specs.Places.{AreObjectsPlaced, AreTablesPlaced, AreTurnsPlaced, IsNamedPlaced};
+ghost use Rattle.cli_show_places.specs.Places.{IsTableOf, IsTurnPlaced};
+ghost use Rattle.cli_show_places.specs.Stops.{AreObjectsStopped, AreTablesStopped, IsNamedStopped, IsTableStopped};
+ghost use Rattle.cli_show_places.specs.Stops.{IsTurnStopped};
 
 use crate::framed::Framed;
 use crate::table::{Form, print_table};
@@ -68,7 +70,43 @@ fn print_turn<S: Framed, W: Write>(
     Ok(())
 }
 
-/// Prints where the rows of each table stand: of the user's, and behind them of SQLite's own.
+/// Prints where the rows stand of each table among these objects: of the user's, and behind them of SQLite's own.
+fn print_objects<S: Framed, W: Write>(
+    alloc: Global,
+    source: &mut S,
+    objects: &[Object],
+    style: Style,
+    out: &mut W,
+) -> Result<(), Stop>
+    ensures ok { S.gives_pages source.old → S.tells_right → OnOk result (AreObjectsPlaced (S.pages source.old) S.frames
+        style objects.now (W.contents out.old) (W.contents out.new)) }
+    ensures err { S.gives_pages source.old → S.tells_right → IfErr result (λ stop. AreObjectsStopped
+        (S.pages source.old) S.frames style objects.now stop (W.contents out.old) (W.contents out.new)) }
+    ensures keeps { KeepsPages S.pages S.size S.reads_right S.gives_pages source.old source.new }
+{
+    let form = Form {
+        style,
+        titled: true,
+    };
+    match print_turn(alloc, source, objects, false, form, out) {
+        Ok(()) => print_turn(alloc, source, objects, true, form, out),
+        Err(stop) => Err(stop),
+    }
+}
+
+/// Refuses a schema that has so many rows of no object, unless it has none.
+fn refused(strays: usize) -> Result<(), Stop>
+    ensures ok { OnOk result (strays ≡ 0) }
+    ensures err { IfErr result (λ stop. (0 < strays) × (stop ≡ LeftOut strays)) }
+{
+    if strays == 0 {
+        return Ok(());
+    }
+    Err(Stop::LeftOut(strays))
+}
+
+/// Prints where the rows of each table stand: of the user's, and behind them of SQLite's own. Refused by `LeftOut`, if
+/// the schema has rows that are those of no object: then all else was printed.
 pub(crate) fn print_tables<S: Framed, W: Write>(
     alloc: Global,
     source: &mut S,
@@ -81,16 +119,12 @@ pub(crate) fn print_tables<S: Framed, W: Write>(
         (S.pages source.old) S.frames style stop (W.contents out.old) (W.contents out.new)) }
     ensures keeps { KeepsPages S.pages S.size S.reads_right S.gives_pages source.old source.new }
 {
-    let form = Form {
-        style,
-        titled: true,
-    };
     let schema = match listed(alloc, source) {
         Ok(schema) => schema,
         Err(stop) => return Err(stop),
     };
-    match print_turn(alloc, source, &schema.objects, false, form, out) {
-        Ok(()) => print_turn(alloc, source, &schema.objects, true, form, out),
+    match print_objects(alloc, source, &schema.objects, style, out) {
+        Ok(()) => refused(schema.strays.len()),
         Err(stop) => Err(stop),
     }
 }

@@ -1,19 +1,16 @@
 -- Objects that are counted one by one.
-use Rattle.std.proofs.Common.{◌≡◌, ◌<◌, ◌≤◌, ◌+◌, Bool, true, false, List, [], ◌∷◌, ◌++◌, Option, ℕ, suc, length, take, get_or, inl, inr, refl, sym, ap, ◌∙◌, subst, add-one}
+use Rattle.std.proofs.Common.{◌≡◌, ◌<◌, ◌+◌, Bool, true, false, List, [], ◌∷◌, ◌++◌, Option, ℕ, suc, length, take, get_or, inl, inr, refl, sym, ap, ◌∙◌, subst, add-one, arith}
 use Rattle.std.specs.Prelude.{if◌then◌else◌}
 use Rattle.std.specs.Io.KnownBytes.{Appends}
-use Rattle.sqval.specs.Bytes.{word}
-use Rattle.sqval.specs.Database.{Database, page}
+use Rattle.sqval.specs.Database.{Database}
 use Rattle.cli_row_text.specs.declared.form.Notation.{Notation}
-use Rattle.cli_schema_text.specs.Comments.{count_text}
 use Rattle.cli_show_rows.specs.declared.stop.Stop.{Stop}
 use Rattle.cli_show_rows.specs.declared.stop.Stop.TheVariants.{Fault, Record, TooLong, NotUnderstood, Default, Behind, Encoding, NotNamed, LeftOut, NoSuchTable, NoMemory, Write}
-use Rattle.cli_show_rows.specs.Schemas.{HasObjectsRead}
 use Rattle.cli_show_rows.specs.Stops.{AreTablesStopped}
 use Rattle.cli_show_rows.specs.internal.Stopping.{IsCounted}
 use Rattle.std.proofs.Math.Seq.{take-suc}
 use Rattle.sqtables.specs.declared.list.Object.{Object}
-use Rattle.cli_show_rows.specs.Dumps.{AreObjectsPrinted, AreTablesPrinted, HasLeftOut, IsLeftOut, LeavesOutIn, first_text, form_in}
+use Rattle.cli_show_rows.specs.Dumps.{AreAllPrinted, AreTablesPrinted, HasLeftOut, IsLeftOut, left_text_in}
 
 -- one more, or not
 abbrev pub counted : Bool → ℕ → ℕ
@@ -48,46 +45,39 @@ pub kept_more : (objects : List Object) (i : ℕ) (x : Object) (n : ℕ) (left :
 kept_more objects i x n left within has is so =
     subst (λ m. HasLeftOut (take (i + 1) objects) m) (ap (λ (b : Bool). counted b n) so) (left_more objects i x n left within has is)
 
+pub no_strays : (strays : List (List ℕ)) (n : ℕ) → n + length strays ≡ 0 → strays ≡ []
+no_strays [] n none = refl
+no_strays (t ∷ strays) n none = absurd (omega arith)
+
 -- all was printed, and nothing left out
-pub all_printed : (d : Database) (notation : Notation) (old begun ended after : Option (List ℕ)) (objects : List Object) (left : ℕ) → left ≡ 0 → ended ≡ after
-    → HasObjectsRead d objects → word (page d 1) 56 ≤ 3 → Appends old begun (first_text (form_in d notation)) → AreObjectsPrinted d (form_in d notation) objects begun ended
-    → LeavesOutIn notation objects left → AreTablesPrinted d notation old after
-all_printed d notation old begun ended after objects left none same has encoded first printed counted = record {
-  objects = objects;
-  has = has;
-  encoded = encoded;
-  begun = begun;
-  first = first;
-  printed = subst (λ (z : Option (List ℕ)). AreObjectsPrinted d (form_in d notation) objects begun z) same printed;
-  whole = subst (λ n. LeavesOutIn notation objects n) none counted;
-}
+pub nothing_left : (d : Database) (notation : Notation) (old ended after : Option (List ℕ)) (strays : List (List ℕ)) (count : ℕ)
+    → AreAllPrinted d notation strays count old ended → count ≡ 0 → ended ≡ after → AreTablesPrinted d notation old after
+nothing_left d notation old ended after strays count w zero same =
+    let none : strays ≡ [] = no_strays strays w.out (sym w.counted ∙ zero) in
+    let bare : AreAllPrinted d notation [] count old ended = subst (λ (ts : List (List ℕ)). AreAllPrinted d notation ts count old ended) none w in
+    let naught : AreAllPrinted d notation [] 0 old ended = subst (λ (n : ℕ). AreAllPrinted d notation [] n old ended) zero bare in
+    subst (λ (z : Option (List ℕ)). AreAllPrinted d notation [] 0 old z) same naught
 
 -- all was printed, and what is left out counted
-pub some_left_out : (d : Database) (notation : Notation) (old begun ended after : Option (List ℕ)) (objects : List Object) (left : ℕ) (stop : Stop) → IsCounted left stop ended after
-    → HasObjectsRead d objects → word (page d 1) 56 ≤ 3 → Appends old begun (first_text (form_in d notation)) → AreObjectsPrinted d (form_in d notation) objects begun ended
-    → LeavesOutIn notation objects left → AreTablesStopped d notation stop old after
-some_left_out d notation old begun ended after objects left (LeftOut n) told has encoded first printed counted =
-    let is : n ≡ left = told.0 in
+pub some_left_out : (d : Database) (notation : Notation) (old ended after : Option (List ℕ)) (strays : List (List ℕ)) (count : ℕ) (stop : Stop)
+    → AreAllPrinted d notation strays count old ended → IsCounted (left_text_in notation strays count) count stop ended after → AreTablesStopped d notation stop old after
+some_left_out d notation old ended after strays count (LeftOut n) w told =
+    let is : n ≡ count = told.0 in
     inr (inr (inr (
-      objects,
-      begun,
+      strays,
       ended,
-      has,
-      encoded,
-      first,
-      printed,
-      subst (λ m. LeavesOutIn notation objects m) (sym is) counted,
-      subst (λ m. 0 < m) (sym is) told.1,
-      subst (λ m. Appends ended after (count_text m)) (sym is) told.2,
+      subst (λ (m : ℕ). AreAllPrinted d notation strays m old ended) (sym is) w,
+      subst (λ (m : ℕ). 0 < m) (sym is) told.1,
+      subst (λ (m : ℕ). Appends ended after (left_text_in notation strays m)) (sym is) told.2,
     )))
-some_left_out d notation old begun ended after objects left (Write e) told has encoded first printed counted = inr (inl tt)
-some_left_out d notation old begun ended after objects left (Fault e) told has encoded first printed counted = absurd told
-some_left_out d notation old begun ended after objects left (Record e) told has encoded first printed counted = absurd told
-some_left_out d notation old begun ended after objects left TooLong told has encoded first printed counted = absurd told
-some_left_out d notation old begun ended after objects left NotUnderstood told has encoded first printed counted = absurd told
-some_left_out d notation old begun ended after objects left Default told has encoded first printed counted = absurd told
-some_left_out d notation old begun ended after objects left Behind told has encoded first printed counted = absurd told
-some_left_out d notation old begun ended after objects left Encoding told has encoded first printed counted = absurd told
-some_left_out d notation old begun ended after objects left NotNamed told has encoded first printed counted = absurd told
-some_left_out d notation old begun ended after objects left NoSuchTable told has encoded first printed counted = absurd told
-some_left_out d notation old begun ended after objects left NoMemory told has encoded first printed counted = absurd told
+some_left_out d notation old ended after strays count (Write e) w told = inr (inl tt)
+some_left_out d notation old ended after strays count (Fault e) w told = absurd told
+some_left_out d notation old ended after strays count (Record e) w told = absurd told
+some_left_out d notation old ended after strays count TooLong w told = absurd told
+some_left_out d notation old ended after strays count NotUnderstood w told = absurd told
+some_left_out d notation old ended after strays count Default w told = absurd told
+some_left_out d notation old ended after strays count Behind w told = absurd told
+some_left_out d notation old ended after strays count Encoding w told = absurd told
+some_left_out d notation old ended after strays count NotNamed w told = absurd told
+some_left_out d notation old ended after strays count NoSuchTable w told = absurd told
+some_left_out d notation old ended after strays count NoMemory w told = absurd told

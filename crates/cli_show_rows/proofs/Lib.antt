@@ -4,3 +4,4 @@ pub mod ObjectsRead
 pub mod DefaultsStored
 pub mod LeftOut
 pub mod Cases
+pub mod StraysTaken

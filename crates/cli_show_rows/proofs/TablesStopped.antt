@@ -22,7 +22,7 @@ use Rattle.cli_row_text.specs.declared.print.PrintError.{PrintError}
 use Rattle.cli_row_text.specs.declared.print.PrintError.TheVariants as print_errors
 use Rattle.cli_row_text.specs.Printed.{IsPrintedUntil, PrintRefused, WrittenUntil}
 use Rattle.cli_show_rows.specs.declared.stop.Stop.{Stop}
-use Rattle.cli_show_rows.specs.Dumps.{first_text, form_in, settings_text}
+use Rattle.cli_show_rows.specs.Dumps.{AreCounting, first_text, form_in, settings_text}
 use Rattle.cli_show_rows.specs.Schemas.{AreColumnsIn, HasObjectsRead}
 use Rattle.cli_show_rows.specs.Tables.{IsInsert, IsNameFor, leads_in}
 use Rattle.cli_show_rows.specs.Stops.{AreObjectsStopped, AreTablesStopped, IsBegun, IsEnded, IsHeadedStopped, IsNamedStopped, IsStopTold, StopsAt, SchemaRefused}
@@ -99,12 +99,12 @@ schema_refused d (list_errors.Record e) h = h
 schema_refused d list_errors.NoMemory h = tt
 
 -- the rows of a database, or of a table, that stopped, as they are told
-pub stopped_ended : (d : Database) (notation : Notation) (old begun mid after : Option (List ℕ)) (objects : List Object) (stop ended : Stop)
-    → HasObjectsRead d objects → word (page d 1) 56 ≤ 3 → Appends old begun (first_text (form_in d notation))
-    → AreObjectsStopped d (form_in d notation) objects stop begun mid → IsEnded (IsStopTold notation) stop ended mid after → AreTablesStopped d notation ended old after
-stopped_ended d notation old begun mid after objects stop ended has encoded first stopped (inl w) = inr (inl w)
-stopped_ended d notation old begun mid after objects stop ended has encoded first stopped (inr w) =
-    inr (inr (inl (objects, begun, mid, has, encoded, first, subst (λ (s : Stop). AreObjectsStopped d (form_in d notation) objects s begun mid) (sym w.0) stopped, w.1)))
+pub stopped_ended : (d : Database) (notation : Notation) (old begun mid after : Option (List ℕ)) (objects : List Object) (counting : Bool) (stop ended : Stop)
+    → HasObjectsRead d objects → word (page d 1) 56 ≤ 3 → AreCounting notation objects counting → Appends old begun (first_text (form_in d notation))
+    → AreObjectsStopped d (form_in d notation) counting objects stop begun mid → IsEnded (IsStopTold notation) stop ended mid after → AreTablesStopped d notation ended old after
+stopped_ended d notation old begun mid after objects counting stop ended has encoded counts first stopped (inl w) = inr (inl w)
+stopped_ended d notation old begun mid after objects counting stop ended has encoded counts first stopped (inr w) =
+    inr (inr (inl (objects, counting, begun, mid, has, encoded, counts, first, subst (λ (s : Stop). AreObjectsStopped d (form_in d notation) counting objects s begun mid) (sym w.0) stopped, w.1)))
 
 pub named_ended : (d : Database) (name : List ℕ) (notation : Notation) (old begun mid after : Option (List ℕ)) (objects : List Object) (table : Object) (stop ended : Stop)
     → HasObjectsRead d objects → Contains objects table → IsTableNamed name table → Appends old begun (settings_text notation)

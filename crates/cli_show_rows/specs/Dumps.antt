@@ -1,5 +1,5 @@
 -- All tables of a database as they are printed (own).
-use Rattle.std.specs.Prelude.{◌≡◌, ◌⊎◌, ◌&&◌, ◌||◌, ℕ, suc, ◌≤◌, nat_le, Bool, true, false, not, if◌then◌else◌, MatchBool, List, [], ◌∷◌, ◌++◌, length, take, Option, codes}
+use Rattle.std.specs.Prelude.{◌≡◌, ◌⊎◌, ◌+◌, ◌&&◌, ◌||◌, ℕ, suc, ◌≤◌, All, nat_le, Bool, true, false, not, if◌then◌else◌, MatchBool, List, [], ◌∷◌, ◌++◌, length, take, Option, codes}
 use Rattle.std.specs.Io.KnownBytes.{Appends}
 use Rattle.std.specs.List.{Contains}
 use Rattle.std.specs.Str.{str_eq_ignore_ascii_case}
@@ -17,14 +17,16 @@ use Rattle.cli_row_text.specs.declared.form.Notation.{Notation}
 use Rattle.cli_row_text.specs.declared.form.Notation.TheVariants.{Json, Csv, Sql}
 use Rattle.cli_row_text.specs.Headings.{heading_text}
 use Rattle.cli_row_text.specs.Lines.{form_of}
-use Rattle.cli_schema_text.specs.Comments.{unnamed_text}
+use Rattle.cli_schema_text.specs.Comments.{left_text, unnamed_text}
+use Rattle.cli_schema_text.specs.Keys.{CountsKeys}
 use Rattle.cli_schema_text.specs.Names.{can_be_named, column_names, fallback_text}
 use Rattle.cli_schema_text.specs.Texts.{IsJudged, IsTextPrinted, is_left_out, printed_text, schema_row_text}
 use Rattle.schema_print.specs.declared.refusals.Printed.{Printed}
 use Rattle.schema_print.specs.declared.refusals.Printed.TheVariants.{RowOfSchema}
 use Rattle.cli_show_rows.specs.declared.dump.Turn.{Turn}
-use Rattle.cli_show_rows.specs.declared.dump.Turn.TheVariants.{Tables, Internal, Others, Virtual}
+use Rattle.cli_show_rows.specs.declared.dump.Turn.TheVariants.{Tables, Sequence, Indexes, Statistics, Others, Virtual}
 use Rattle.cli_show_rows.specs.Schemas.{AreColumnsIn, HasObjectsRead}
+use Rattle.cli_show_rows.specs.Strays.{HasStrays}
 use Rattle.cli_show_rows.specs.Tables.{IsHeadedPrinted, is_named_in}
 
 -- a name that SQLite keeps for its own tables (fileformat2, 2.6.2)
@@ -35,11 +37,22 @@ is_internal name = nat_le 7 (length name) && str_eq_ignore_ascii_case (take 7 na
 abbrev pub IsVirtual : Object → Type 0
 IsVirtual o = (¬ IsTable o) × (o.kind.items ≡ codes "table")
 
--- First come the user's tables, then SQLite's own; then what isn't a table, and at last virtual tables.
+-- the name of the table in which SQLite counts keys (fileformat2, 2.6.2)
+abbrev pub is_sequence : (name : List ℕ) → Bool
+is_sequence name = str_eq_ignore_ascii_case name (codes "sqlite_sequence")
+
+-- It is an index that has a text.
+abbrev pub IsIndex : Object → Type 0
+IsIndex o = (¬ IsTable o) × (o.kind.items ≡ codes "index")
+
+-- First come the user's tables, then sqlite_sequence; then indexes, SQLite's other tables, what else isn't a table, and at last
+-- virtual tables.
 abbrev pub IsInTurn : Turn → Object → Type 0
 IsInTurn Tables o = IsTable o × (is_internal o.name.items ≡ false)
-IsInTurn Internal o = IsTable o × (is_internal o.name.items ≡ true)
-IsInTurn Others o = (¬ IsTable o) × (¬ IsVirtual o)
+IsInTurn (Sequence made) o = IsTable o × (is_internal o.name.items ≡ true) × (is_sequence o.name.items ≡ true)
+IsInTurn Indexes o = IsIndex o
+IsInTurn Statistics o = IsTable o × (is_internal o.name.items ≡ true) × (is_sequence o.name.items ≡ false)
+IsInTurn Others o = (¬ IsTable o) × (¬ IsVirtual o) × (¬ IsIndex o)
 IsInTurn Virtual o = IsVirtual o
 
 -- What an object's text is printed as.
@@ -54,7 +67,7 @@ IsStatementPrinted o before after = (t : List ℕ) × IsStatementText o t × App
 -- others are those that ANALYZE makes (fileformat2, 2.6).
 abbrev pub internal_text : (name : List ℕ) → List ℕ
 internal_text name =
-    if str_eq_ignore_ascii_case name (codes "sqlite_sequence") then codes "DELETE FROM sqlite_sequence;\n" else codes "ANALYZE sqlite_schema;\n"
+    if is_sequence name then codes "DELETE FROM sqlite_sequence;\n" else codes "ANALYZE sqlite_schema;\n"
 
 -- What makes a user's table: its text, and one that makes the table if SQLite refuses that text, so that its rows have a place.
 abbrev pub IsTableText : Encoding → Object → List ℕ → Type 0
@@ -79,14 +92,15 @@ IsMakingPrinted encoding o before after = (t : List ℕ) × IsMakingText encodin
 abbrev pub title_text : (name : List ℕ) → List ℕ
 title_text name = codes "table," ++ heading_text Csv [] (name ∷ [])
 
--- What stands before the heading of a table.
-abbrev pub IsMadeText : Notation → Encoding → Object → List ℕ → Type 0
-IsMadeText Json encoding o t = t ≡ []
-IsMadeText Csv encoding o t = t ≡ title_text o.name.items
-IsMadeText Sql encoding o t = IsMakingText encoding o t
+-- What stands before the heading of a table; in SQL what makes it, if it is made.
+abbrev pub IsMadeText : Notation → Encoding → (made : Bool) → Object → List ℕ → Type 0
+IsMadeText Json encoding made o t = t ≡ []
+IsMadeText Csv encoding made o t = t ≡ title_text o.name.items
+IsMadeText Sql encoding true o t = IsMakingText encoding o t
+IsMadeText Sql encoding false o t = t ≡ []
 
-abbrev pub IsMadeWritten : Form → Object → (before after : Option (List ℕ)) → Type 0
-IsMadeWritten form o before after = (t : List ℕ) × IsMadeText form.notation form.encoding o t × Appends before after t
+abbrev pub IsMadeWritten : Form → (made : Bool) → Object → (before after : Option (List ℕ)) → Type 0
+IsMadeWritten form made o before after = (t : List ℕ) × IsMadeText form.notation form.encoding made o t × Appends before after t
 
 -- how the rows of a database are written in a notation: its texts are in its encoding
 abbrev pub form_in : Database → Notation → Form
@@ -121,15 +135,17 @@ IsVirtualIn Csv encoding o t = t ≡ []
 IsVirtualIn Sql encoding o t = IsVirtualText encoding o t
 
 -- The rows of a table were printed behind its heading and what makes it; or what stands for it, if no statement can name it.
-abbrev pub IsMadePrinted : Database → Form → Object → (before after : Option (List ℕ)) → Type 0
-IsMadePrinted d form o before after =
-    (mid : Option (List ℕ)) × IsMadeWritten form o before mid
+abbrev pub IsMadePrinted : Database → Form → (made : Bool) → Object → (before after : Option (List ℕ)) → Type 0
+IsMadePrinted d form made o before after =
+    (mid : Option (List ℕ)) × IsMadeWritten form made o before mid
     × MatchBool (is_named_in form.notation o.name.items) (IsHeadedPrinted d o form mid after) (mid ≡ after)
 
 -- An object was printed.
 abbrev pub IsObjectPrinted : Database → Form → Turn → Object → (before after : Option (List ℕ)) → Type 0
-IsObjectPrinted d form Tables o before after = IsMadePrinted d form o before after
-IsObjectPrinted d form Internal o before after = IsMadePrinted d form o before after
+IsObjectPrinted d form Tables o before after = IsMadePrinted d form true o before after
+IsObjectPrinted d form (Sequence made) o before after = IsMadePrinted d form made o before after
+IsObjectPrinted d form Statistics o before after = IsMadePrinted d form true o before after
+IsObjectPrinted d form Indexes o before after = (t : List ℕ) × IsOtherText form.notation o t × Appends before after t
 IsObjectPrinted d form Others o before after = (t : List ℕ) × IsOtherText form.notation o t × Appends before after t
 IsObjectPrinted d form Virtual o before after = (t : List ℕ) × IsVirtualIn form.notation form.encoding o t × Appends before after t
 
@@ -177,28 +193,51 @@ last_text Json = []
 last_text Csv = []
 last_text Sql = codes "COMMIT;\n"
 
--- These tables were printed, the user's before SQLite's own, and in a script committed.
-pub record AreRowsCommitted (d : Database) (form : Form) (objects : List Object) (before after : Option (List ℕ)) : Type 0 where
-  pub tables_done : Option (List ℕ)
-  pub internal_done : Option (List ℕ)
-  pub tables : AreTurnsTaken d form Tables objects before tables_done
-  pub internal : AreTurnsTaken d form Internal objects tables_done internal_done
-  pub commits : Appends internal_done after (last_text form.notation)
+-- It is a user's table.
+abbrev pub IsUsers : Object → Type 0
+IsUsers o = IsTable o × (is_internal o.name.items ≡ false)
 
--- These objects were printed, turn by turn: what isn't a table, and virtual tables, behind the transaction, so that a text
--- that SQLite refuses costs itself alone.
-pub record AreObjectsPrinted (d : Database) (form : Form) (objects : List Object) (before after : Option (List ℕ)) : Type 0 where
-  pub committed : Option (List ℕ)
+-- Whether an object makes SQLite count keys: the text of a user's table is printed, and has AUTOINCREMENT.
+abbrev pub IsCounting : Object → Bool → Type 0
+IsCounting o counts =
+    (IsUsers o × ((p : Printed) × (has : Bool) × IsJudged o.kind.items o.name.items o.sql.items p × CountsKeys o.sql.items has × (counts ≡ (not (is_left_out p) && has))))
+    ⊎ ((¬ IsUsers o) × (counts ≡ false))
+
+-- Whether one of these objects does, which makes sqlite_sequence; it is asked for a script alone.
+abbrev pub AreCounting : Notation → List Object → Bool → Type 0
+AreCounting Json objects counting = counting ≡ false
+AreCounting Csv objects counting = counting ≡ false
+AreCounting Sql objects true = (o : Object) × Contains objects o × IsCounting o true
+AreCounting Sql objects false = All (λ o. IsCounting o false) objects
+
+-- The user's tables were printed, then sqlite_sequence, and in a script committed.
+pub record AreRowsCommitted (d : Database) (form : Form) (counting : Bool) (objects : List Object) (before after : Option (List ℕ)) : Type 0 where
+  pub tables_done : Option (List ℕ)
+  pub sequence_done : Option (List ℕ)
+  pub tables : AreTurnsTaken d form Tables objects before tables_done
+  pub sequence : AreTurnsTaken d form (Sequence counting) objects tables_done sequence_done
+  pub commits : Appends sequence_done after (last_text form.notation)
+
+-- What comes behind the transaction was printed, so that a text that SQLite refuses costs itself alone.
+pub record AreLatePrinted (d : Database) (form : Form) (objects : List Object) (before after : Option (List ℕ)) : Type 0 where
+  pub indexes_done : Option (List ℕ)
+  pub statistics_done : Option (List ℕ)
   pub others_done : Option (List ℕ)
-  pub rows : AreRowsCommitted d form objects before committed
-  pub others : AreTurnsTaken d form Others objects committed others_done
+  pub indexes : AreTurnsTaken d form Indexes objects before indexes_done
+  pub statistics : AreTurnsTaken d form Statistics objects indexes_done statistics_done
+  pub others : AreTurnsTaken d form Others objects statistics_done others_done
   pub virtual : AreTurnsTaken d form Virtual objects others_done after
+
+-- These objects were printed, turn by turn.
+abbrev pub AreObjectsPrinted : Database → Form → (counting : Bool) → List Object → (before after : Option (List ℕ)) → Type 0
+AreObjectsPrinted d form counting objects before after =
+    (committed : Option (List ℕ)) × AreRowsCommitted d form counting objects before committed × AreLatePrinted d form objects committed after
 
 -- Whether a script leaves out an object, or its text, that is judged so.
 abbrev pub LeavesOut : Object → Printed → Bool → Type 0
 LeavesOut o p left =
     (IsTable o × (left ≡ (not (can_be_named o.name.items) || (not (is_internal o.name.items) && is_left_out p))))
-    ⊎ (IsVirtual o × (left ≡ (not (is_row p) && is_left_out p))) ⊎ ((¬ IsTable o) × (¬ IsVirtual o) × (left ≡ is_left_out p))
+    ⊎ (IsVirtual o × (left ≡ not (is_row p))) ⊎ ((¬ IsTable o) × (¬ IsVirtual o) × (left ≡ is_left_out p))
 
 abbrev pub IsLeftOut : Object → Bool → Type 0
 IsLeftOut o left = (p : Printed) × IsJudged o.kind.items o.name.items o.sql.items p × LeavesOut o p left
@@ -214,15 +253,31 @@ LeavesOutIn Json objects n = n ≡ 0
 LeavesOutIn Csv objects n = n ≡ 0
 LeavesOutIn Sql objects n = HasLeftOut objects n
 
--- The objects of a database were printed, each once and none left out.
-pub record AreTablesPrinted (d : Database) (notation : Notation) (before after : Option (List ℕ)) : Type 0 where
+-- behind all else in a script: the rows of the schema that are those of no object, and how much is left out with them
+abbrev pub left_text_in : Notation → (strays : List (List ℕ)) → (count : ℕ) → List ℕ
+left_text_in Json strays count = []
+left_text_in Csv strays count = []
+left_text_in Sql strays count = left_text strays count
+
+-- The objects of a database were printed behind what a script begins with, and so much is left out: rows of the schema that are
+-- those of no object, and in a script texts and tables.
+pub record AreAllPrinted (d : Database) (notation : Notation) (strays : List (List ℕ)) (left : ℕ) (before after : Option (List ℕ)) : Type 0 where
   pub objects : List Object
   pub has : HasObjectsRead d objects
+  pub has_strays : HasStrays d (encoding_of d) strays
   pub encoded : word (page d 1) 56 ≤ 3
+  pub counting : Bool
+  pub counts : AreCounting notation objects counting
   pub begun : Option (List ℕ)
   pub first : Appends before begun (first_text (form_in d notation))
-  pub printed : AreObjectsPrinted d (form_in d notation) objects begun after
-  pub whole : LeavesOutIn notation objects 0
+  pub printed : AreObjectsPrinted d (form_in d notation) counting objects begun after
+  pub out : ℕ
+  pub leaves_out : LeavesOutIn notation objects out
+  pub counted : left ≡ out + length strays
+
+-- They were, and nothing is left out.
+abbrev pub AreTablesPrinted : Database → Notation → (before after : Option (List ℕ)) → Type 0
+AreTablesPrinted d notation before after = AreAllPrinted d notation [] 0 before after
 
 -- The rows of a table of this name were printed behind its heading.
 pub record IsNamedPrinted (d : Database) (name : List ℕ) (notation : Notation) (before after : Option (List ℕ)) : Type 0 where

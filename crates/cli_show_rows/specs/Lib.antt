@@ -1,4 +1,5 @@
 pub mod Schemas
+pub mod Strays
 pub mod Tables
 pub mod Dumps
 pub mod Stops

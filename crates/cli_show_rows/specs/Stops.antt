@@ -1,5 +1,5 @@
 -- Why not all rows are printed, and what was written until then (own).
-use Rattle.std.specs.Prelude.{◌≡◌, ◌⊎◌, ◌<◌, ◌≤◌, ℕ, true, false, List, length, map, take, slice_get, codes, Option, Some}
+use Rattle.std.specs.Prelude.{◌≡◌, ◌⊎◌, ◌<◌, ◌≤◌, ℕ, Bool, true, false, List, length, map, take, slice_get, codes, Option, Some}
 use Rattle.std.specs.Io.KnownBytes.{Appends}
 use Rattle.std.specs.List.{Contains}
 use Rattle.std.specs.Prelude.{All}
@@ -20,12 +20,11 @@ use Rattle.cli_row_text.specs.Printed.{AreLines, Lacks, HasMore}
 use Rattle.cli_show_rows.specs.declared.stop.Stop.{Stop}
 use Rattle.cli_show_rows.specs.declared.stop.Stop.TheVariants.{Fault, Record, TooLong, NotUnderstood, Default, Behind, Encoding, NoSuchTable, NotNamed, LeftOut, NoMemory, Write}
 use Rattle.cli_show_rows.specs.declared.dump.Turn.{Turn}
-use Rattle.cli_show_rows.specs.declared.dump.Turn.TheVariants.{Tables, Internal, Others, Virtual}
+use Rattle.cli_show_rows.specs.declared.dump.Turn.TheVariants.{Tables, Sequence, Indexes, Statistics, Others, Virtual}
 use Rattle.cli_show_rows.specs.Schemas.{AreColumnsIn, HasObjectsRead}
-use Rattle.cli_schema_text.specs.Comments.{count_text}
 use Rattle.cli_show_rows.specs.Tables.{IsInsert, IsNameFor, are_unnamed, is_named_in, leads_in}
-use Rattle.cli_show_rows.specs.Dumps.{AreObjectsPrinted, AreRowsCommitted, AreTurnsTaken, IsInTurn, IsMadeWritten, LeavesOutIn}
-use Rattle.cli_show_rows.specs.Dumps.{first_text, form_in, settings_text}
+use Rattle.cli_show_rows.specs.Dumps.{AreAllPrinted, AreCounting, AreRowsCommitted, AreTurnsTaken, IsInTurn, IsMadeWritten}
+use Rattle.cli_show_rows.specs.Dumps.{first_text, form_in, left_text_in, settings_text}
 
 -- This text was written and no more, unless it was the writer that failed.
 abbrev pub WrittenUntil : Stop → (before after : Option (List ℕ)) → List ℕ → Type 0
@@ -123,15 +122,17 @@ IsNamedStopped d name notation stop before after =
     ⊎ IsWriteError stop
 
 -- The printing of a table stopped behind what makes it, or before.
-abbrev pub IsMadeStopped : Database → Form → Object → Stop → (before after : Option (List ℕ)) → Type 0
-IsMadeStopped d form o stop before after =
+abbrev pub IsMadeStopped : Database → Form → (made : Bool) → Object → Stop → (before after : Option (List ℕ)) → Type 0
+IsMadeStopped d form made o stop before after =
     IsUnheaded stop before after
-    ⊎ ((mid : Option (List ℕ)) × IsMadeWritten form o before mid × (is_named_in form.notation o.name.items ≡ true) × IsHeadedStopped d o form stop mid after)
+    ⊎ ((mid : Option (List ℕ)) × IsMadeWritten form made o before mid × (is_named_in form.notation o.name.items ≡ true) × IsHeadedStopped d o form stop mid after)
 
 -- The printing of an object stopped.
 abbrev pub IsObjectStopped : Database → Form → Turn → Object → Stop → (before after : Option (List ℕ)) → Type 0
-IsObjectStopped d form Tables o stop before after = IsMadeStopped d form o stop before after
-IsObjectStopped d form Internal o stop before after = IsMadeStopped d form o stop before after
+IsObjectStopped d form Tables o stop before after = IsMadeStopped d form true o stop before after
+IsObjectStopped d form (Sequence made) o stop before after = IsMadeStopped d form made o stop before after
+IsObjectStopped d form Statistics o stop before after = IsMadeStopped d form true o stop before after
+IsObjectStopped d form Indexes o stop before after = IsUnheaded stop before after
 IsObjectStopped d form Others o stop before after = IsUnheaded stop before after
 IsObjectStopped d form Virtual o stop before after = IsUnheaded stop before after
 
@@ -141,30 +142,37 @@ IsTurnStopped d form turn objects stop before after =
     (i : ℕ) × (o : Object) × (mid : Option (List ℕ)) × (slice_get objects i ≡ Some o) × AreTurnsTaken d form turn (take i objects) before mid
     × IsInTurn turn o × IsObjectStopped d form turn o stop mid after
 
+-- The printing of what comes behind the transaction stopped in one of its turns, behind those before.
+abbrev pub AreLateStopped : Database → Form → List Object → Stop → (before after : Option (List ℕ)) → Type 0
+AreLateStopped d form objects stop before after =
+    IsTurnStopped d form Indexes objects stop before after
+    ⊎ ((mid : Option (List ℕ)) × AreTurnsTaken d form Indexes objects before mid × IsTurnStopped d form Statistics objects stop mid after)
+    ⊎ ((mid late : Option (List ℕ)) × AreTurnsTaken d form Indexes objects before mid × AreTurnsTaken d form Statistics objects mid late
+    × IsTurnStopped d form Others objects stop late after)
+    ⊎ ((mid late last : Option (List ℕ)) × AreTurnsTaken d form Indexes objects before mid × AreTurnsTaken d form Statistics objects mid late
+    × AreTurnsTaken d form Others objects late last × IsTurnStopped d form Virtual objects stop last after)
+
 -- The printing of objects stopped in one of the turns, behind those before; or the writer failed.
-abbrev pub AreObjectsStopped : Database → Form → List Object → Stop → (before after : Option (List ℕ)) → Type 0
-AreObjectsStopped d form objects stop before after =
+abbrev pub AreObjectsStopped : Database → Form → (counting : Bool) → List Object → Stop → (before after : Option (List ℕ)) → Type 0
+AreObjectsStopped d form counting objects stop before after =
     IsWriteError stop
     ⊎ IsTurnStopped d form Tables objects stop before after
-    ⊎ ((mid : Option (List ℕ)) × AreTurnsTaken d form Tables objects before mid × IsTurnStopped d form Internal objects stop mid after)
-    ⊎ ((mid : Option (List ℕ)) × AreRowsCommitted d form objects before mid × IsTurnStopped d form Others objects stop mid after)
-    ⊎ ((mid : Option (List ℕ)) × (late : Option (List ℕ)) × AreRowsCommitted d form objects before mid × AreTurnsTaken d form Others objects mid late
-    × IsTurnStopped d form Virtual objects stop late after)
+    ⊎ ((mid : Option (List ℕ)) × AreTurnsTaken d form Tables objects before mid × IsTurnStopped d form (Sequence counting) objects stop mid after)
+    ⊎ ((mid : Option (List ℕ)) × AreRowsCommitted d form counting objects before mid × AreLateStopped d form objects stop mid after)
 
--- All was printed but what this many comments stand for, which the last line counts.
+-- All was printed but what is left out, which the last line of a script counts.
 abbrev pub AreSomeLeftOut : Database → Notation → Stop → (before after : Option (List ℕ)) → Type 0
 AreSomeLeftOut d notation (LeftOut n) before after =
-    (objects : List Object) × (begun : Option (List ℕ)) × (ended : Option (List ℕ)) × HasObjectsRead d objects × (word (page d 1) 56 ≤ 3)
-    × Appends before begun (first_text (form_in d notation)) × AreObjectsPrinted d (form_in d notation) objects begun ended
-    × LeavesOutIn notation objects n × (0 < n) × Appends ended after (count_text n)
+    (strays : List (List ℕ)) × (ended : Option (List ℕ)) × AreAllPrinted d notation strays n before ended × (0 < n)
+    × Appends ended after (left_text_in notation strays n)
 AreSomeLeftOut d notation _ before after = ⊥
 
 -- The printing of a database stopped: its objects aren't listed, or one isn't printed to its end, which a script tells, or the
--- writer failed; or a script leaves something out.
+-- writer failed; or something is left out.
 abbrev pub AreTablesStopped : Database → Notation → Stop → (before after : Option (List ℕ)) → Type 0
 AreTablesStopped d notation stop before after =
     (SchemaRefused d stop × (before ≡ after))
     ⊎ IsWriteError stop
-    ⊎ ((objects : List Object) × (begun mid : Option (List ℕ)) × HasObjectsRead d objects × (word (page d 1) 56 ≤ 3) × Appends before begun (first_text (form_in d notation))
-    × AreObjectsStopped d (form_in d notation) objects stop begun mid × IsStopTold notation mid after)
+    ⊎ ((objects : List Object) × (counting : Bool) × (begun mid : Option (List ℕ)) × HasObjectsRead d objects × (word (page d 1) 56 ≤ 3) × AreCounting notation objects counting
+    × Appends before begun (first_text (form_in d notation)) × AreObjectsStopped d (form_in d notation) counting objects stop begun mid × IsStopTold notation mid after)
     ⊎ AreSomeLeftOut d notation stop before after

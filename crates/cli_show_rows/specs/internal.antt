@@ -1,2 +1,3 @@
 -- What no public clause reaches.
 pub mod Stopping
+pub mod Straying

@@ -1,26 +1,30 @@
 //! All tables of a database, or one of a name, as they are printed.
-ghost use Rattle.std.specs.Prelude.{◌≡◌, ℕ, List, IfErr, IsTrue, OnOk, false};
+ghost use Rattle.std.specs.Prelude.{◌≡◌, ℕ, List, IfErr, IsTrue, OnOk, false, true};
 ghost use Rattle.std.specs.Io.KnownBytes.{Appends};
 ghost use Rattle.sqpage.specs.Source.{KeepsPages};
 ghost use Rattle.sqtables.specs.Objects.{IsTable};
-ghost use Rattle.cli_show_rows.specs.Dumps.{AreObjectsPrinted, AreRowsCommitted, AreTablesPrinted, AreTurnsTaken};
-ghost use Rattle.cli_show_rows.specs.Dumps.{IsInTurn, IsMadePrinted, IsMadeWritten, IsNamedPrinted, IsObjectPrinted};
-ghost use Rattle.cli_show_rows.specs.Dumps.{IsOtherText, IsTurnTaken, IsVirtualIn, first_text, is_internal as is_kept};
-ghost use Rattle.cli_show_rows.specs.Dumps.{encoding_text, last_text, settings, settings_text, start_text, title_text};
+ghost use Rattle.cli_show_rows.specs.Dumps.{AreLatePrinted, AreObjectsPrinted, AreRowsCommitted, AreTablesPrinted};
+ghost use Rattle.cli_show_rows.specs.Dumps.{AreTurnsTaken, IsInTurn, IsIndex, IsMadePrinted, IsMadeWritten};
+ghost use Rattle.cli_show_rows.specs.Dumps.{IsNamedPrinted, IsObjectPrinted, IsOtherText, IsTurnTaken, IsVirtualIn};
+ghost use Rattle.cli_show_rows.specs.Dumps.{encoding_text, first_text, is_internal as is_kept, last_text, left_text_in};
+ghost use Rattle.cli_show_rows.specs.Dumps.{is_sequence as is_counter, settings, settings_text, start_text, title_text};
 ghost use Rattle.cli_show_rows.specs.declared.dump.Turn.{Turn};
-ghost use Rattle.cli_show_rows.specs.Stops.{AreObjectsStopped, AreTablesStopped, IsMadeStopped, IsNamedStopped};
+ghost use Rattle.cli_show_rows.specs.Stops.{AreLateStopped, AreObjectsStopped, AreTablesStopped, IsMadeStopped};
+ghost use Rattle.cli_show_rows.specs.Stops.{IsNamedStopped};
 ghost use Rattle.cli_show_rows.specs.Stops.{IsEnded, IsObjectStopped, IsStopTold, IsTurnStopped, IsUnheaded};
 ghost use Rattle.cli_show_rows.specs.internal.Stopping.{IsCounted};
+ghost use Rattle.cli_show_rows.specs.Strays.{bytes_of};
 
 use crate::schema::listed;
 use crate::stop::{Stop, stopped_script};
 use crate::table::is_named_in;
 use crate::tables::print_headed;
 use crate::texts::{
-    is_internal, is_virtual, left_out_in, print_making, print_statement, print_virtual_text,
+    counting_in, is_internal, is_sequence, is_users, is_virtual, left_out_in, print_making,
+    print_statement, print_virtual_text,
 };
 use cli_row_text::{Form, Notation, write_heading};
-use cli_schema_text::write_count;
+use cli_schema_text::write_left;
 use sqdeep::Encoding;
 use sqpage::PageSource;
 use sqtables::{Object, table_named};
@@ -33,20 +37,43 @@ use std::slice;
 pub(crate) enum Turn {
     /// The user's tables.
     Tables,
-    /// Those of SQLite's own.
-    Internal,
-    /// What isn't a table: indexes, triggers, views.
+    /// The table in which SQLite counts keys, and whether it is emptied first: it is there only if a table counts them.
+    Sequence(bool),
+    /// Indexes.
+    Indexes,
+    /// Those that ANALYZE makes.
+    Statistics,
+    /// What else isn't a table: triggers, views.
     Others,
     /// Virtual tables.
     Virtual,
 }
 
-/// Whether an object is a table of the user's.
-fn is_users(object: &Object) -> bool
-    ensures yes { IsTrue result → IsTable object.now × (is_kept object.now.name.items ≡ false) }
-    ensures not { result ≡ false → ¬ (IsTable object.now × (is_kept object.now.name.items ≡ false)) }
+/// Whether an object is a table of SQLite's own: the one in which it counts keys, or another one.
+fn is_own(object: &Object, sequence: bool) -> bool
+    ensures yes { IsTrue result → IsTable object.now × (is_kept object.now.name.items ≡ true)
+        × (is_counter object.now.name.items ≡ sequence) }
+    ensures not { result ≡ false → ¬ (IsTable object.now × (is_kept object.now.name.items ≡ true)
+        × (is_counter object.now.name.items ≡ sequence)) }
 {
-    object.is_table() && !is_internal(object.name.as_slice())
+    let name = object.name.as_slice();
+    object.is_table() && is_internal(name) && is_sequence(name) == sequence
+}
+
+/// Whether it is an index that has a text.
+fn is_index(object: &Object) -> bool
+    ensures yes { IsTrue result → IsIndex object.now }
+    ensures not { result ≡ false → ¬ IsIndex object.now }
+{
+    !object.is_table() && object.kind.as_slice() == b"index".as_slice()
+}
+
+/// Whether it is none of these, nor a table.
+fn is_other(object: &Object) -> bool
+    ensures yes { IsTrue result → IsInTurn Turn.Others object.now }
+    ensures not { result ≡ false → ¬ IsInTurn Turn.Others object.now }
+{
+    !object.is_table() && !is_virtual(object) && !is_index(object)
 }
 
 /// Whether it is the turn of an object.
@@ -56,8 +83,10 @@ fn is_in_turn(object: &Object, turn: Turn) -> bool
 {
     match turn {
         Turn::Tables => is_users(object),
-        Turn::Internal => object.is_table() && is_internal(object.name.as_slice()),
-        Turn::Others => !object.is_table() && !is_virtual(object),
+        Turn::Sequence(_) => is_own(object, true),
+        Turn::Indexes => is_index(object),
+        Turn::Statistics => is_own(object, false),
+        Turn::Others => is_other(object),
         Turn::Virtual => is_virtual(object),
     }
 }
@@ -81,20 +110,25 @@ fn print_title<W: Write>(out: &mut W, name: &Vec<u8>) -> Result<(), Stop>
     }
 }
 
-/// Prints what stands before the heading of a table.
+/// Prints what stands before the heading of a table; in SQL what makes it, if it is to be made.
 fn print_before<W: Write>(
     alloc: Global,
     form: Form,
+    made: bool,
     table: &Object,
     out: &mut W,
 ) -> Result<(), Stop>
-    ensures ok { OnOk result (IsMadeWritten form table.now (W.contents out.old) (W.contents out.new)) }
+    ensures ok { OnOk result (IsMadeWritten form made table.now (W.contents out.old) (W.contents out.new)) }
     ensures err { IfErr result (λ stop. IsUnheaded stop (W.contents out.old) (W.contents out.new)) }
 {
     match form.notation {
         Notation::Json => Ok(()),
         Notation::Csv => print_title(out, &table.name),
-        Notation::Sql => print_making(alloc, form.encoding, table, out),
+        Notation::Sql => if made {
+            print_making(alloc, form.encoding, table, out)
+        } else {
+            Ok(())
+        },
     }
 }
 
@@ -155,21 +189,22 @@ fn write_last<W: Write>(out: &mut W, notation: Notation) -> io::Result<()>
     }
 }
 
-/// Prints a table.
+/// Prints a table, in SQL behind what makes it, if it is to be made.
 fn print_made<S: PageSource, W: Write>(
     alloc: Global,
     source: &mut S,
     table: &Object,
+    made: bool,
     form: Form,
     out: &mut W,
 ) -> Result<(), Stop>
-    ensures ok { S.gives_pages source.old → OnOk result (IsMadePrinted (S.pages source.old) form table.now
+    ensures ok { S.gives_pages source.old → OnOk result (IsMadePrinted (S.pages source.old) form made table.now
         (W.contents out.old) (W.contents out.new)) }
-    ensures err { S.gives_pages source.old → IfErr result (λ stop. IsMadeStopped (S.pages source.old) form table.now
-        stop (W.contents out.old) (W.contents out.new)) }
+    ensures err { S.gives_pages source.old → IfErr result (λ stop. IsMadeStopped (S.pages source.old) form made
+        table.now stop (W.contents out.old) (W.contents out.new)) }
     ensures keeps { KeepsPages S.pages S.size S.reads_right S.gives_pages source.old source.new }
 {
-    match print_before(alloc, form, table, out) {
+    match print_before(alloc, form, made, table, out) {
         Ok(()) => {}
         Err(stop) => return Err(stop),
     }
@@ -229,8 +264,9 @@ fn print_taken<S: PageSource, W: Write>(
     ensures keeps { KeepsPages S.pages S.size S.reads_right S.gives_pages source.old source.new }
 {
     match turn {
-        Turn::Tables | Turn::Internal => print_made(alloc, source, object, form, out),
-        Turn::Others => print_other(alloc, form.notation, object, out),
+        Turn::Tables | Turn::Statistics => print_made(alloc, source, object, true, form, out),
+        Turn::Sequence(made) => print_made(alloc, source, object, made, form, out),
+        Turn::Indexes | Turn::Others => print_other(alloc, form.notation, object, out),
         Turn::Virtual => print_virtual(alloc, form, object, out),
     }
 }
@@ -285,21 +321,22 @@ fn print_turn<S: PageSource, W: Write>(
 fn print_committed<S: PageSource, W: Write>(
     alloc: Global,
     source: &mut S,
-    objects: &[Object],
+    of: (&[Object], bool),
     form: Form,
     out: &mut W,
 ) -> Result<(), Stop>
-    ensures ok { S.gives_pages source.old → OnOk result (AreRowsCommitted (S.pages source.old) form objects.now
-        (W.contents out.old) (W.contents out.new)) }
+    ensures ok { S.gives_pages source.old → OnOk result (AreRowsCommitted (S.pages source.old) form of.entry.1
+        of.entry.0.now (W.contents out.old) (W.contents out.new)) }
     ensures err { S.gives_pages source.old → IfErr result (λ stop. AreObjectsStopped (S.pages source.old) form
-        objects.now stop (W.contents out.old) (W.contents out.new)) }
+        of.entry.1 of.entry.0.now stop (W.contents out.old) (W.contents out.new)) }
     ensures keeps { KeepsPages S.pages S.size S.reads_right S.gives_pages source.old source.new }
 {
+    let (objects, counting) = of;
     match print_turn(alloc, source, objects, Turn::Tables, form, out) {
         Ok(()) => {}
         Err(stop) => return Err(stop),
     }
-    match print_turn(alloc, source, objects, Turn::Internal, form, out) {
+    match print_turn(alloc, source, objects, Turn::Sequence(counting), form, out) {
         Ok(()) => {}
         Err(stop) => return Err(stop),
     }
@@ -309,21 +346,25 @@ fn print_committed<S: PageSource, W: Write>(
     }
 }
 
-/// Prints objects, turn by turn.
-fn print_objects<S: PageSource, W: Write>(
+/// Prints what comes behind the transaction, turn by turn.
+fn print_late<S: PageSource, W: Write>(
     alloc: Global,
     source: &mut S,
     objects: &[Object],
     form: Form,
     out: &mut W,
 ) -> Result<(), Stop>
-    ensures ok { S.gives_pages source.old → OnOk result (AreObjectsPrinted (S.pages source.old) form objects.now
+    ensures ok { S.gives_pages source.old → OnOk result (AreLatePrinted (S.pages source.old) form objects.now
         (W.contents out.old) (W.contents out.new)) }
-    ensures err { S.gives_pages source.old → IfErr result (λ stop. AreObjectsStopped (S.pages source.old) form
+    ensures err { S.gives_pages source.old → IfErr result (λ stop. AreLateStopped (S.pages source.old) form
         objects.now stop (W.contents out.old) (W.contents out.new)) }
     ensures keeps { KeepsPages S.pages S.size S.reads_right S.gives_pages source.old source.new }
 {
-    match print_committed(alloc, source, objects, form, out) {
+    match print_turn(alloc, source, objects, Turn::Indexes, form, out) {
+        Ok(()) => {}
+        Err(stop) => return Err(stop),
+    }
+    match print_turn(alloc, source, objects, Turn::Statistics, form, out) {
         Ok(()) => {}
         Err(stop) => return Err(stop),
     }
@@ -334,15 +375,57 @@ fn print_objects<S: PageSource, W: Write>(
     print_turn(alloc, source, objects, Turn::Virtual, form, out)
 }
 
+/// Prints objects, turn by turn. The second says whether the text of a table makes SQLite count keys.
+fn print_objects<S: PageSource, W: Write>(
+    alloc: Global,
+    source: &mut S,
+    of: (&[Object], bool),
+    form: Form,
+    out: &mut W,
+) -> Result<(), Stop>
+    ensures ok { S.gives_pages source.old → OnOk result (AreObjectsPrinted (S.pages source.old) form of.entry.1
+        of.entry.0.now (W.contents out.old) (W.contents out.new)) }
+    ensures err { S.gives_pages source.old → IfErr result (λ stop. AreObjectsStopped (S.pages source.old) form
+        of.entry.1 of.entry.0.now stop (W.contents out.old) (W.contents out.new)) }
+    ensures keeps { KeepsPages S.pages S.size S.reads_right S.gives_pages source.old source.new }
+{
+    match print_committed(alloc, source, of, form, out) {
+        Ok(()) => print_late(alloc, source, of.0, form, out),
+        Err(stop) => Err(stop),
+    }
+}
+
+/// What a script ends with if something is left out.
+fn write_left_in<W: Write>(
+    out: &mut W,
+    notation: Notation,
+    strays: &[Vec<u8>],
+    count: usize,
+) -> io::Result<()>
+    ensures { OnOk result (Appends (W.contents out.old) (W.contents out.new)
+        (left_text_in notation (bytes_of strays.now) count)) }
+{
+    match notation {
+        Notation::Json | Notation::Csv => Ok(()),
+        Notation::Sql => write_left(out, strays, count),
+    }
+}
+
 /// Counts what was left out, if anything was.
-fn print_count<W: Write>(count: usize, out: &mut W) -> Result<(), Stop>
+fn print_count<W: Write>(
+    out: &mut W,
+    notation: Notation,
+    strays: &[Vec<u8>],
+    count: usize,
+) -> Result<(), Stop>
     ensures ok { OnOk result ((count ≡ 0) × (W.contents out.old ≡ W.contents out.new)) }
-    ensures err { IfErr result (λ stop. IsCounted count stop (W.contents out.old) (W.contents out.new)) }
+    ensures err { IfErr result (λ stop. IsCounted (left_text_in notation (bytes_of strays.now) count) count stop
+        (W.contents out.old) (W.contents out.new)) }
 {
     if count == 0 {
         return Ok(());
     }
-    match write_count(out, count) {
+    match write_left_in(out, notation, strays, count) {
         Ok(()) => Err(Stop::LeftOut(count)),
         Err(error) => Err(Stop::Write(error)),
     }
@@ -360,11 +443,12 @@ fn stopped<W: Write>(out: &mut W, notation: Notation, stop: Stop) -> Stop
 
 /// Prints the rows of each table of a database. In SQL all of it is printed: before all else what gives a new database
 /// the encoding UTF-16 if it has that; as one transaction, of each table what makes it (`print_making`) and its rows;
-/// behind it indexes, triggers and views by their texts, and virtual tables as rows of the schema. A comment stands for
-/// each text that sqlite3's shell would read otherwise than SQLite, and is counted in the last line. In CSV a line
-/// `table,"NAME"` stands before the heading of each table. Refused as `print_table` is, by the faults of the schema, by
-/// `Encoding` if the encoding of texts isn't known, and by `LeftOut` if comments stand for texts or tables; what was
-/// printed before stands, and a script that was begun ends with a statement that fails, but behind `LeftOut`.
+/// after it indexes, what ANALYZE found, triggers and views by their texts, and virtual tables as rows of the schema.
+/// sqlite_sequence is emptied only if a printed text has AUTOINCREMENT. A comment replaces each text that sqlite3's
+/// shell would read differently from SQLite, and each row of the schema that is no object; the last line counts them.
+/// In CSV a line `table,"NAME"` stands before the heading of each table. Refused as `print_table` is, by the faults of
+/// the schema, by `Encoding` if the encoding of texts isn't known, and by `LeftOut` if anything is left out: then the
+/// rest was printed. A script that had to stop ends with a statement that fails, except after `LeftOut`.
 pub fn print_tables<S: PageSource, W: Write>(
     alloc: Global,
     source: &mut S,
@@ -385,6 +469,10 @@ pub fn print_tables<S: PageSource, W: Write>(
     let Ok(left) = left_out_in(alloc, notation, &schema.objects) else {
         return Err(Stop::NoMemory);
     };
+    let count = left + schema.strays.len();
+    let Ok(counting) = counting_in(alloc, notation, &schema.objects) else {
+        return Err(Stop::NoMemory);
+    };
     let form = Form {
         notation,
         encoding: schema.encoding,
@@ -393,8 +481,9 @@ pub fn print_tables<S: PageSource, W: Write>(
         Ok(()) => {}
         Err(error) => return Err(Stop::Write(error)),
     }
-    match print_objects(alloc, source, &schema.objects, form, out) {
-        Ok(()) => print_count(left, out),
+    let of = (schema.objects.as_slice(), counting);
+    match print_objects(alloc, source, of, form, out) {
+        Ok(()) => print_count(out, notation, &schema.strays, count),
         Err(stop) => Err(stopped(out, notation, stop)),
     }
 }

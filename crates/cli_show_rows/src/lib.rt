@@ -5,6 +5,7 @@ mod columns;
 mod dump;
 mod schema;
 mod stop;
+mod strays;
 mod table;
 mod tables;
 mod texts;

@@ -6,8 +6,10 @@ ghost use Rattle.sqpage.specs.Source.{KeepsPages};
 ghost use Rattle.sqdeep.specs.Records.{encoding_of};
 ghost use Rattle.cli_show_rows.specs.Schemas.{AreObjectsRead, HasObjectsRead, IsObjectRead};
 ghost use Rattle.cli_show_rows.specs.Stops.{SchemaRefused};
+ghost use Rattle.cli_show_rows.specs.Strays.{HasStrays, bytes_of};
 
 use crate::stop::Stop;
+use crate::strays::strays_of;
 use byteorder::{BigEndian, ByteOrder};
 use sqdeep::Encoding;
 use sqpage::{CheckError, Fault, PageSource};
@@ -22,6 +24,9 @@ pub struct Schema {
     pub encoding: Encoding,
     /// Their texts are in UTF-8; those that aren't well formed in the encoding are as they stand.
     pub objects: Vec<Object>,
+    /// The texts, as they are stored, of those rows of the schema that are those of no object, nor of an index that a
+    /// constraint made. SQLite refuses such a schema, or reads it otherwise.
+    pub strays: Vec<Vec<u8>>,
 }
 
 /// The number of the encoding that a page 1 names (fileformat2, 1.3.13).
@@ -109,6 +114,8 @@ pub fn listed<S: PageSource>(alloc: Global, source: &mut S) -> Result<Schema, St
     ensures ok { S.gives_pages source.old → IfOk result (λ schema.
         HasObjectsRead (S.pages source.old) schema.objects.items
         × (schema.encoding ≡ encoding_of (S.pages source.old)) × (word (page (S.pages source.old) 1) 56 ≤ 3)) }
+    ensures strays { S.gives_pages source.old → IfOk result (λ schema.
+        HasStrays (S.pages source.old) (encoding_of (S.pages source.old)) (bytes_of schema.strays.items)) }
     ensures err { S.gives_pages source.old → IfErr result (SchemaRefused (S.pages source.old)) }
     ensures keeps { KeepsPages S.pages S.size S.reads_right S.gives_pages source.old source.new }
 {
@@ -120,8 +127,16 @@ pub fn listed<S: PageSource>(alloc: Global, source: &mut S) -> Result<Schema, St
         Ok(stored) => stored,
         Err(error) => return Err(Stop::from(error)),
     };
+    let strays = match strays_of(alloc, source, encoding) {
+        Ok(strays) => strays,
+        Err(error) => return Err(Stop::from(error)),
+    };
     match read_objects(alloc, encoding, &stored) {
-        Ok(objects) => Ok(Schema { encoding, objects }),
+        Ok(objects) => Ok(Schema {
+            encoding,
+            objects,
+            strays,
+        }),
         Err(_) => Err(Stop::NoMemory),
     }
 }

@@ -61,8 +61,8 @@ fn is_unwritten(stop: &Stop) -> bool
     matches!(stop, Stop::Write(_))
 }
 
-/// Ends a script that had to stop with a statement that fails, so that loading it isn't green. Writes nothing if the
-/// writer had failed. Gives why it stopped, or that the writer fails now.
+/// Ends a script that had to stop with a statement that fails: loading it isn't green. Writes nothing if the writer had
+/// failed. Gives why it stopped, or that the writer fails now.
 pub fn stopped_script<W: Write>(out: &mut W, stop: Stop) -> Stop
     ensures { IsEnded IsFailingWritten stop result (W.contents out.old) (W.contents out.new) }
 {

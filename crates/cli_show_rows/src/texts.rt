@@ -1,20 +1,21 @@
 //! The texts of a schema's objects, as a script has them.
-ghost use Rattle.std.specs.Prelude.{◌≡◌, ◌++◌, ℕ, List, IfErr, IfOk, IsTrue, OnOk, codes, false, map};
+ghost use Rattle.std.specs.Prelude.{◌≡◌, ◌≤◌, ◌++◌, ℕ, List, IfErr, IfOk, IsTrue, OnOk, false, length, map};
 ghost use Rattle.std.specs.Io.KnownBytes.{Appends};
-ghost use Rattle.std.specs.Str.{str_eq_ignore_ascii_case};
+ghost use Rattle.cli_row_text.specs.declared.form.Notation.TheVariants.{Sql};
 ghost use Rattle.cli_schema_text.specs.Comments.{unnamed_text};
 ghost use Rattle.cli_schema_text.specs.Names.{fallback_text};
 ghost use Rattle.cli_schema_text.specs.Texts.{IsJudged, printed_text};
 ghost use Rattle.cli_show_rows.specs.Dumps.{HasLeftOut, IsLeftOut, IsMakingPrinted, IsSchemaRow, IsStatementPrinted};
 ghost use Rattle.cli_show_rows.specs.Dumps.{IsTableText, IsUnnamedText, IsVirtual, IsVirtualText, LeavesOutIn};
-ghost use Rattle.cli_show_rows.specs.Dumps.{internal_text, is_internal as is_kept, is_row};
+ghost use Rattle.cli_show_rows.specs.Dumps.{AreCounting, IsCounting, IsUsers, internal_text, is_internal as is_kept};
+ghost use Rattle.cli_show_rows.specs.Dumps.{is_row, is_sequence as is_counter};
 ghost use Rattle.cli_show_rows.specs.Stops.{IsUnheaded};
 
 use crate::columns::known_columns;
 use crate::stop::Stop;
 use cli_row_text::Notation;
 use cli_schema_text::{
-    can_be_named, column_names, is_left_out, judged, write_fallback, write_printed,
+    can_be_named, column_names, counts_keys, is_left_out, judged, write_fallback, write_printed,
     write_schema_row, write_unnamed,
 };
 use schema_print::Printed;
@@ -31,6 +32,14 @@ pub fn is_internal(name: &[u8]) -> bool
     name.len() >= 7 && name[..7].eq_ignore_ascii_case(b"sqlite_")
 }
 
+/// Whether an object is a table of the user's.
+pub(crate) fn is_users(object: &Object) -> bool
+    ensures yes { IsTrue result → IsUsers object.now }
+    ensures not { result ≡ false → ¬ IsUsers object.now }
+{
+    object.is_table() && !is_internal(object.name.as_slice())
+}
+
 /// Whether an object is a virtual table: one of no root, of the type "table" (fileformat2, 2.6).
 pub fn is_virtual(object: &Object) -> bool
     ensures yes { IsTrue result → IsVirtual object.now }
@@ -41,7 +50,7 @@ pub fn is_virtual(object: &Object) -> bool
 
 /// Whether a name is that of the table in which SQLite counts keys (fileformat2, 2.6.2).
 pub fn is_sequence(name: &[u8]) -> bool
-    ensures { result ≡ str_eq_ignore_ascii_case name.now (codes "sqlite_sequence") }
+    ensures { result ≡ is_counter name.now }
 {
     name.eq_ignore_ascii_case(b"sqlite_sequence")
 }
@@ -240,15 +249,17 @@ fn leaves_out(alloc: Global, object: &Object) -> Result<bool, AllocError>
         return Ok(!can_be_named(name) || (!is_internal(name) && commented));
     }
     if is_virtual(object) {
-        return Ok(!is_row(&printed) && commented);
+        return Ok(!is_row(&printed));
     }
     Ok(commented)
 }
 
-/// How many of these objects a script leaves out, or their texts: tables that no statement can name, and texts that a
-/// comment replaces. Takes time linear in the texts.
+/// How many of these objects a script leaves out, or their texts: tables that no statement can name, tables without a
+/// root whose text creates no virtual table of a known module, and texts that a comment replaces. Takes time linear in
+/// the texts.
 pub fn left_out(alloc: Global, objects: &[Object]) -> Result<usize, AllocError>
-    ensures { IfOk result (HasLeftOut objects.now) }
+    ensures counted { IfOk result (HasLeftOut objects.now) }
+    ensures few { IfOk result (λ count. count ≤ length objects.now) }
 {
     let mut count = 0;
     for object in objects {
@@ -265,10 +276,49 @@ pub(crate) fn left_out_in(
     notation: Notation,
     objects: &[Object],
 ) -> Result<usize, AllocError>
-    ensures { IfOk result (LeavesOutIn notation objects.now) }
+    ensures counted { IfOk result (LeavesOutIn notation objects.now) }
+    ensures few { IfOk result (λ count. count ≤ length objects.now) }
 {
     match notation {
         Notation::Json | Notation::Csv => Ok(0),
         Notation::Sql => left_out(alloc, objects),
+    }
+}
+
+/// Whether the text of an object is that of a user's table, is printed, and makes SQLite count keys.
+fn is_counting(alloc: Global, object: &Object) -> Result<bool, AllocError>
+    ensures { IfOk result (IsCounting object.now) }
+{
+    if !is_users(object) {
+        return Ok(false);
+    }
+    let printed = judged_object(alloc, object)?;
+    let has = counts_keys(alloc, object.sql.as_slice())?;
+    Ok(!is_left_out(&printed) && has)
+}
+
+/// Whether one of these does. Takes time linear in the texts.
+fn are_counting(alloc: Global, objects: &[Object]) -> Result<bool, AllocError>
+    ensures { IfOk result (AreCounting Sql objects.now) }
+{
+    for object in objects {
+        if is_counting(alloc, object)? {
+            return Ok(true);
+        }
+    }
+    Ok(false)
+}
+
+/// The same, asked for a script alone.
+pub(crate) fn counting_in(
+    alloc: Global,
+    notation: Notation,
+    objects: &[Object],
+) -> Result<bool, AllocError>
+    ensures { IfOk result (AreCounting notation objects.now) }
+{
+    match notation {
+        Notation::Json | Notation::Csv => Ok(false),
+        Notation::Sql => are_counting(alloc, objects),
     }
 }

@@ -286,7 +286,7 @@ fn print_whole<S: PageSource, W: Write>(
 /// the last line. True where the database is well formed. Refused by `LeftOut` where something is left out, behind all
 /// of the script, by `Encoding` where it is well formed and the encoding of its texts isn't known, by PageOutside and
 /// Reserved at page 1 where there is no page or fewer than 480 bytes of one are usable, by `NoMemory`, and by an error
-/// of the writer. A script that was begun then ends with a statement that fails, but behind `LeftOut`.
+/// of the writer. A script that was begun then ends with a statement that fails, except with `LeftOut`.
 pub fn print_salvage<S: PageSource, W: Write>(
     alloc: Global,
     source: &mut S,

@@ -7,7 +7,7 @@ use Rattle.cli_words.specs.Line.{AreAmiss, AreNoCheck, AreNoDiff, AreNoReport, A
 use Rattle.cli_words.specs.Line.{AreKnown, AsksNoCells, AsksNoForm, AsksNothingCompared, AsksText}
 use Rattle.cli_words.specs.declared.words.Own.TheVariants.{Prints, Compares}
 use Rattle.cli_words.specs.Line.{HasNoText, HasText, IsFile, NamesOfLog}
-use Rattle.cli_words.specs.internal.Line.{AskNoDiff, AskNoRows, AskNoSalvage, IsBetween, IsCheck, IsCompared, IsDiff, IsFormed, IsPlaced, IsReport, IsRows, IsSalvage}
+use Rattle.cli_words.specs.internal.Line.{AskNoDiff, IsBetween, IsCheck, IsCompared, IsDiff, IsFormed, IsPlaced, IsReport, IsRows, IsSalvage}
 use Rattle.cli_words.specs.declared.requests.Options.{Options}
 use Rattle.cli_words.specs.declared.requests.Request.{Request}
 
@@ -161,35 +161,26 @@ rows_amiss command options is none = (
 )
 
 -- what options that are all those of `rows` are told of, as what its options ask for
-pub rows_told : (options : List (List ℕ)) (file : Bor (List ℕ)) (o : Options) (r : Option Request)
-    → AreKnown Prints options → o.pointer_maps ≡ false
+pub rows_told : (options : List (List ℕ)) (file : Bor (List ℕ)) (o : Options) (r : Option Request) → AreKnown Prints options
     → MatchOption r (AsksNoForm options ⊎ AsksNoCells options) (λ request. IsFormed options file o request ⊎ IsPlaced options file o request)
-    → MatchOption r (AskNoRows options o) (IsRows options file o)
-rows_told options file o None known plain none = inr (inr none)
-rows_told options file o (Some request) known plain is = (known, plain, is)
+    → MatchOption r (AreNoRows options) (IsRows options file o)
+rows_told options file o None known none = inr none
+rows_told options file o (Some request) known is = (known, is)
 
 -- the same of the options of `rows`
 pub rows_asks : (words : List (List ℕ)) (command : List ℕ) (file : Bor (List ℕ)) (options : List (List ℕ)) (o : Options)
     (r : Option Request) → command ≡ codes "rows" → slice_get words 1 ≡ Some command → IsFile words file.now
     → AreOptions words options → AsksBesides options o
-    → MatchOption r (AskNoRows options o) (IsRows options file o)
+    → MatchOption r (AreNoRows options) (IsRows options file o)
     → MatchOption r (AsksNothing words command file.now) (Asks words)
 rows_asks words command file options o None is second named are besides none =
-    λ _ _. (
-      options,
-      are,
-      inr (rows_amiss command options is (elim none [
-        | inl unknown ↦ inl unknown
-        | inr (inl maps) ↦ inr (inl (besides.pointer_maps.0 maps))
-        | inr (inr form) ↦ inr (inr form)
-      ])),
-    )
-rows_asks words command file options o (Some request) is second named are besides (known, plain, inl (table, form, of, asks, none, same)) =
+    λ _ _. (options, are, inr (rows_amiss command options is none))
+rows_asks words command file options o (Some request) is second named are besides (known, inl (table, form, of, asks, none, same)) =
     let P : Request → Type 0 = λ r. Asks words r in
-    subst P (sym same) (second ∙ ap Some is, named, (options, are, known, besides, of, asks, none, plain))
-rows_asks words command file options o (Some request) is second named are besides (known, plain, inr (cells, asks, same)) =
+    subst P (sym same) (second ∙ ap Some is, named, (options, are, known, besides, of, asks, none))
+rows_asks words command file options o (Some request) is second named are besides (known, inr (cells, asks, same)) =
     let P : Request → Type 0 = λ r. Asks words r in
-    subst P (sym same) (second ∙ ap Some is, named, (options, are, known, besides, asks, plain))
+    subst P (sym same) (second ∙ ap Some is, named, (options, are, known, besides, asks))
 
 pub diff_amiss : (command : List ℕ) (options : List (List ℕ)) → command ≡ codes "diff" → AreNoDiff options
     → AreAmiss command options
@@ -211,11 +202,11 @@ at_told options (Some n) some asks = (asks.0, asks.1)
 
 -- what options that are all those of `diff` are told of, as what its options ask for
 pub diff_told : (options : List (List ℕ)) (file : Bor (List ℕ)) (o : Options) (r : Option Request)
-    → AreKnown Compares options → o.pointer_maps ≡ false → o.at ≡ None
+    → AreKnown Compares options → o.at ≡ None
     → MatchOption r (AsksNothingCompared options) (λ request. IsCompared options file o request ⊎ IsBetween options file o request)
     → MatchOption r (AskNoDiff options o) (IsDiff options file o)
-diff_told options file o None known plain last none = inr (inr (inr none))
-diff_told options file o (Some request) known plain last is = (known, plain, last, is)
+diff_told options file o None known last none = inr (inr none)
+diff_told options file o (Some request) known last is = (known, last, is)
 
 -- the same of the options of `diff`
 pub diff_asks : (words : List (List ℕ)) (command : List ℕ) (file : Bor (List ℕ)) (options : List (List ℕ)) (o : Options)
@@ -229,17 +220,16 @@ diff_asks words command file options o None is second named are besides none =
       are,
       inr (diff_amiss command options is (elim none [
         | inl unknown ↦ inl unknown
-        | inr (inl maps) ↦ inr (inl (besides.pointer_maps.0 maps))
-        | inr (inr (inl at)) ↦ inr (inr (inl (at_told options o.at at besides.at_commit)))
-        | inr (inr (inr rest)) ↦ inr (inr (inr rest))
+        | inr (inl at) ↦ inr (inl (at_told options o.at at besides.at_commit))
+        | inr (inr rest) ↦ inr (inr rest)
       ])),
     )
-diff_asks words command file options o (Some request) is second named are besides (known, plain, none, inl (compared, asks, same)) =
+diff_asks words command file options o (Some request) is second named are besides (known, none, inl (compared, asks, same)) =
     let P : Request → Type 0 = λ r. Asks words r in
-    subst P (sym same) (second ∙ ap Some is, named, (options, are, known, besides, asks, none, plain))
-diff_asks words command file options o (Some request) is second named are besides (known, plain, none, inr (between, asks, same)) =
+    subst P (sym same) (second ∙ ap Some is, named, (options, are, known, besides, asks, none))
+diff_asks words command file options o (Some request) is second named are besides (known, none, inr (between, asks, same)) =
     let P : Request → Type 0 = λ r. Asks words r in
-    subst P (sym same) (second ∙ ap Some is, named, (options, are, known, besides, asks, none, plain))
+    subst P (sym same) (second ∙ ap Some is, named, (options, are, known, besides, asks, none))
 
 pub salvage_amiss : (command : List ℕ) (options : List (List ℕ)) → command ≡ codes "salvage" → AreNoSalvage options
     → AreAmiss command options
@@ -257,21 +247,13 @@ salvage_amiss command options is none = (
 pub salvage_asks : (words : List (List ℕ)) (command : List ℕ) (file : Bor (List ℕ)) (options : List (List ℕ)) (o : Options)
     (r : Option Request) → command ≡ codes "salvage" → slice_get words 1 ≡ Some command → IsFile words file.now
     → AreOptions words options → AsksBesides options o
-    → MatchOption r (AskNoSalvage options o) (IsSalvage options file o)
+    → MatchOption r (AreNoSalvage options) (IsSalvage options file o)
     → MatchOption r (AsksNothing words command file.now) (Asks words)
 salvage_asks words command file options o None is second named are besides none =
-    λ _ _. (
-      options,
-      are,
-      inr (salvage_amiss command options is (elim none [
-        | inl unknown ↦ inl unknown
-        | inr (inl maps) ↦ inr (inl (besides.pointer_maps.0 maps))
-        | inr (inr to) ↦ inr (inr to)
-      ])),
-    )
-salvage_asks words command file options o (Some request) is second named are besides (known, plain, (to, places, text, told, same)) =
+    λ _ _. (options, are, inr (salvage_amiss command options is none))
+salvage_asks words command file options o (Some request) is second named are besides (known, (to, places, text, told, same)) =
     let P : Request → Type 0 = λ r. Asks words r in
-    subst P (sym same) (second ∙ ap Some is, named, (options, are, known, besides, text, told, plain))
+    subst P (sym same) (second ∙ ap Some is, named, (options, are, known, besides, text, told))
 
 pub show_amiss : (command : List ℕ) (options : List (List ℕ)) (at : Option ℕ) → command ≡ codes "show" → AsksAt options at
     → AsksNoPart options ⊎ NamesOfLog options at → AreAmiss command options

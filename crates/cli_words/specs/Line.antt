@@ -1,5 +1,5 @@
 -- What the words of a command line ask for.
-use Rattle.std.specs.Prelude.{◌≡◌, ◌≢◌, ◌⊎◌, ◌↔◌, Bool, false, IsTrue, Option, None, Some, ℕ, zero, suc, ◌-◌, ◌^◌, ◌<◌, ◌≤◌}
+use Rattle.std.specs.Prelude.{◌≡◌, ◌≢◌, ◌⊎◌, ◌↔◌, Bool, IsTrue, Option, None, Some, ℕ, zero, suc, ◌-◌, ◌^◌, ◌<◌, ◌≤◌}
 use Rattle.std.specs.Prelude.{List, [], ◌∷◌, ◌++◌, length, map, take, drop, slice_get, codes, unwrap_or}
 use Rattle.std.specs.Borrow.{Bor}
 use Rattle.std.specs.List.{Contains}
@@ -7,7 +7,7 @@ use Rattle.std.specs.Str.Parse.{IsNumeral, digits_value, without_leading_plus}
 use Rattle.cli_words.specs.declared.requests.Part.{Part}
 use Rattle.cli_words.specs.declared.requests.Part.TheVariants.{Header, Page, Log, Commits, Pages}
 use Rattle.cli_words.specs.declared.requests.SuperJournal.{SuperJournal}
-use Rattle.cli_words.specs.declared.requests.SuperJournal.TheVariants.{Present, Gone}
+use Rattle.cli_words.specs.declared.requests.SuperJournal.TheVariants.{Present, Gone, Look}
 use Rattle.cli_words.specs.declared.requests.Style.{Style}
 use Rattle.cli_words.specs.declared.requests.Style.TheVariants.{Lines, Json}
 use Rattle.cli_words.specs.declared.requests.RowForm.{RowForm}
@@ -105,15 +105,15 @@ IsNamed name word = (word ≡ name) ⊎ ((text : List ℕ) × (word ≡ name ++ 
 -- a word that each command knows
 abbrev pub IsCommon : (word : List ℕ) → Type 0
 IsCommon word = (word ≡ codes "-v") ⊎ (word ≡ codes "--verbose") ⊎ (word ≡ codes "--json") ⊎ (word ≡ codes "--large")
-    ⊎ (word ≡ codes "--pointer-maps") ⊎ (word ≡ codes "--super-journal=present") ⊎ (word ≡ codes "--super-journal=gone")
-    ⊎ IsNamed (codes "--at") word
+    ⊎ (word ≡ codes "--any") ⊎ (word ≡ codes "--super-journal=present") ⊎ (word ≡ codes "--super-journal=gone")
+    ⊎ (word ≡ codes "--super-journal=look") ⊎ IsNamed (codes "--at") word
 
 -- a word that is an option of this command and not of each: of `check`, `recover`, `report`, `rows`, `diff` or
 -- `salvage`
 abbrev pub IsOwn : Own → (word : List ℕ) → Type 0
-IsOwn Checks word = (word ≡ codes "--deep") ⊎ (word ≡ codes "--complete")
+IsOwn Checks word = (word ≡ codes "--deep") ⊎ (word ≡ codes "--complete") ⊎ (word ≡ codes "--pointer-maps")
 IsOwn Recovers word = (word ≡ codes "--force") ⊎ IsNamed (codes "--to") word
-IsOwn Reports word = (word ≡ codes "--changes") ⊎ IsNamed (codes "--to") word
+IsOwn Reports word = (word ≡ codes "--changes") ⊎ (word ≡ codes "--pointer-maps") ⊎ IsNamed (codes "--to") word
 IsOwn Prints word = (word ≡ codes "--csv") ⊎ (word ≡ codes "--sql") ⊎ (word ≡ codes "--places") ⊎ (word ≡ codes "--deleted")
     ⊎ (word ≡ codes "--all") ⊎ IsNamed (codes "--table") word
 IsOwn Salvages word = (word ≡ codes "--places") ⊎ IsNamed (codes "--to") word
@@ -128,15 +128,35 @@ IsKnown own word = IsPlain word ⊎ IsCommon word ⊎ IsOwn own word
 abbrev pub AreKnown : Own → (words : List (List ℕ)) → Type 0
 AreKnown own words = (i : ℕ) (word : List ℕ) → slice_get words i ≡ Some word → IsKnown own word
 
+-- they ask to look for the super-journal, or to accept any database
+abbrev pub AsksToLook : (options : List (List ℕ)) → Type 0
+AsksToLook options = Contains options (codes "--super-journal=look") ⊎ Contains options (codes "--any")
+
 -- what the options say of the super-journal
 abbrev pub AsksOf : (options : List (List ℕ)) → Option SuperJournal → Type 0
 AsksOf options None = (¬ Contains options (codes "--super-journal=present")) × (¬ Contains options (codes "--super-journal=gone"))
-AsksOf options (Some Present) = Contains options (codes "--super-journal=present") × (¬ Contains options (codes "--super-journal=gone"))
-AsksOf options (Some Gone) = (¬ Contains options (codes "--super-journal=present")) × Contains options (codes "--super-journal=gone")
+    × ¬ AsksToLook options
+AsksOf options (Some Present) = Contains options (codes "--super-journal=present")
+    × (¬ Contains options (codes "--super-journal=gone")) × ¬ AsksToLook options
+AsksOf options (Some Gone) = (¬ Contains options (codes "--super-journal=present"))
+    × Contains options (codes "--super-journal=gone") × ¬ AsksToLook options
+AsksOf options (Some Look) = (¬ Contains options (codes "--super-journal=present"))
+    × (¬ Contains options (codes "--super-journal=gone")) × AsksToLook options
 
--- they say both
-abbrev pub AsksBoth : (options : List (List ℕ)) → Type 0
-AsksBoth options = Contains options (codes "--super-journal=present") × Contains options (codes "--super-journal=gone")
+-- they contradict themselves about the super-journal
+abbrev pub AsksTwo : (options : List (List ℕ)) → Type 0
+AsksTwo options =
+    (Contains options (codes "--super-journal=present") × Contains options (codes "--super-journal=gone"))
+    ⊎ ((Contains options (codes "--super-journal=present") ⊎ Contains options (codes "--super-journal=gone"))
+    × AsksToLook options)
+
+-- whether they accept databases above 1 GiB
+abbrev pub AsksLarge : (options : List (List ℕ)) → Bool → Type 0
+AsksLarge options large = IsTrue large ↔ (Contains options (codes "--large") ⊎ Contains options (codes "--any"))
+
+-- whether they accept databases with auto-vacuum
+abbrev pub AsksMaps : (options : List (List ℕ)) → Bool → Type 0
+AsksMaps options maps = IsTrue maps ↔ (Contains options (codes "--pointer-maps") ⊎ Contains options (codes "--any"))
 
 -- the commit that the option of this name gives, if it is there
 abbrev pub AsksFrame : (name : List ℕ) → (options : List (List ℕ)) → Option ℕ → Type 0
@@ -159,8 +179,8 @@ pub record AsksBesides (options : List (List ℕ)) (o : Options) : Type 0 where
   pub at_commit : AsksAt options o.at
   pub up_to_last : o.front ≡ None
   pub style : AsksStyle options o.style
-  pub large : IsTrue o.large ↔ Contains options (codes "--large")
-  pub pointer_maps : IsTrue o.pointer_maps ↔ Contains options (codes "--pointer-maps")
+  pub large : AsksLarge options o.large
+  pub pointer_maps : AsksMaps options o.pointer_maps
 
 -- the option of this name gives what is no frame of a commit
 abbrev pub NamesNoFrame : (name : List ℕ) → (options : List (List ℕ)) → Type 0
@@ -168,7 +188,7 @@ NamesNoFrame name options = (text : List ℕ) × HasText name options text × ((
 
 -- they ask for nothing besides
 abbrev pub AsksNoneBesides : (options : List (List ℕ)) → Type 0
-AsksNoneBesides options = AsksBoth options ⊎ NamesNoFrame (codes "--at") options
+AsksNoneBesides options = AsksTwo options ⊎ NamesNoFrame (codes "--at") options
 
 -- a commit isn't named for a part that is of the whole log
 abbrev pub MayBeAt : Part → (frame : Option ℕ) → Type 0
@@ -219,10 +239,9 @@ AsksNoCells options =
     × (Contains options (codes "--places") ⊎ ((text : List ℕ) × HasText (codes "--table") options text)))
     ⊎ (Contains options (codes "--all") × ¬ Contains options (codes "--deleted"))
 
--- they can't be those of `rows`: another one is among them, or pointer maps, or two forms, or places of no cells
+-- they can't be those of `rows`: another one is among them, or two forms, or places of no cells
 abbrev pub AreNoRows : (options : List (List ℕ)) → Type 0
-AreNoRows options =
-    (¬ AreKnown Prints options) ⊎ Contains options (codes "--pointer-maps") ⊎ AsksNoForm options ⊎ AsksNoCells options
+AreNoRows options = (¬ AreKnown Prints options) ⊎ AsksNoForm options ⊎ AsksNoCells options
 
 -- how they ask for changes of rows
 abbrev pub AsksChangeForm : (options : List (List ℕ)) → ChangeForm → Type 0
@@ -260,11 +279,10 @@ abbrev pub AsksNothingCompared : (options : List (List ℕ)) → Type 0
 AsksNothingCompared options =
     NamesNoFrame (codes "--from") options ⊎ NamesNoFrame (codes "--to") options ⊎ AsksNoChangeForm options ⊎ AsksNoBetween options
 
--- they can't be those of `diff`: another one is among them, or pointer maps, or one commit by itself, or what can't be compared
+-- they can't be those of `diff`: another one is among them, or one commit by itself, or what can't be compared
 abbrev pub AreNoDiff : (options : List (List ℕ)) → Type 0
-AreNoDiff options =
-    (¬ AreKnown Compares options) ⊎ Contains options (codes "--pointer-maps")
-    ⊎ ((text : List ℕ) × HasText (codes "--at") options text) ⊎ AsksNothingCompared options
+AreNoDiff options = (¬ AreKnown Compares options) ⊎ ((text : List ℕ) × HasText (codes "--at") options text)
+    ⊎ AsksNothingCompared options
 
 -- which deep check they ask for, if any: that all is judged is asked of such a one alone
 abbrev pub AsksDeep : (options : List (List ℕ)) → Option Deep → Type 0
@@ -288,9 +306,9 @@ AreNoCheck options = (¬ AreKnown Checks options) ⊎ AsksNoDeep options
 abbrev pub AreNoReport : (options : List (List ℕ)) → Type 0
 AreNoReport options = (¬ AreKnown Reports options) ⊎ HasNoText (codes "--to") options
 
--- they can't be those of `salvage`: another one is among them, or pointer maps, or the file to be made isn't named
+-- they can't be those of `salvage`: another one is among them, or the file to be made isn't named
 abbrev pub AreNoSalvage : (options : List (List ℕ)) → Type 0
-AreNoSalvage options = (¬ AreKnown Salvages options) ⊎ Contains options (codes "--pointer-maps") ⊎ HasNoText (codes "--to") options
+AreNoSalvage options = (¬ AreKnown Salvages options) ⊎ HasNoText (codes "--to") options
 
 -- a word behind which a value stands
 abbrev pub TakesValue : (word : List ℕ) → Type 0
@@ -318,8 +336,7 @@ AsksVersion words = (word : List ℕ) × (slice_get words 1 ≡ Some word) × Is
 
 -- The second word is the command, the file stands behind it, and the options before a "--" say the rest, each exactly where
 -- it stands; behind all but `show` there are no others. A commit goes with no part of the whole log, with no changes of rows, and
--- with a recovery only where that makes another file, and pointer maps with none and with no rows; a report and a salvage make
--- one.
+-- with a recovery only where that makes another file; a report and a salvage make one.
 abbrev pub Asks : List (List ℕ) → Request → Type 0
 Asks words (Show file part o) =
     (slice_get words 1 ≡ Some (codes "show")) × IsFile words file.now
@@ -331,24 +348,23 @@ Asks words (Check file deep o) =
 Asks words (Rows file table form o) =
     (slice_get words 1 ≡ Some (codes "rows")) × IsFile words file.now
     × ((options : List (List ℕ)) × AreOptions words options × AreKnown Prints options × AsksBesides options o
-    × AsksText (codes "--table") options table × AsksForm options form × AsksNoPlaces options × (o.pointer_maps ≡ false))
+    × AsksText (codes "--table") options table × AsksForm options form × AsksNoPlaces options)
 Asks words (TellsCells file cells o) =
     (slice_get words 1 ≡ Some (codes "rows")) × IsFile words file.now
     × ((options : List (List ℕ)) × AreOptions words options × AreKnown Prints options × AsksBesides options o
-    × AsksCells options cells × (o.pointer_maps ≡ false))
+    × AsksCells options cells)
 Asks words (Diff file compared o) =
     (slice_get words 1 ≡ Some (codes "diff")) × IsFile words file.now
     × ((options : List (List ℕ)) × AreOptions words options × AreKnown Compares options × AsksBesides options o
-    × AsksCompared options compared × (o.at ≡ None) × (o.pointer_maps ≡ false))
+    × AsksCompared options compared × (o.at ≡ None))
 Asks words (DeletedDiff file between o) =
     (slice_get words 1 ≡ Some (codes "diff")) × IsFile words file.now
     × ((options : List (List ℕ)) × AreOptions words options × AreKnown Compares options × AsksBesides options o
-    × AsksBetween options between × (o.at ≡ None) × (o.pointer_maps ≡ false))
+    × AsksBetween options between × (o.at ≡ None))
 Asks words (Recover file to force o) =
     (slice_get words 1 ≡ Some (codes "recover")) × IsFile words file.now
     × ((options : List (List ℕ)) × AreOptions words options × AreKnown Recovers options × AsksBesides options o
-    × (IsTrue force ↔ Contains options (codes "--force")) × AsksText (codes "--to") options to × (to ≡ None → o.at ≡ None)
-    × (o.pointer_maps ≡ false))
+    × (IsTrue force ↔ Contains options (codes "--force")) × AsksText (codes "--to") options to × (to ≡ None → o.at ≡ None))
 Asks words (Report file to changes o) =
     (slice_get words 1 ≡ Some (codes "report")) × IsFile words file.now
     × ((options : List (List ℕ)) × AreOptions words options × AreKnown Reports options
@@ -356,7 +372,7 @@ Asks words (Report file to changes o) =
 Asks words (Salvage file to places o) =
     (slice_get words 1 ≡ Some (codes "salvage")) × IsFile words file.now
     × ((options : List (List ℕ)) × AreOptions words options × AreKnown Salvages options × AsksBesides options o
-    × HasText (codes "--to") options to.now × (IsTrue places ↔ Contains options (codes "--places")) × (o.pointer_maps ≡ false))
+    × HasText (codes "--to") options to.now × (IsTrue places ↔ Contains options (codes "--places")))
 Asks words Version = AsksVersion words
 
 -- a commit is named, and they ask for a part that is of the whole log
@@ -364,12 +380,12 @@ abbrev pub NamesOfLog : (options : List (List ℕ)) → (frame : Option ℕ) →
 NamesOfLog options frame = (frame ≢ None) × (Contains options (codes "--log") ⊎ Contains options (codes "--commits"))
 
 -- what the options of a command can't be: those of `show` ask for no part, or for one that has no commits; those of
--- `recover` have another among them; those of `recover` name pointer maps, or a commit and no file to be made; those of
--- `report` have another among them, or name no file to be made; those of `check`, `rows`, `diff` and `salvage` as above
+-- `recover` have another among them, or name a commit and no file to be made; those of `report` have another among them,
+-- or name no file to be made; those of `check`, `rows`, `diff` and `salvage` as above
 abbrev pub AreAmiss : (command : List ℕ) → (options : List (List ℕ)) → Type 0
 AreAmiss command options =
     (command ≡ codes "check" → AreNoCheck options)
-    × (command ≡ codes "recover" → (¬ AreKnown Recovers options) ⊎ Contains options (codes "--pointer-maps")
+    × (command ≡ codes "recover" → (¬ AreKnown Recovers options)
     ⊎ (((frame : Option ℕ) → AsksAt options frame → frame ≢ None) × HasNoText (codes "--to") options))
     × (command ≡ codes "report" → AreNoReport options)
     × (command ≡ codes "rows" → AreNoRows options)

@@ -19,13 +19,15 @@ pub enum Part {
     Pages,
 }
 
-/// Whether the super-journal that a hot journal names is there.
+/// Whether the super-journal that a hot journal names exists.
 #[derive(Clone, Copy, Debug, PartialEq, Eq)]
 pub enum SuperJournal {
-    /// It is: the journal counts.
+    /// It does: the journal is current.
     Present,
-    /// It is gone: the transaction was committed, and the journal doesn't count.
+    /// It doesn't: the transaction was committed, and the journal is ignored.
     Gone,
+    /// The file system decides, as for SQLite.
+    Look,
 }
 
 /// How what is found is written.
@@ -94,7 +96,7 @@ pub struct Between {
 /// What a deep check may be asked besides.
 #[derive(Clone, Copy, Debug, PartialEq, Eq)]
 pub struct Deep {
-    /// To refuse a database that is sound, of which something isn't judged.
+    /// To refuse a sound database if something isn't judged.
     pub complete: bool,
 }
 
@@ -103,7 +105,7 @@ pub struct Deep {
 pub struct Options {
     /// To say on standard error what is done and why.
     pub verbose: bool,
-    /// To take the super-journal as there or as gone. None: as nothing is known of it.
+    /// Whether the super-journal exists, or that the file system decides. None: unknown.
     pub super_journal: Option<SuperJournal>,
     /// To take the database as it was at this commit frame of the write-ahead log, 0 for before the first one. None: as
     /// it was at the last one.

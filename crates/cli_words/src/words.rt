@@ -2,17 +2,19 @@
 ghost use Rattle.std.specs.Prelude.{◌≡◌, ◌≢◌, ◌⊎◌, ◌<◌, ◌≤◌, ◌++◌, ℕ, false, List, map, length, slice_get, codes, IfOk};
 ghost use Rattle.std.specs.Prelude.{◌↔◌, IfSome, IsTrue, MatchOption, true};
 ghost use Rattle.std.specs.List.{Contains};
-ghost use Rattle.cli_words.specs.Line.{AreKnown, AreNoReport, AreOptions, Asks, AsksBesides, AsksBoth};
+ghost use Rattle.cli_words.specs.Line.{AreKnown, AreNoReport, AreNoRows, AreNoSalvage, AreOptions, Asks};
+ghost use Rattle.cli_words.specs.Line.{AsksBesides, AsksLarge, AsksMaps};
 ghost use Rattle.cli_words.specs.Line.{AreNoCheck, AsksComplete, AsksDeep, AsksNoDeep, AsksNoPart};
 ghost use Rattle.cli_words.specs.Line.{AsksCells, AsksForm, AsksNoCells, AsksNoForm, AsksNoPlaces, IsOwn};
 ghost use Rattle.cli_words.specs.Line.{AsksBetween, AsksChangeForm, AsksCompared, AsksFrame, AsksNoChangeForm};
 ghost use Rattle.cli_words.specs.Line.{AsksNothingCompared};
-ghost use Rattle.cli_words.specs.internal.Line.{AskNoDiff, AskNoRows, AskNoSalvage, IsBetween, IsCompared, IsDiff};
+ghost use Rattle.cli_words.specs.internal.Line.{AskNoDiff, IsBetween, IsCompared, IsDiff};
 ghost use Rattle.cli_words.specs.internal.Line.{IsCheck, IsFormed, IsPlaced};
 ghost use Rattle.cli_words.specs.internal.Line.{IsReport, IsRows};
 ghost use Rattle.cli_words.specs.internal.Line.{IsSalvage};
 ghost use Rattle.cli_words.specs.declared.words.Own.{Own};
 ghost use Rattle.cli_words.specs.Line.{AsksNoneBesides, AsksNothing, AsksOf, AsksPart, AsksStyle, AsksVersion};
+ghost use Rattle.cli_words.specs.Line.{AsksToLook, AsksTwo};
 ghost use Rattle.cli_words.specs.Line.{HasNoText, HasText, IsCommon, IsFile, IsKnown};
 ghost use Rattle.cli_words.specs.Line.{IsFrameNumber, IsNamed};
 ghost use Rattle.cli_words.specs.Line.{IsPlain, MayBeAt, NamesNoFrame, NamesOfLog, StandsFree, TakesValue};
@@ -82,9 +84,10 @@ fn is_common(word: &str) -> bool
         || word == "--verbose"
         || word == "--json"
         || word == "--large"
-        || word == "--pointer-maps"
+        || word == "--any"
         || word == "--super-journal=present"
         || word == "--super-journal=gone"
+        || word == "--super-journal=look"
         || is_named(word, "--at")
 }
 
@@ -111,9 +114,11 @@ fn is_own(word: &str, own: Own) -> bool
     ensures not { result ≡ false → ¬ IsOwn own word.now }
 {
     match own {
-        Own::Checks => word == "--deep" || word == "--complete",
+        Own::Checks => word == "--deep" || word == "--complete" || word == "--pointer-maps",
         Own::Recovers => word == "--force" || is_named(word, "--to"),
-        Own::Reports => word == "--changes" || is_named(word, "--to"),
+        Own::Reports => {
+            word == "--changes" || word == "--pointer-maps" || is_named(word, "--to")
+        }
         Own::Prints => {
             word == "--csv"
                 || word == "--sql"
@@ -316,19 +321,43 @@ fn may_be_at(part: Part, at: Option<u32>) -> bool
     }
 }
 
-/// What they say of the super-journal. None where they say both.
+/// Whether they ask to look for the super-journal, or to accept any database.
+fn looks(options: &[&str]) -> bool
+    ensures yes { IsTrue result → AsksToLook (map (λ w. w.now) options.entry.now) }
+    ensures not { result ≡ false → ¬ AsksToLook (map (λ w. w.now) options.entry.now) }
+{
+    stands_in(options, "--super-journal=look") || stands_in(options, "--any")
+}
+
+/// What they say of the super-journal. None if they contradict themselves.
 fn super_journal_of(options: &[&str]) -> Option<Option<SuperJournal>>
-    ensures { MatchOption result (AsksBoth (map (λ w. w.now) options.entry.now))
+    ensures { MatchOption result (AsksTwo (map (λ w. w.now) options.entry.now))
         (AsksOf (map (λ w. w.now) options.entry.now)) }
 {
     let present = stands_in(options, "--super-journal=present");
     let gone = stands_in(options, "--super-journal=gone");
-    match (present, gone) {
-        (true, true) => None,
-        (true, false) => Some(Some(SuperJournal::Present)),
-        (false, true) => Some(Some(SuperJournal::Gone)),
-        (false, false) => Some(None),
+    let look = looks(options);
+    match (present, gone, look) {
+        (false, false, false) => Some(None),
+        (true, false, false) => Some(Some(SuperJournal::Present)),
+        (false, true, false) => Some(Some(SuperJournal::Gone)),
+        (false, false, true) => Some(Some(SuperJournal::Look)),
+        _ => None,
     }
+}
+
+/// Whether they accept databases above 1 GiB.
+fn is_large(options: &[&str]) -> bool
+    ensures { AsksLarge (map (λ w. w.now) options.entry.now) result }
+{
+    stands_in(options, "--large") || stands_in(options, "--any")
+}
+
+/// Whether they accept databases with auto-vacuum.
+fn has_maps(options: &[&str]) -> bool
+    ensures { AsksMaps (map (λ w. w.now) options.entry.now) result }
+{
+    stands_in(options, "--pointer-maps") || stands_in(options, "--any")
 }
 
 /// The commit that the option of this name gives. None where what it gives is no frame.
@@ -353,7 +382,8 @@ fn style_of(options: &[&str]) -> Style
     }
 }
 
-/// What the options ask besides. None where they say both of the super-journal, or name no frame for a commit.
+/// What the options ask besides. None if they contradict themselves about the super-journal, or name no frame for a
+/// commit.
 fn besides(options: &[&str]) -> Option<Options>
     ensures { MatchOption result (AsksNoneBesides (map (λ w. w.now) options.entry.now))
         (AsksBesides (map (λ w. w.now) options.entry.now)) }
@@ -362,8 +392,8 @@ fn besides(options: &[&str]) -> Option<Options>
     let super_journal = super_journal_of(options)?;
     let at = commit_of(options, "--at")?;
     let style = style_of(options);
-    let large = stands_in(options, "--large");
-    let pointer_maps = stands_in(options, "--pointer-maps");
+    let large = is_large(options);
+    let pointer_maps = has_maps(options);
     Some(Options {
         verbose,
         super_journal,
@@ -390,7 +420,7 @@ fn part_at(options: &[&str], at: Option<u32>) -> Option<Part>
     }
 }
 
-/// Whether the words behind a command ask for all to be judged.
+/// Whether the words after a command ask for all to be judged.
 pub fn asks_complete(words: &[&str]) -> bool
     ensures { AsksComplete (map (λ w. w.now) words.entry.now) result }
 {
@@ -410,7 +440,7 @@ fn deep_of(options: &[&str]) -> Option<Option<Deep>>
     if complete { None } else { Some(None) }
 }
 
-/// What the options of `check` ask for. None where they don't say so.
+/// What the options of `check` ask for. None if they aren't understood.
 fn check_asked<'a>(given: &'a [&'a str], file: &'a str, options: Options) -> Option<Request<'a>>
     ensures { MatchOption result (AreNoCheck (map (λ w. w.now) given.entry.now))
         (IsCheck (map (λ w. w.now) given.entry.now) file.entry options) }
@@ -542,10 +572,10 @@ fn rows_or_cells<'a>(given: &'a [&'a str], file: &'a str, options: Options) -> O
 
 /// What the options of `rows` ask for. None where they don't say so.
 fn rows_asked<'a>(given: &'a [&'a str], file: &'a str, options: Options) -> Option<Request<'a>>
-    ensures { MatchOption result (AskNoRows (map (λ w. w.now) given.entry.now) options)
+    ensures { MatchOption result (AreNoRows (map (λ w. w.now) given.entry.now))
         (IsRows (map (λ w. w.now) given.entry.now) file.entry options) }
 {
-    if options.pointer_maps || !are_known(given, Own::Prints) {
+    if !are_known(given, Own::Prints) {
         return None;
     }
     rows_or_cells(given, file, options)
@@ -641,7 +671,7 @@ fn diff_asked<'a>(given: &'a [&'a str], file: &'a str, options: Options) -> Opti
     ensures { MatchOption result (AskNoDiff (map (λ w. w.now) given.entry.now) options)
         (IsDiff (map (λ w. w.now) given.entry.now) file.entry options) }
 {
-    if options.pointer_maps || !are_known(given, Own::Compares) {
+    if !are_known(given, Own::Compares) {
         return None;
     }
     if options.at.is_some() {
@@ -652,10 +682,10 @@ fn diff_asked<'a>(given: &'a [&'a str], file: &'a str, options: Options) -> Opti
 
 /// What the options of `salvage` ask for. None where they don't say so.
 fn salvage_asked<'a>(given: &'a [&'a str], file: &'a str, options: Options) -> Option<Request<'a>>
-    ensures { MatchOption result (AskNoSalvage (map (λ w. w.now) given.entry.now) options)
+    ensures { MatchOption result (AreNoSalvage (map (λ w. w.now) given.entry.now))
         (IsSalvage (map (λ w. w.now) given.entry.now) file.entry options) }
 {
-    if options.pointer_maps || !are_known(given, Own::Salvages) {
+    if !are_known(given, Own::Salvages) {
         return None;
     }
     let to = text_of(given, "--to")?;
@@ -666,16 +696,6 @@ fn salvage_asked<'a>(given: &'a [&'a str], file: &'a str, options: Options) -> O
         places,
         options,
     })
-}
-
-/// Whether the options behind `recover` are such as it has.
-fn may_recover(given: &[&str], options: Options) -> bool
-    ensures known { IsTrue result → AreKnown Own.Recovers (map (λ w. w.now) given.entry.now) }
-    ensures none { IsTrue result → options.pointer_maps ≡ false }
-    ensures not { result ≡ false → (¬ AreKnown Own.Recovers (map (λ w. w.now) given.entry.now))
-        ⊎ IsTrue options.pointer_maps }
-{
-    are_known(given, Own::Recovers) && !options.pointer_maps
 }
 
 /// What the words ask for where the command is this one and the file that one; None where they don't say so.
@@ -711,7 +731,7 @@ pub fn asked<'a>(words: &'a [&'a str], command: &str, file: &'a str) -> Option<R
     if command == "salvage" {
         return salvage_asked(given, file, options);
     }
-    if command != "recover" || !may_recover(given, options) {
+    if command != "recover" || !are_known(given, Own::Recovers) {
         return None;
     }
     let to = text_of(given, "--to");

@@ -1,7 +1,6 @@
 //! Which pages of a database file are known to be as a commit has them (own).
 ghost use Rattle.std.specs.Prelude.{◌≡◌, ◌↔◌, ◌+◌, ◌<◌, ℕ, List, true, false, get_or, length, OnOk, IfErr, IsTrue};
 ghost use Rattle.sqval.specs.Database.{page, file_page};
-ghost use Rattle.sqview.specs.Laid.{place_of};
 ghost use Rattle.rig_judge.specs.declared.error.SnapshotError.TheVariants.{NoMemory};
 
 use crate::error::SnapshotError;
@@ -14,16 +13,6 @@ pub struct Near {
     size: u32,
     /// By page, the first one first.
     same: Vec<bool>,
-}
-
-/// Whether the bytes of page number i, counted from 0, are the database file's own.
-fn is_own(places: &[u64], i: u32) -> bool
-    ensures { IsTrue result ↔ place_of places.now (i + 1) ≡ 0 }
-{
-    match places.get(i as usize) {
-        Some(place) => *place == 0,
-        None => true,
-    }
 }
 
 /// Whether number i of a list is set.
@@ -73,27 +62,27 @@ impl Near {
         Ok(())
     }
 
-    /// Whether page number i of a view, counted from 0, is the database file's own and is known to be. The places are
-    /// those of the view's pages in its log.
-    pub(crate) fn knows(&self, places: &[u64], i: u32) -> bool
-        ensures { IsTrue result ↔ ((place_of places.now (i + 1) ≡ 0) × (get_or self.now.same.items i false ≡ true)) }
+    /// Whether page number i of a view, counted from 0, is the database file's own and is known to be. The place is the
+    /// page's in the view's log, 0 where it is the file's own.
+    pub(crate) fn knows(&self, place: u64, i: u32) -> bool
+        ensures { IsTrue result ↔ ((place ≡ 0) × (get_or self.now.same.items i false ≡ true)) }
     {
-        is_own(places, i) && has(&self.same, i)
+        place == 0 && has(&self.same, i)
     }
 
     /// Page number i of a view, counted from 0, has the commit's bytes, or hasn't.
-    pub(crate) fn learn(&mut self, places: &[u64], i: u32, same: bool)
+    pub(crate) fn learn(&mut self, place: u64, i: u32, same: bool)
         ensures near { (c : Commit) (db : List ℕ) → IsNear c db self.old
-            → (IsTrue same → place_of places.now (i + 1) ≡ 0
+            → (IsTrue same → place ≡ 0
             → file_page self.old.size db (i + 1) ≡ page c.pages (i + 1)) → IsNear c db self.new }
         ensures size { self.new.size ≡ self.old.size }
         ensures room { length self.new.same.items ≡ length self.old.same.items }
-        ensures known { IsTrue same → place_of places.now (i + 1) ≡ 0 → i < length self.old.same.items
+        ensures known { IsTrue same → place ≡ 0 → i < length self.old.same.items
             → get_or self.new.same.items i false ≡ true }
         ensures kept { (k : ℕ) → get_or self.old.same.items k false ≡ true
             → get_or self.new.same.items k false ≡ true }
     {
-        if !same || !is_own(places, i) || i as usize >= self.same.len() {
+        if !same || place != 0 || i as usize >= self.same.len() {
             return;
         }
         self.same[i as usize] = true;

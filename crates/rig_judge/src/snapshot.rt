@@ -232,7 +232,8 @@ impl Snapshot {
         near.fit(alloc, size, count)?;
         let mut bytes = vec![in alloc; 0u8; size as usize]?;
         for i in 0..count {
-            if near.knows(view.places(), i) {
+            let place = view.place(i + 1);
+            if near.knows(place, i) {
                 continue;
             }
             view.read(i + 1, &mut bytes)?;
@@ -240,7 +241,7 @@ impl Snapshot {
                 return Ok(false);
             }
             let same = self.has(i + 1, &bytes);
-            near.learn(view.places(), i, same);
+            near.learn(place, i, same);
         }
         Ok(true)
     }

@@ -1,4 +1,4 @@
-//! The index that the text of an index makes.
+//! The index that the text of an index creates.
 ghost use Rattle.std.specs.Prelude.{◌≡◌, map, Some, IfOk, IfSome};
 ghost use Rattle.std.specs.Option.{is_some};
 ghost use Rattle.schema_index.specs.Terms.{index_terms};
@@ -14,7 +14,7 @@ use sqlite_items::Items;
 use sqlite_value::value::Bytes;
 use std::alloc::{AllocError, Global};
 
-/// What the text of an index makes.
+/// What the text of an index creates.
 #[derive(Drop)]
 pub struct MadeIndex {
     /// WHERE is at its end.
@@ -107,8 +107,8 @@ fn index_over(
     })
 }
 
-/// The index that the first statement of a text makes, as SQLite's loader reads it; None if that isn't CREATE INDEX, or
-/// if a term isn't a column under a collation that SQLite has by itself.
+/// The index that the first statement of a text creates, as SQLite's loader reads it; None if that isn't CREATE INDEX,
+/// or if a term isn't a column under a collation that SQLite has by itself.
 pub fn made_index(alloc: Global, bytes: &[u8]) -> Result<Option<MadeIndex>, AllocError>
     ensures found { IfOk result (λ r. IfSome r (λ i. MakesIndex bytes.now i)) }
     ensures only { IfOk result (λ r. (i : MadeIndex) → MakesIndex bytes.now i → r ≡ Some i) }

@@ -1,4 +1,4 @@
-//! What the texts of a schema make, as the kit's crates state tables and indexes.
+//! What the texts of a schema create, in the types of the kit's crates for tables and indexes.
 #![tactic(auto)]
 
 mod defaults;

@@ -130,7 +130,7 @@ fn add(rules: &mut Items<Rule>, rule: Option<Rule>) -> Result<(), AllocError>
     Ok(())
 }
 
-/// What a column says of itself.
+/// The rules in a column's definition.
 #[tactic(auto, unfolding(crate::specs::Tables::column_rules))]
 fn column_rules(
     alloc: Global,
@@ -154,7 +154,7 @@ fn column_rules(
     Ok(rules)
 }
 
-/// What the columns say of themselves.
+/// The rules in the columns' definitions.
 pub fn rules_of_columns(
     alloc: Global,
     text: &[u8],

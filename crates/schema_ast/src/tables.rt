@@ -1,4 +1,4 @@
-//! The table that the text of a table makes.
+//! The table that the text of a table creates.
 ghost use Rattle.std.specs.Prelude.{◌≡◌, ◌++◌, ◌&&◌, map, filter, Some, IfOk, IfSome};
 ghost use Rattle.std.specs.List.{list_all, list_any, flat_map};
 ghost use Rattle.schema_columns.specs.Columns.{columns_of, is_without_rowid};
@@ -24,7 +24,7 @@ use sqlite_items::Items;
 use sqlite_value::value::Bytes;
 use std::alloc::{AllocError, Global};
 
-/// What the text of a table makes.
+/// What the text of a table creates.
 #[derive(Drop)]
 pub struct MadeTable {
     /// It is WITHOUT ROWID.
@@ -33,8 +33,8 @@ pub struct MadeTable {
     pub computed: bool,
     /// SQLite has the collations of its columns and keys by itself, and each column of a key is one of the table's.
     pub clear: bool,
-    /// Its columns that rows store, with a word for the type of each, and what these and its keys state. A collation
-    /// that SQLite doesn't have by itself is left out.
+    /// Its columns that rows store, with a word for their types, and what these and its keys state. A collation that
+    /// SQLite doesn't have by itself is left out.
     pub def: CreateTable,
 }
 
@@ -103,7 +103,7 @@ fn columns_for(
     Ok(all)
 }
 
-/// The table of these columns, of which rows store some, and keys.
+/// The table of these columns, some of them stored in rows, and keys.
 fn body_of(
     alloc: Global,
     text: &[u8],
@@ -238,7 +238,7 @@ fn is_clear(
     }
 }
 
-/// The table that a statement makes.
+/// The table that a statement creates.
 #[tactic(auto, unfolding(crate::specs::Tables::table_of, crate::specs::Tables::is_clear))]
 fn table_of(
     alloc: Global,
@@ -274,7 +274,7 @@ fn table_of(
     })
 }
 
-/// The table that the first statement of a text makes, as SQLite's loader reads it; None if that isn't CREATE TABLE.
+/// The table that the first statement of a text creates, as SQLite's loader reads it; None if that isn't CREATE TABLE.
 pub fn made_table(alloc: Global, bytes: &[u8]) -> Result<Option<MadeTable>, AllocError>
     ensures found { IfOk result (λ r. IfSome r (λ t. MakesTable bytes.now t)) }
     ensures only { IfOk result (λ r. (t : MadeTable) → MakesTable bytes.now t → r ≡ Some t) }

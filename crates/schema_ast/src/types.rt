@@ -1,4 +1,4 @@
-//! A word for the type of each column.
+//! A word for a column's type.
 ghost use Rattle.std.specs.Prelude.{◌≡◌, IfOk};
 ghost use Rattle.schema_ast.specs.Types.{word_for, type_for};
 

@@ -19,7 +19,7 @@ pub struct Column {
     pub name: usize,
     /// The token after the last of its type; of its name, if it has none.
     pub type_end: usize,
-    /// It says NOT NULL. (A key may make it so too.)
+    /// It has NOT NULL. (A key may imply it too.)
     pub not_null: bool,
     /// Its last DEFAULT.
     pub default: Option<Clause>,

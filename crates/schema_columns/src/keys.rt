@@ -23,7 +23,7 @@ pub struct Term {
     pub name: usize,
     /// Its last COLLATE.
     pub collate: Option<Clause>,
-    /// It says DESC.
+    /// It has DESC.
     pub descends: bool,
 }
 

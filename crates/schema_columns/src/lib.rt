@@ -1,4 +1,4 @@
-//! What the clauses of a table say: its columns and their types, its keys, the rowid's alias, and its options.
+//! The meaning of a table's clauses: its columns and their types, its keys, the rowid's alias, and its options.
 #![tactic(auto)]
 
 mod columns;

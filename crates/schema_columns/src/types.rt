@@ -14,12 +14,12 @@ use std::alloc::{AllocError, Global};
 /// The types of STRICT tables.
 pub const STANDARD: [&[u8]; 6] = [b"ANY", b"BLOB", b"INT", b"INTEGER", b"REAL", b"TEXT"];
 
-/// What a column makes of the values that it is given (datatype3, 3.1).
+/// How a column converts the values that it is given (datatype3, 3.1).
 #[derive(Clone, Copy, Debug, PartialEq, Eq)]
 pub enum Affinity {
     Integer,
     Text,
-    /// It keeps each value as it is.
+    /// It keeps each value unchanged.
     Blob,
     Real,
     Numeric,

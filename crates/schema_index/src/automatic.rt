@@ -1,4 +1,4 @@
-//! The indexes that SQLite makes of a table's keys by itself.
+//! The indexes that SQLite creates for a table's keys.
 ghost use Rattle.std.specs.Prelude.{◌≡◌, [], map, filter, IfOk};
 ghost use Rattle.std.specs.List.{list_any, fold};
 ghost use Rattle.schema_columns.specs.Keys.{keys_from};
@@ -20,7 +20,7 @@ fn is_indexed(integer: Option<usize>, key: &Key) -> bool
     !(key.primary && integer.is_some())
 }
 
-/// The column of a PRIMARY KEY of one INTEGER, under its own collation whatever the key says.
+/// The column of a PRIMARY KEY of one INTEGER, under its own collation whatever the key states.
 #[tactic(auto, unfolding(crate::specs::Automatic::integer_column))]
 pub fn integer_column(
     alloc: Global,
@@ -106,9 +106,9 @@ fn indexes_in_order(
     Ok(all)
 }
 
-/// The columns of the indexes that SQLite makes of a table's keys by itself, in its order: of each UNIQUE, and of a
-/// PRIMARY KEY that isn't the rowid's alias, unless an earlier one has the same columns under the same collations. In a
-/// table WITHOUT ROWID one of them is the table itself. As in SQLite, the time is quadratic in the number of indexes.
+/// The columns of the indexes that SQLite creates for a table's keys, in its order: for each UNIQUE, and for a PRIMARY
+/// KEY that isn't the rowid's alias, unless an earlier one has the same columns under the same collations. In a table
+/// WITHOUT ROWID one of them is the table itself. As in SQLite, the time is quadratic in the number of indexes.
 #[tactic(auto, unfolding(crate::specs::Automatic::automatic_indexes, crate::specs::Automatic::indexed_keys))]
 pub fn automatic_indexes(
     alloc: Global,

@@ -1,4 +1,4 @@
-//! The indexes of a schema: those that SQLite makes of a table's keys by itself, and the texts of CREATE INDEX.
+//! The indexes of a schema: those that SQLite creates for a table's keys, and the texts of CREATE INDEX.
 #![tactic(auto)]
 
 mod automatic;

@@ -1,4 +1,4 @@
-//! CREATE TABLE as SQLite reads it: the tokens of its text and the clauses that these make.
+//! CREATE TABLE as SQLite reads it: the tokens of its text and their clauses.
 #![tactic(auto)]
 
 mod clauses;

@@ -43,7 +43,7 @@ fn is_claim(line: &[u8]) -> bool
     }
 }
 
-/// The same, and a state doesn't show it.
+/// The line is such a claim, and a state doesn't show it.
 fn is_unwritten(line: &[u8], before: &[Answer], state: &Answer) -> bool
     ensures { IsTrue result ↔ IsUnwritten line.now before.now state.now }
 {

@@ -64,7 +64,7 @@ fn first_states(states: &[Answer], marks: u64, more: usize) -> &[Answer]
     &states[..count]
 }
 
-/// The states that a crash may show after so many marks, the last of which it is behind or not.
+/// The states that a crash may show after so many marks, at the last mark or later.
 fn seen_states(states: &[Answer], is_mark: bool, marks: u64) -> &[Answer]
     ensures { result.now ≡ take (seen_count is_mark marks) states.now }
 {
@@ -78,7 +78,7 @@ impl<'a> Bench<'a> {
     ghost use Rattle.std.specs.Prelude.{◌≡◌};
     ghost use Rattle.sqcrash_store.specs.Surveys.{judging_of, seen};
 
-    /// The same for a crash after so many marks, the last of which it is behind or not.
+    /// This bench for a crash after so many marks, at the last mark or later.
     pub fn seen(&self, is_mark: bool, marks: u64) -> Bench<'a>
         ensures { judging_of result ≡ seen (judging_of self.now) is_mark marks }
     {

@@ -114,8 +114,8 @@ fn one_more(count: u64, is_one: bool) -> u64
     if is_one { count + 1 } else { count }
 }
 
-/// Judges the cells of a page, of which these are the parts, in the order of their pointers, as `judge_cell` does, and
-/// counts those with a text that isn't one in this encoding.
+/// Judges the cells of a page, which has these parts, in the order of their pointers, as `judge_cell` does, and counts
+/// those with a text that isn't one in this encoding.
 pub(crate) fn judge_cells<V: Snapshot, S: PageSource>(
     alloc: Global,
     source: &mut S,

@@ -18,7 +18,7 @@ use sqpage::{CheckError, Fault, PageSource};
 use std::alloc::Global;
 use std::marker::Brand;
 
-/// What a deep check tells of a sound database.
+/// What a deep check reports of a sound database.
 #[derive(Clone, Copy, Debug, PartialEq, Eq)]
 pub struct Inside {
     pub report: Report,
@@ -58,12 +58,12 @@ fn judge_snapshot<V: Snapshot, S: PageSource>(
 }
 
 /// Whether a database is well formed, and what it holds is sound: the numbers of its header, the pages of its trees,
-/// and the records in their cells, and where its roots stand (fileformat2, 1.3, 1.6, 1.8 and 2.1); and how many cells
-/// have a text that isn't one in the database's encoding, which is no fault. Refused first as
-/// `sqcheck::check_with` does; then by the first fault of the header, at page 1; then by the first root that stands
-/// behind another page; then by the first fault of the pages of trees, by rising numbers, those of a page before those
-/// of its cells, in the order of their pointers. Refused by Source where a page could not be read, and by NoMemory. It
-/// takes memory for one byte a page, one page and one payload, of at most 1,073,741,824 bytes.
+/// and the records in their cells, and the places of its roots (fileformat2, 1.3, 1.6, 1.8 and 2.1); and how many cells
+/// have a text that isn't one in the database's encoding, which is no fault. Refused first as `sqcheck::check_with`
+/// does; then by the first fault of the header, at page 1; then by the first root that stands behind another page; then
+/// by the first fault of the pages of trees, by rising numbers, those of a page before those of its cells, in the order
+/// of their pointers. Refused by Source where a page could not be read, and by NoMemory. It takes memory for one byte a
+/// page, one page and one payload, of at most 1,073,741,824 bytes.
 pub fn check_deep<S: PageSource>(
     alloc: Global,
     source: &mut S,

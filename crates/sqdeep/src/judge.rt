@@ -171,7 +171,7 @@ impl<V: Snapshot> Judge<V> {
         )
     }
 
-    /// Judges page `number`, where it is one of a tree, and counts as `judge_page` does.
+    /// Judges page `number`, if it is one of a tree, and counts as `judge_page` does.
     fn judge_used<S: PageSource>(
         &mut self,
         alloc: Global,

@@ -1,5 +1,5 @@
 -- What is found of a schema behind a check that finds the database sound inside.
-use Rattle.std.proofs.Common.{◌≡◌, ◌⊎◌, ⊎_elim, ℕ, Bool, refl, sym, subst}
+use Rattle.std.proofs.Common.{◌≡◌, ◌≤◌, ◌⊎◌, ⊎_elim, ℕ, Bool, refl, sym, subst}
 use Rattle.std.specs.Prelude.{None, Result, Ok, Err, IfOk, IfErr, map}
 use Rattle.sqval.specs.Database.{Database}
 use Rattle.sqcheck.specs.WellFormed.{WellFormedWith}
@@ -20,10 +20,12 @@ use Rattle.sqschema.specs.declared.check.Schema.{Schema as OwnSchema}
 use Rattle.sqcontents.specs.Contents.{ContentsRefused}
 use Rattle.sqcontents.specs.declared.error.ContentsError.{ContentsError}
 use Rattle.sqcontents.specs.declared.error.ContentsError.TheVariants as contents
+use Rattle.sqpast.specs.declared.used.Counts.{Counts}
+use Rattle.sqdeepjudge.specs.Counted.{FindsExcess}
 use Rattle.sqdeepjudge.specs.Missing.{FindsCut, IsLeast}
 use Rattle.sqdeepjudge.specs.Verdicts.{FindsInside, FindsSchema, FindsDeep}
 use Rattle.sqdeepjudge.specs.internal.Behind.{IsBehind, contents_verdict}
-use Rattle.sqdeepjudge.specs.declared.verdict.Damage.TheVariants.{Cut, Check, Inner, Schema, Content, Row}
+use Rattle.sqdeepjudge.specs.declared.verdict.Damage.TheVariants.{Cut, Excess, Check, Inner, Schema, Content, Row}
 use Rattle.sqdeepjudge.specs.declared.verdict.DeepVerdict.{DeepVerdict}
 use Rattle.sqdeepjudge.specs.declared.verdict.DeepVerdict.TheVariants as deep
 use Rattle.sqdeepjudge.proofs.RowsOfSchema.{schema_rows}
@@ -33,6 +35,7 @@ pub inside_of : (maps : Bool) (d : Database) (size : ℕ) (r : Inside) (q : Resu
 inside_of maps d size r (Ok (deep.Clean report)) found sound forms h = absurd h
 inside_of maps d size r (Ok (deep.Sound report schema unjudged)) found sound forms h = (subst (λ (x : Report). FindsWith maps d size (plain.Clean x)) (sym h.0) found, sound, subst (AreIllFormed d) (sym h.1) forms)
 inside_of maps d size r (Ok (deep.Damaged (Cut p))) found sound forms h = absurd h
+inside_of maps d size r (Ok (deep.Damaged (Excess n))) found sound forms h = absurd h
 inside_of maps d size r (Ok (deep.Damaged (Check e))) found sound forms h = absurd h
 inside_of maps d size r (Ok (deep.Damaged (Inner e))) found sound forms h = absurd h
 inside_of maps d size r (Ok (deep.Damaged (Schema e))) found sound forms h = (found.0, sound)
@@ -45,12 +48,26 @@ pub cut_of_none : (Missing : ℕ → Type 0) (n : ℕ) (r : Inside) (q : Result 
 cut_of_none Missing n r (Ok (deep.Clean report)) none h = absurd h
 cut_of_none Missing n r (Ok (deep.Sound report schema unjudged)) none h = none
 cut_of_none Missing n r (Ok (deep.Damaged (Cut p))) none h = absurd h
+cut_of_none Missing n r (Ok (deep.Damaged (Excess m))) none h = absurd h
 cut_of_none Missing n r (Ok (deep.Damaged (Check e))) none h = absurd h
 cut_of_none Missing n r (Ok (deep.Damaged (Inner e))) none h = absurd h
 cut_of_none Missing n r (Ok (deep.Damaged (Schema e))) none h = none
 cut_of_none Missing n r (Ok (deep.Damaged (Content e))) none h = none
 cut_of_none Missing n r (Ok (deep.Damaged (Row e))) none h = none
 cut_of_none Missing n r (Err e) none h = tt
+
+-- and none that the header counts too many
+pub excess_of_none : (counts : Counts) (r : Inside) (q : Result DeepVerdict JudgeError) → counts.named ≤ counts.all → IfOk q (IsBehind r) → IfOk q (FindsExcess counts)
+excess_of_none counts r (Ok (deep.Clean report)) le h = absurd h
+excess_of_none counts r (Ok (deep.Sound report schema unjudged)) le h = le
+excess_of_none counts r (Ok (deep.Damaged (Cut p))) le h = absurd h
+excess_of_none counts r (Ok (deep.Damaged (Excess n))) le h = absurd h
+excess_of_none counts r (Ok (deep.Damaged (Check e))) le h = absurd h
+excess_of_none counts r (Ok (deep.Damaged (Inner e))) le h = absurd h
+excess_of_none counts r (Ok (deep.Damaged (Schema e))) le h = le
+excess_of_none counts r (Ok (deep.Damaged (Content e))) le h = le
+excess_of_none counts r (Ok (deep.Damaged (Row e))) le h = le
+excess_of_none counts r (Err e) le h = tt
 
 pub memory_of : (maps : Bool) (d : Database) (q : Result DeepVerdict JudgeError) → IfErr q (λ e. e ≡ judgments.NoMemory) → IfErr q (IsUnjudgedWith maps d)
 memory_of maps d (Ok verdict) h = tt

@@ -16,7 +16,7 @@ use Rattle.sqcontents.specs.Contents.{AreIndexesJudged, AreTablesJudged, Content
 use Rattle.sqcontents.specs.declared.error.ContentsError.TheVariants.{Content as OwnContent}
 use Rattle.sqcontents.specs.declared.error.ContentsError.TheVariants.{Row as OwnRow}
 use Rattle.sqdeepjudge.specs.NotJudged.{AreNotJudged, lacks}
-use Rattle.sqdeepjudge.specs.declared.verdict.Damage.TheVariants.{Cut, Check, Inner, Schema, Content, Row}
+use Rattle.sqdeepjudge.specs.declared.verdict.Damage.TheVariants.{Cut, Excess, Check, Inner, Schema, Content, Row}
 use Rattle.sqdeepjudge.specs.declared.verdict.DeepVerdict.{DeepVerdict}
 use Rattle.sqdeepjudge.specs.declared.verdict.DeepVerdict.TheVariants as deep
 
@@ -45,12 +45,13 @@ is_in_part (deep.Sound report schema unjudged) = lacks unjudged.all.items
 is_in_part _ = false
 
 -- Of a database of pages of this size, with pointer maps or without: a check finds it well formed, and it is sound inside,
--- with so many cells that have a text that isn't one in its encoding, whatever its schema is; or a page is missing; or a check finds damage; or it is well formed, and the fault stands inside, at the page and
+-- with so many cells that have a text that isn't one in its encoding, whatever its schema is; or a page is missing, or its header counts too many; or a check finds damage; or it is well formed, and the fault stands inside, at the page and
 -- the cell.
 abbrev pub FindsInside : (maps : Bool) → Database → (size : ℕ) → DeepVerdict → Type 0
 FindsInside maps d size (deep.Clean report) = ⊥
 FindsInside maps d size (deep.Sound report schema unjudged) = FindsWith maps d size (plain.Clean report) × IsSoundInside d × AreIllFormed d unjudged.ill_formed
 FindsInside maps d size (deep.Damaged (Cut p)) = Unit {0}
+FindsInside maps d size (deep.Damaged (Excess n)) = Unit {0}
 FindsInside maps d size (deep.Damaged (Check e)) = FindsWith maps d size (plain.Damaged e)
 FindsInside maps d size (deep.Damaged (Inner e)) = WellFormedWith maps d size × StandsInside d e.fault e.page e.cell × ¬ IsSoundInside d
 FindsInside maps d size (deep.Damaged (Schema e)) = WellFormedWith maps d size × IsSoundInside d

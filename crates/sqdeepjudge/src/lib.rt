@@ -9,4 +9,4 @@ mod words;
 
 pub use missing::first_missing;
 pub use not_judged::{Kind, NotJudged, Why, objects_of, things_of};
-pub use verdict::{Damage, DeepVerdict, Unjudged, deep_without, judge_deep};
+pub use verdict::{Damage, DeepVerdict, Lengths, Unjudged, deep_without, judge_deep};

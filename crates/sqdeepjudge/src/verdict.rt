@@ -10,6 +10,7 @@ ghost use Rattle.sqview.specs.Verdicts.{IsUnjudgedWith};
 ghost use Rattle.sqview.specs.declared.judge_error.JudgeError.{JudgeError};
 ghost use Rattle.sqdeepjudge.specs.Verdicts.{FindsInside, FindsSchema, is_damaged, is_in_part, most_bytes};
 ghost use Rattle.sqdeepjudge.specs.Verdicts.{verdict_as};
+ghost use Rattle.sqdeepjudge.specs.Counted.{FindsExcess};
 ghost use Rattle.sqdeepjudge.specs.Missing.{FindsCut, IsMissingOf};
 ghost use Rattle.sqdeepjudge.specs.Verdicts.{aside_name, deep_without, name_at, unjudged_name, unjudged_table_name};
 ghost use Rattle.sqdeepjudge.specs.internal.Behind.{IsBehind, contents_verdict};
@@ -20,6 +21,7 @@ use sqcheck::{Options as Maps, Report};
 use sqcontents::{ContentError, ContentsError, TableRowError, check_contents, check_tables};
 use sqdeep::{DeepError, InnerError, Inside, check_deep};
 use sqpage::{CheckError, Fault};
+use sqpast::Counts;
 use sqschema::{ObjectError, ReadError, Schema, SchemaError, check_schema};
 use sqval::RecordError;
 use sqview::{FileBytes, JudgeError, Verdict, View, ViewError, without_view};
@@ -30,6 +32,8 @@ use std::alloc::Global;
 pub enum Damage {
     /// This page, from 1, is missing: the log doesn't have it, and the file hasn't all of it.
     Cut(u32),
+    /// No page is missing, but the header counts so many pages, more than there are by the log.
+    Excess(u32),
     /// It isn't well formed, or there is none.
     Check(CheckError),
     /// It is well formed, but not sound inside.
@@ -40,6 +44,15 @@ pub enum Damage {
     Content(ContentError),
     /// Its schema and its indexes are sound, but a row of a table doesn't keep to its columns.
     Row(TableRowError),
+}
+
+/// How long a database is.
+#[derive(Clone, Copy, Debug, PartialEq, Eq)]
+pub struct Lengths {
+    /// How many bytes its file has.
+    pub long: u64,
+    /// How many pages it has by its log, and by its header.
+    pub counts: Counts,
 }
 
 /// What isn't judged of a database that is sound as far as it is: the rows of its schema, from 0.
@@ -247,16 +260,18 @@ fn judge_schema<F: FileBytes>(
     }
 }
 
-/// What a deep check finds of a view: a page that is missing, damage of its pages, inside, of its schema, of its
-/// indexes, or of its tables; long: how many bytes the view's file has. Refused by AutoVacuum and NoMemory, which say
-/// that a database can't be checked and not that it is damaged, and by Unread where a file could not be read.
+/// What a deep check finds of a view whose database is so long: a page that is missing, a header that counts too many,
+/// damage of its pages, inside, of its schema, of its indexes, or of its tables, in this order. Refused by AutoVacuum
+/// and NoMemory, which say that a database can't be checked and not that it is damaged, and by Unread where a file
+/// could not be read.
 pub fn judge_deep<F: FileBytes>(
     alloc: Global,
     view: &mut View<F>,
-    long: u64,
+    lengths: Lengths,
     maps: Maps,
 ) -> Result<DeepVerdict, JudgeError>
-    ensures cut { IfOk result (FindsCut (IsMissingOf view.old long) (length (pages_of F.bytes view.old))) }
+    ensures cut { IfOk result (FindsCut (IsMissingOf view.old lengths.long) (length (pages_of F.bytes view.old))) }
+    ensures counts { IfOk result (FindsExcess lengths.counts) }
     ensures found { F.reads_right view.old.db × F.reads_right view.old.log
         → IfOk result (FindsInside maps.pointer_maps (pages_of F.bytes view.old) view.old.page_size) }
     ensures schema { F.gives_bytes view.old.db × F.gives_bytes view.old.log
@@ -264,8 +279,12 @@ pub fn judge_deep<F: FileBytes>(
     ensures refused { F.gives_bytes view.old.db × F.gives_bytes view.old.log
         → IfErr result (IsUnjudgedWith maps.pointer_maps (pages_of F.bytes view.old)) }
 {
+    let Lengths { long, counts } = lengths;
     if let Some(page) = first_missing(view, long) {
         return Ok(DeepVerdict::Damaged(Damage::Cut(page)));
+    }
+    if counts.named > counts.all {
+        return Ok(DeepVerdict::Damaged(Damage::Excess(counts.named)));
     }
     match check_deep(alloc, view, maps) {
         Ok(inside) => judge_schema(alloc, view, inside),

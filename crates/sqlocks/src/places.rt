@@ -24,7 +24,7 @@ pub(crate) enum Hold {
 pub(crate) enum Kept {
     /// The first one alone: there is no FILE-shm, and for a reader a journal is current.
     File(Want),
-    /// Those of a reader beside no FILE-shm, for whom no journal is current.
+    /// Those of a reader without a FILE-shm, for whom no journal is current.
     Alone,
     /// Those of a reader that takes the front of the index.
     Front,
@@ -217,7 +217,8 @@ fn after_index(answer: Answer, want: Want) -> Place
     }
 }
 
-/// Behind the question whether a connection is live, or about to write: where it isn't, where it is, and what is held.
+/// After the question whether a connection is live, or about to write: the place if it isn't, if it is, and what is
+/// held.
 fn live_asked(answer: Answer, not: Place, live: Place, hold: Hold) -> Place
     ensures { result ≡ live_asked answer not live hold }
 {
@@ -228,7 +229,7 @@ fn live_asked(answer: Answer, not: Place, live: Place, hold: Hold) -> Place
     }
 }
 
-/// Behind a look at the index: where it names a front, and where it names none; and behind one at the journal.
+/// After a look at the index: the place if it names a front, and if it names none; and after a look at the journal.
 fn looked(answer: Answer, named: Place, unnamed: Place) -> Place
     ensures { result ≡ looked answer named unnamed }
 {

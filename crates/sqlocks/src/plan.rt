@@ -42,8 +42,8 @@ pub enum Lock {
     Connections,
     /// FILE-shm, 9 bytes from 120 on, exclusive.
     WholeIndex,
-    /// FILE, byte 1073742337, shared: none of SQLite's. It tells whoever goes on that no journal is current. It isn't
-    /// beside the bytes of `Shared`, since the system joins locks of one kind that are.
+    /// FILE, byte 1073742337, shared: none of SQLite's. It shows whoever goes on that no journal is current. It isn't
+    /// next to the bytes of `Shared`, since the system joins adjacent locks of one kind.
     Alone,
 }
 

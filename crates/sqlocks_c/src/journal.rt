@@ -15,8 +15,8 @@ fn is_hot(front: &[u8; 28], length: u64) -> bool
     }
 }
 
-/// 1 where a journal of this length that begins with these bytes is hot; otherwise 0. Its first 28 bytes are looked at:
-/// its header (fileformat2, 3). Where there are fewer it isn't hot.
+/// 1 if a journal of this length that begins with these bytes is hot; otherwise 0. Its first 28 bytes are looked at:
+/// its header (fileformat2, 3). If there are fewer, it isn't hot.
 #[unsafe(no_mangle)]
 pub extern "C" fn sqr_journal_is_hot(front: &[u8], length: u64) -> u32
     ensures yes { result ≡ 1 → HasHeader front.now × IsHotIf (take 28 front.now) length }

@@ -6,9 +6,9 @@ ghost use Rattle.sqlocks_c.specs.Steps.{answer_of, want_of, numbers_of, IsNext};
 use sqlocks::{Answer, Bytes, Lock, Reason, Step, Target, Want, asked, bytes_of};
 use std::alloc::{AllocError, Global};
 
-/// What is to be done: the kind, from Open, 0, to End, 13; of which file, 0 FILE and 1 FILE-shm; whether for one alone;
-/// why it is given up, from InUse, 0, to Failed, 2; and which bytes are locked, given back or asked about. Where a kind
-/// has no such number it is 0.
+/// What is to be done: the kind, from Open, 0, to End, 13; the file, 0 FILE and 1 FILE-shm; whether exclusively; why it
+/// is given up, from InUse, 0, to Failed, 2; and which bytes are locked, released or asked about. A number that a kind
+/// doesn't have is 0.
 #[repr(C)]
 #[derive(Clone, Copy)]
 pub struct LockStep {

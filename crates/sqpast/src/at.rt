@@ -110,7 +110,7 @@ pub fn used_count(most: u32, first: &[u8]) -> u32
     used_of(most, header_count(first))
 }
 
-/// How many pages SQLite uses of so many: as many as the header says if that count isn't 0, which it is if it isn't
+/// How many pages SQLite uses of so many: as many as the header names if that number isn't 0, which it is if it isn't
 /// valid, and no larger (fileformat2, 1.3.7; the limit own).
 pub(super) fn used_of(most: u32, count: u32) -> u32
     ensures { result ≡ cond (count == 0) most (min count most) }

@@ -29,7 +29,7 @@ impl Counts {
     }
 }
 
-/// How many pages a view has, and how many its header says. It reads page 1.
+/// How many pages a view has, and how many its header names. It reads page 1.
 pub(super) fn counts_of<F: FileBytes>(
     alloc: Global,
     view: &mut View<F>,
@@ -57,7 +57,7 @@ pub(super) fn counts_of<F: FileBytes>(
     })
 }
 
-/// Leaves of a view the pages that SQLite uses, and tells how many there were. It reads page 1. Refused by Unread and
+/// Leaves in a view the pages that SQLite uses, and gives how many there were. It reads page 1. Refused by Unread and
 /// NoMemory; the view then has its pages.
 pub fn leave_used<F: FileBytes>(alloc: Global, view: &mut View<F>) -> Result<Counts, ViewError>
     ensures used { F.reads_right view.old.db × F.reads_right view.old.log

@@ -14,8 +14,8 @@ use sqschema::Schema;
 use std::io::Write;
 use std::str;
 
-/// Prints what a check found, and says what a deep one leaves open. Refused by `NotJudged` behind that where all was to
-/// be judged, and something isn't.
+/// Prints what a check found, and notes what a deep one leaves open. Refused by `NotJudged` after that if all was to be
+/// judged, and something isn't.
 pub(crate) fn write_checked<O: Write, E: Write>(
     out: &mut O,
     of: (Style, Option<Deep>),

@@ -19,8 +19,8 @@ use std::io::{self, IsTerminal, Write};
 use std::rt::Files;
 use std::time::Clock;
 
-/// Carries out a command line, and answers the program's status: where it names several files, the greatest of theirs,
-/// or that of damage. Each line that is printed of one of several says which. An error for want of memory.
+/// Carries out a command line, and answers the program's status. If it names several files, this is the greatest of
+/// theirs, or 1 for damage. Each line that is printed for one of several names it. An error for want of memory.
 pub(crate) fn answered<R: Files + AllocGlobal + Clock, O: Write, E: Write + IsTerminal>(
     rt: &R,
     words: &[&str],
@@ -110,7 +110,7 @@ where
     }
 }
 
-/// Says that each of so many files has locks of its own, and whether all is to be judged, if the words of the line of
+/// Prints that each of so many files has separate locks, and whether all is to be judged, if the words of the line of
 /// one are understood.
 fn tell_locks<O: Write>(alloc: Global, words: &[&str], count: usize, out: &mut O) -> io::Result<u8>
     ensures told { IfOk result (λ status. (status ≡ 0) ⊎ (status ≡ 3)) }
@@ -201,7 +201,7 @@ where
     locking::answered(rt, line.as_slice(), &mut out, &mut err)
 }
 
-/// How lines ended: with which status at most, and whether one of them with that of damage.
+/// How lines ended: the greatest status, and whether one of them ended with 1 for damage.
 #[derive(Clone, Copy)]
 struct Ended {
     greatest: u8,
@@ -224,7 +224,7 @@ impl Ended {
         }
     }
 
-    /// The status of all: that of damage where all was to be judged and one has it, otherwise the greatest.
+    /// The status of all: 1 for damage if all was to be judged and one has it, otherwise the greatest.
     fn status(self, complete: bool) -> u8
         ensures worst { result ≡ cond (complete && self.is_damaged) 1 self.greatest }
         ensures least { self.greatest ≤ 3 → result ≤ 3 }
@@ -237,8 +237,8 @@ impl Ended {
     }
 }
 
-/// Carries out the line with each of its files, one after another, and answers the greatest status; where all is to be
-/// judged, and one is damaged, that of damage.
+/// Carries out the line with each of its files, one after another, and answers the greatest status; if all is to be
+/// judged, and one is damaged, 1 for damage.
 fn each_of<R: Files + AllocGlobal + Clock, O: Write, E: Write + IsTerminal>(
     rt: &R,
     apart: &Apart<'_>,

@@ -57,7 +57,7 @@ fn step_after(cause: Option<ErrorKind>) -> &'static str {
     }
 }
 
-/// What to do where a command was refused behind what was printed.
+/// What to do if a command was refused after what was printed.
 pub(crate) fn step_after_untold(why: Untold) -> &'static str {
     match why {
         Untold::NoSuchTable =>
@@ -100,7 +100,7 @@ pub(crate) fn next_step(
         Refusal::TooLarge => "above 1,073,741,824 bytes, or too long a log: give --large",
         Refusal::TwoLogs => "look at both logs, move one away, and call this again",
         Refusal::SuperJournal =>
-            "see whether the super-journal is there, and give --super-journal=present or =gone",
+            "give --super-journal=look if FILE is in its place, otherwise =present or =gone",
         Refusal::NotADatabase =>
             "the header that is to be shown isn't a database's: see show --log and check",
         Refusal::AutoVacuum =>

@@ -17,7 +17,8 @@ use cli_facts::{NoteWriter, Notes, Refusal, Status, SystemFile};
 use cli_files::{Count, Progress, tell_lock};
 use cli_held::Locks;
 use cli_job::{
-    Again, Answer, Begun, Given, Job, Source, Until, Watch, WhileSame, alone, before_of, source_of,
+    Again, Answer, Begun, Ended, Given, Job, Source, Until, Watch, WhileSame, alone, before_of,
+    source_of,
 };
 use cli_recover::{recover, recover_to};
 use cli_report::{VERSION, print_diff, report_to, salvage_to, tell_overwritten};
@@ -192,7 +193,7 @@ fn tell_locks<E: Write>(locks: Locks, notes: &Notes<'_, E>) {
     }
 }
 
-/// What a reading of the files of a job comes to.
+/// How a reading of the files of a job ends.
 fn read_by<R: Files + AllocGlobal + Clock, M: Count, O: Write, E: Write>(
     job: &Job<'_, R, M>,
     reading: Reading<'_>,
@@ -213,7 +214,7 @@ where
     }
 }
 
-/// What a reading of these files comes to. If it isn't known which database was there at a commit, a note says why.
+/// How a reading of these files ends. If a commit isn't known, a note explains why.
 fn read_from<R: Files + AllocGlobal + Clock, O: Write, E: Write>(
     rt: &R,
     reading: Reading<'_>,
@@ -239,8 +240,8 @@ where
     answer
 }
 
-/// What a reading of these files comes to that is printed once more: what was given before is passed over. Refused by
-/// `FileChanged` where it doesn't begin with that.
+/// How a reading of these files ends that is printed once more: what was given before is skipped. Refused by
+/// `FileChanged` if it doesn't begin with that.
 fn read_again<R: Files + AllocGlobal + Clock, O: Write, E: Write>(
     rt: &R,
     reading: Reading<'_>,
@@ -260,8 +261,8 @@ where
     again.settled(answer)
 }
 
-/// What a reading comes to of files whose database file locks keep as it is. Once its journal was changed, that file
-/// alone is read from its beginning, and what was printed before is passed over: the journal's writer never wrote that
+/// How a reading ends of files whose database file is kept unchanged by locks. Once its journal was changed, that file
+/// alone is read from its beginning, and what was printed before is skipped: the journal's writer never wrote that
 /// file, so both are the same database.
 fn read_journaled<R: Files + AllocGlobal + Clock, O: Write, E: Write>(
     rt: &R,
@@ -276,22 +277,25 @@ where
     ensures { IsReadTwice (opened_bytes R.File.bytes)
         (GivesBytes R.File.bytes R.File.keeps_word R.File.never_fails) reading.entry source.entry result }
 {
-    match before_of(rt, &source.paths, source.watch, true, notes) {
+    match before_of(rt, &source.paths, source.watch, false, notes) {
         Ok(before) => {
             let mut same = WhileSame::new(rt, &source.paths, before, &mut *out);
             let answer = read_from(rt, reading, &source, &mut same, notes);
-            let given = same.given_of(&answer);
+            let ended = same.ended(&answer);
             drop(same);
-            match given {
-                Some(given) => read_again(rt, reading, &alone(source), given, out, notes),
-                None => answer,
+            match ended {
+                Ended::Same => answer,
+                Ended::Changed(given) => {
+                    read_again(rt, reading, &alone(source), given, out, notes)
+                }
+                Ended::Unseen => Err(ShowError::Refused(Refusal::FileFailed)),
             }
         }
         Err(refusal) => Err(ShowError::Refused(refusal)),
     }
 }
 
-/// What a reading comes to under these locks.
+/// How a reading ends under these locks.
 fn read_once<R: Files + AllocGlobal + Clock, O: Write, E: Write>(
     rt: &R,
     asked: &Read<'_>,

@@ -15,10 +15,12 @@ use Rattle.sqrescue_c.specs.Statuses.{judge_status}
 use Rattle.sqview.specs.LogView.{pages_of}
 use Rattle.sqview.specs.declared.view.View.{View}
 use Rattle.sqview.proofs.openings.PagesOfView.{length_laid}
+use Rattle.sqpast.specs.declared.used.Counts.{Counts}
+use Rattle.sqdeepjudge.specs.Counted.{FindsExcess}
 use Rattle.sqdeepjudge.specs.Missing.{FindsCut, IsMissing, IsMissingOf, cut_of}
 use Rattle.sqdeepjudge.proofs.MissingPages.{least_same}
-use Rattle.sqrescue_c.specs.Asked.{HasPage, ShowsAsked, AskedRefused, is_complete}
-use Rattle.sqrescue_c.specs.Deeps.{IsAskedDeep, IsWholeOrCut, AreDeepUnjudged, deep_status}
+use Rattle.sqrescue_c.specs.Asked.{AreAskedCounts, HasPage, ShowsAsked, AskedRefused, is_complete}
+use Rattle.sqrescue_c.specs.Deeps.{IsAskedDeep, IsCounted, IsWholeOrCut, AreDeepUnjudged, deep_status}
 use Rattle.sqrescue_c.specs.internal.Missing.{AreMissing}
 use Rattle.sqrescue_c.proofs.ReportedFindings.{view_refused}
 
@@ -34,9 +36,10 @@ no_other_status flags verdict n is two other = one_of_three (is_damaged verdict)
 -- what is found of the database that is asked for
 module _ (flags m : ℕ) (db wal journal : List ℕ) where
   module _ (size : ℕ) (d : Database) (shown : ShowsAsked flags m size db wal journal d) where
-    pub asked : (r : Result DeepVerdict JudgeError) → IfOk r (FindsDeep true d size) → IfOk r (IsWholeOrCut flags m size db wal journal d) → IfOk r (IsAskedDeep flags m db wal journal)
-    asked (Ok verdict) finds cut = inl (size, d, shown, finds, cut)
-    asked (Err e) finds cut = tt
+    pub asked : (r : Result DeepVerdict JudgeError) → IfOk r (FindsDeep true d size) → IfOk r (IsWholeOrCut flags m size db wal journal d) → IfOk r (IsCounted flags m db wal journal)
+        → IfOk r (IsAskedDeep flags m db wal journal)
+    asked (Ok verdict) finds cut counted = inl (size, d, shown, finds, cut, counted)
+    asked (Err e) finds cut counted = tt
 
     pub unjudged : (r : Result DeepVerdict JudgeError) → IfErr r (IsUnjudgedWith true d)
         → IfErr r (λ e. AreDeepUnjudged flags m db wal journal (judge_status e))
@@ -57,6 +60,11 @@ module _ (flags m : ℕ) (db wal journal : List ℕ) where
       (least_same (IsMissingOf v long) (IsMissing (HasPage flags m v.page_size wal journal) v.page_size long) (length (pages_of bytes v)) (cut_of verdict)
       (λ p one le. are long p one (let n = length_laid v.page_size v.count (bytes v.db) (bytes v.log) v.places.items in omega (arith, n, le))) finds)
   cut_asked bytes v long (Err e) are is finds = tt
+
+  -- what its header counts
+  pub counted_asked : (counts : Counts) (r : Result DeepVerdict JudgeError) → AreAskedCounts flags m db wal journal counts → IfOk r (FindsExcess counts) → IfOk r (IsCounted flags m db wal journal)
+  counted_asked counts (Ok verdict) are finds = (counts, are, finds)
+  counted_asked counts (Err e) are finds = tt
 
   pub without : (e : ViewError) → AskedRefused flags m db wal journal (Refused e) → IfOk (deep_without e) (IsAskedDeep flags m db wal journal)
   without (Header fault) refused = inr (fault, refl, refused)

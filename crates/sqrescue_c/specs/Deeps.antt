@@ -9,14 +9,16 @@ use Rattle.sqindex.specs.IndexFaults as indexes
 use Rattle.sqindex.specs.RowFaults as tables
 use Rattle.sqview.specs.declared.view_error.ViewError.TheVariants.{Header}
 use Rattle.sqpast.specs.declared.past_error.PastError.TheVariants.{Refused}
+use Rattle.sqpast.specs.declared.used.Counts.{Counts}
+use Rattle.sqdeepjudge.specs.Counted.{FindsExcess}
 use Rattle.sqdeepjudge.specs.Missing.{FindsCut, IsMissing}
 use Rattle.sqdeepjudge.specs.Verdicts.{FindsDeep, is_damaged, is_in_part}
-use Rattle.sqdeepjudge.specs.declared.verdict.Damage.TheVariants.{Cut, Check, Inner, Schema, Content, Row}
+use Rattle.sqdeepjudge.specs.declared.verdict.Damage.TheVariants.{Cut, Excess, Check, Inner, Schema, Content, Row}
 use Rattle.sqdeepjudge.specs.declared.verdict.DeepVerdict.{DeepVerdict}
 use Rattle.sqdeepjudge.specs.declared.verdict.Unjudged.{Unjudged}
 use Rattle.sqdeepjudge.specs.declared.verdict.DeepVerdict.TheVariants.{Clean, Sound, Damaged}
 use Rattle.sqcheck.specs.declared.report.Report.{Report}
-use Rattle.sqrescue_c.specs.Asked.{HasPage, ShowsAsked, AskedRefused, is_complete}
+use Rattle.sqrescue_c.specs.Asked.{AreAskedCounts, HasPage, ShowsAsked, AskedRefused, is_complete}
 use Rattle.sqrescue_c.specs.Checks.{IsViewRefused}
 use Rattle.sqrescue_c.specs.declared.deep.DeepAnswer.{DeepAnswer}
 use Rattle.sqrescue_c.specs.declared.deep.DeepReport.{DeepReport}
@@ -66,6 +68,7 @@ abbrev pub deep_report : DeepVerdict → DeepReport
 deep_report (Clean r) = counts_of r 0 0 0
 deep_report (Sound r schema unjudged) = counts_of r (length unjudged.indexes.items) (length unjudged.tables.items) (length schema.asides.items)
 deep_report (Damaged (Cut p)) = fault_at 36 1 p 0 0
+deep_report (Damaged (Excess n)) = fault_at 37 1 1 0 0
 deep_report (Damaged (Check e)) = fault_at (number_of e.fault) 1 e.page 0 0
 deep_report (Damaged (Inner e)) = inner_at (inner.number_of e.fault) e.page e.cell
 deep_report (Damaged (Schema e)) = fault_at (schemas.number_of e.fault) 4 0 0 e.row
@@ -85,12 +88,17 @@ AreRowsToldOf _ rows = Unit {0}
 abbrev pub IsWholeOrCut : (flags m size : ℕ) (db wal journal : List ℕ) → Database → DeepVerdict → Type 0
 IsWholeOrCut flags m size db wal journal d verdict = FindsCut (IsMissing (HasPage flags m size wal journal) size (length db)) (length d) verdict
 
+-- A header that counts more pages than the database has by its log is the fault, if no page is missing, and no other fault is found
+-- but one that comes first.
+abbrev pub IsCounted : (flags m : ℕ) (db wal journal : List ℕ) → DeepVerdict → Type 0
+IsCounted flags m db wal journal verdict = (counts : Counts) × AreAskedCounts flags m db wal journal counts × FindsExcess counts verdict
+
 -- What is found of the database that flags ask for, with its pointer maps, where there are some; or the fault of a header that
 -- names none.
 abbrev pub IsAskedDeep : (flags m : ℕ) (db wal journal : List ℕ) → DeepVerdict → Type 0
 IsAskedDeep flags m db wal journal verdict =
     ((size : ℕ) × (d : Database) × ShowsAsked flags m size db wal journal d × FindsDeep true d size verdict
-    × IsWholeOrCut flags m size db wal journal d verdict)
+    × IsWholeOrCut flags m size db wal journal d verdict × IsCounted flags m db wal journal verdict)
     ⊎ ((fault : Fault) × (verdict ≡ Damaged (Check (record { page = 1; fault = fault }))) × AskedRefused flags m db wal journal (Refused (Header fault)))
 
 -- The status of a verdict: 1 of a damaged database; 31 of a sound one where all is to be judged, and something that has to be

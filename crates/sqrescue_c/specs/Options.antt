@@ -1,5 +1,5 @@
 -- How a path is opened, as a caller says it (own).
-use Rattle.std.specs.Prelude.{◌≡◌, ℕ, ◌+◌, ◌<◌, ◌≤◌, nat_lt, cond, List, length, get_or}
+use Rattle.std.specs.Prelude.{◌≡◌, ℕ, ◌+◌, ◌/◌, ◌%◌, ◌<◌, ◌≤◌, nat_lt, cond, List, length, get_or}
 use Rattle.byteorder.specs.Endian.{little_number}
 use Rattle.sqval.specs.Bytes.{part}
 use Rattle.sqrescue_c.specs.declared.options.Asked.{Asked}
@@ -10,7 +10,8 @@ IsZeros options from = (i : ℕ) → from ≤ i → i < length options → get_o
 
 -- this version knows the flags, and the options that aren't zero
 pub record AreKnown (flags : ℕ) (options : List ℕ) : Type 0 where
-  pub low : flags < 8
+  pub low : flags < 128
+  pub not_complete : flags / 32 % 2 ≡ 0
   pub zeros : IsZeros options 16
 
 -- the option of 4 bytes at a place; the usual one where the options end before

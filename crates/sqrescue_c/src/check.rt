@@ -112,8 +112,8 @@ fn report_asked(
 }
 
 /// Whether the database that files show is well formed, by the pages that SQLite uses. Answers Done with its counts, or
-/// Damaged with a fault that stands, which a header that names no database is too; otherwise TwoLogs, TooLarge or
-/// AutoVacuum, in this order, or NoMemory in place of any, and then leaves the report as it is (fileformat2, 1 to 4).
+/// Damaged with a fault that it has, which a header that names no database is too; otherwise TwoLogs, TooLarge or
+/// AutoVacuum, in this order, or NoMemory in place of any, and then leaves the report unchanged (fileformat2, 1 to 4).
 #[unsafe(no_mangle)]
 pub extern "C" fn sqr_check(alloc: Global, files: &Files<'_>, report: &mut CheckReport) -> u32
     ensures clean { result ≡ 0 → SaysClean

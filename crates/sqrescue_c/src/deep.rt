@@ -8,17 +8,20 @@ ghost use Rattle.sqrescue_c.specs.Deeps.{IsDeepAnswerAll, ill_formed_of, left_of
 ghost use Rattle.sqrescue_c.specs.Deeps.{counts_of, deep_report, deep_status, fault_at, inner_at, rows_of};
 ghost use Rattle.sqrescue_c.specs.internal.Statuses.{number_of};
 
-use crate::asked::{UNKNOWN_OPTIONS, are_known_deep, is_complete, view_asked};
+use crate::asked::{UNKNOWN_OPTIONS, Used, are_known_deep, is_complete, used_asked};
 use crate::status::{Status, with_status};
 use crate::view::Files;
 use sqcheck::{Options, Report};
 use sqdeep::InnerError;
-use sqdeepjudge::{Damage, DeepVerdict, Unjudged, deep_without, judge_deep};
+use sqdeepjudge::{Damage, DeepVerdict, Lengths, Unjudged, deep_without, judge_deep};
 use sqpast::PastError;
 use std::alloc::Global;
 
 /// The fault of a page that is missing.
 const FILE_CUT: u8 = 36;
+
+/// The fault of a header that counts more pages than there are.
+const PAGE_COUNT: u8 = 37;
 
 /// A fault names a page.
 const PAGE: u32 = 1;
@@ -142,6 +145,7 @@ fn deep_report(verdict: &DeepVerdict) -> DeepReport
             sound_counts(report, unjudged, schema.asides.len())
         }
         DeepVerdict::Damaged(Damage::Cut(page)) => fault_at(FILE_CUT, PAGE, *page, 0, 0),
+        DeepVerdict::Damaged(Damage::Excess(_)) => fault_at(PAGE_COUNT, PAGE, 1, 0, 0),
         DeepVerdict::Damaged(Damage::Check(error)) => {
             fault_at(error.fault.number(), PAGE, error.page, 0, 0)
         }
@@ -227,8 +231,11 @@ fn judge_deep_asked(
 {
     let maps = Options { pointer_maps: true };
     let long = length_of(files);
-    match view_asked(alloc, files, flags, frame) {
-        Ok(mut view) => with_status(judge_deep(alloc, &mut view, long, maps)),
+    match used_asked(alloc, files, flags, frame) {
+        Ok(used) => {
+            let Used { mut view, counts } = used;
+            with_status(judge_deep(alloc, &mut view, Lengths { long, counts }, maps))
+        }
         Err(PastError::Refused(error)) => with_status(deep_without(error)),
         Err(PastError::CommitOverwritten) => Err(Status::CommitOverwritten),
     }
@@ -237,10 +244,10 @@ fn judge_deep_asked(
 /// Whether the database that flags ask for, as for `sqr_check_with`, is well formed, and its records, its schema, its
 /// indexes and its tables are sound, with its pointer maps, where it has some. Answers Done with its counts, and the
 /// rows of the schema, from 0, of the indexes and then of the tables that aren't judged at the front of an array, as
-/// many as there is room for; with flag 32 NotJudged, and the same, if anything isn't judged but bodies of views and
-/// triggers; or Damaged with a fault that stands; otherwise TwoLogs, TooLarge, NoSuchCommit or CommitOverwritten, in
-/// this order, or NoMemory in place of any, or 24 where a flag is another one, and then leaves the report as it is
-/// (fileformat2, 1 to 4).
+/// many as there is room for; with flag 32 NotJudged, and the same, if anything isn't judged except bodies of views and
+/// triggers; or Damaged with a fault that it has; otherwise TwoLogs, TooLarge, NoSuchCommit or CommitOverwritten, in
+/// this order, or NoMemory in place of any, or 24 for another flag, and then leaves the report unchanged (fileformat2,
+/// 1 to 4).
 #[unsafe(no_mangle)]
 pub extern "C" fn sqr_check_deep(
     alloc: Global,
@@ -303,10 +310,9 @@ fn status_of(flags: u32, verdict: &DeepVerdict) -> Status
     }
 }
 
-/// The same as `sqr_check_deep`, and with Done or NotJudged how many things it doesn't judge, 0 only if all is judged:
-/// indexes, also partial ones, tables, CHECKs, foreign keys, views, triggers and virtual tables; and how many cells
-/// have a text that isn't one in the database's encoding. With Damaged both are 0. Otherwise the answer and the rows
-/// stay as they are.
+/// As `sqr_check_deep`, and with Done or NotJudged how many things it doesn't judge, 0 only if all is judged: indexes,
+/// also partial ones, tables, CHECKs, foreign keys, views, triggers and virtual tables; and how many cells have a text
+/// that isn't one in the database's encoding. With Damaged both are 0. Otherwise the answer and the rows don't change.
 #[unsafe(no_mangle)]
 pub extern "C" fn sqr_check_deep_all(
     alloc: Global,

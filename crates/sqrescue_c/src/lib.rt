@@ -15,5 +15,6 @@ mod plan;
 mod refusals;
 mod roles;
 mod status;
+mod supers;
 mod view;
 mod wal;

@@ -4,8 +4,11 @@ ghost use Rattle.sqrescue_c.specs.Options.{AreKnown, AreAsked, option_at, IsZero
 
 use byteorder::{ByteOrder, LittleEndian};
 
-/// The flags that this version knows are the bits below this one.
-const FLAGS_END: u32 = 8;
+/// The flags that this version knows are the bits below this one, except the next.
+const FLAGS_END: u32 = 128;
+
+/// A flag of deep checks alone.
+const COMPLETE: u32 = 32;
 
 /// What is answered where they don't: 0 where they do.
 const UNKNOWN_OPTIONS: u32 = 24;
@@ -59,7 +62,7 @@ pub extern "C" fn sqr_options_read(flags: u32, options: &[u8], out: &mut Asked) 
     ensures refused { result ≢ 0 → result ≡ 24 }
     ensures kept { result ≢ 0 → out.new ≡ out.old }
 {
-    if flags >= FLAGS_END || !is_zeros(options, END) {
+    if flags >= FLAGS_END || flags / COMPLETE % 2 != 0 || !is_zeros(options, END) {
         return UNKNOWN_OPTIONS;
     }
     *out = Asked {

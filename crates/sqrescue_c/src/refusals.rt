@@ -17,7 +17,7 @@ use sqwal::{WalFormatError, WalHeader};
 use std::alloc::Global;
 
 /// Whether a journal ends as one that names a super-journal.
-fn names_super_journal(journal: &[u8]) -> bool
+pub(crate) fn names_super_journal(journal: &[u8]) -> bool
     ensures { IsTrue result ↔ EndsWithMagic journal.now }
 {
     if journal.len() < 8 {

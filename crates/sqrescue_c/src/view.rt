@@ -100,12 +100,12 @@ pub(crate) fn hand_over<'a>(
         × (length places.old < length view.now.places.items)) }
     ensures kept { IfErr result (λ _. out.new ≡ out.old) }
 {
-    let found = view.places();
-    if found.len() > places.len() {
+    let count = view.place_count();
+    if count > places.len() {
         return Err(Status::NoRoom);
     }
-    let (kept, _) = places.split_at_mut(found.len());
-    kept.copy_from_slice(found);
+    let (kept, _) = places.split_at_mut(count);
+    view.copy_places(kept);
     *out = Handle {
         db: *view.file(),
         log: *view.log(),

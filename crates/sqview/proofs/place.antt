@@ -2,3 +2,5 @@
 pub mod PlacesOfLastRecords
 pub mod PlacesOfLastFrames
 pub mod FrameOfPlace
+pub mod FewPlaces
+pub mod TableOfPlaces

@@ -11,6 +11,7 @@ use Rattle.sqpage.specs.Header.{HasMagic, HasPageSize, size_named}
 use Rattle.sqpage.specs.declared.fault.Fault.TheVariants as faults
 use Rattle.sqview.specs.LogView.{head_of, own_pages, IsOwn, IsLogged, IsAlone, Views, pages_of}
 use Rattle.sqview.specs.Logs.{AreTwoLogs}
+use Rattle.sqview.specs.Places.{most_kept}
 use Rattle.sqview.specs.Origins.{AreFramePlaces}
 use Rattle.sqview.specs.declared.view.View.{View}
 use Rattle.sqview.specs.declared.view_error.ViewError.{ViewError}
@@ -74,6 +75,7 @@ pub record IsShownAtWithin {F : Type 0} (limits : Bounds) (bytes : F → List �
   pub unplaced : m ≡ 0 → v.places.items ≡ []
   pub placed : 1 ≤ m → length v.places.items ≡ v.count
   pub framed : 1 ≤ m → AreFramePlaces v.page_size wal m v.count v.places.items
+  pub few : v.places.kept ≤ most_kept v.page_size (bytes v.log)
 
 abbrev pub AtAnswerWithin : {F : Type 0} → (limits : Bounds) (bytes : F → List ℕ) (m : ℕ) (db wal journal : List ℕ) → Result (View F) ViewError → Type 0
 AtAnswerWithin limits bytes m db wal journal (Ok v) = IsShownAtWithin limits bytes m db wal journal v

@@ -1,4 +1,5 @@
 pub mod Laid
+pub mod Places
 pub mod Origins
 pub mod Logs
 pub mod LogView

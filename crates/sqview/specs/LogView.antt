@@ -13,6 +13,7 @@ use Rattle.sqpage.specs.Header.{HasMagic, HasPageSize, size_named}
 use Rattle.sqpage.specs.declared.fault.Fault.TheVariants as faults
 use Rattle.sqview.specs.Laid.{laid}
 use Rattle.sqview.specs.Logs.{AreTwoLogs}
+use Rattle.sqview.specs.Places.{most_kept}
 use Rattle.sqview.specs.Origins.{AreFramePlaces, AreJournalPlaces}
 use Rattle.sqview.specs.declared.view.View.{View}
 use Rattle.sqview.specs.declared.view_error.ViewError.{ViewError}
@@ -103,6 +104,7 @@ pub record IsShownWithin {F : Type 0} (limits : Bounds) (bytes : F → List ℕ)
   pub placed : (¬ IsAlone wal journal) → length v.places.items ≡ v.count
   pub framed : 1 ≤ v.front → AreFramePlaces v.page_size wal v.front v.count v.places.items
   pub recorded : IsHot journal → AreJournalPlaces journal v.count v.places.items
+  pub few : v.places.kept ≤ most_kept v.page_size (bytes v.log)
 
 abbrev pub ViewAnswerWithin : {F : Type 0} → (limits : Bounds) (bytes : F → List ℕ) (db wal journal : List ℕ) → Result (View F) ViewError → Type 0
 ViewAnswerWithin limits bytes db wal journal (Ok v) = IsShownWithin limits bytes db wal journal v

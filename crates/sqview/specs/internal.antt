@@ -1,5 +1,6 @@
 -- What no public clause reaches.
 pub mod Laid
+pub mod Places
 pub mod LogView
 pub mod At
 pub mod ViewParts

@@ -7,6 +7,7 @@ mod file_bytes;
 mod file_head;
 mod judge_error;
 mod logs;
+mod place_table;
 mod places;
 mod read_ahead;
 mod survey;

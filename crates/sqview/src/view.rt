@@ -11,13 +11,14 @@ mod opening;
 mod origin;
 
 use crate::file_bytes::FileBytes;
+use crate::place_table::Places;
 pub use at_commit::front_is_shown;
 pub use origin::Origin;
 use sqpage::{PageSource, SourceError};
 use sqval::PageSize;
 
-/// The pages of a database file as the log beside it has them. Each is read where it lies, and 8 bytes are kept for
-/// each page where a log counts.
+/// The pages of a database file as the log beside it has them. Each is read where it lies. Beside a log that counts
+/// some bytes are kept for each of its frames or records that name a page, whatever number of pages it claims.
 #[derive(Drop)]
 pub struct View<F> {
     db: F,
@@ -28,7 +29,7 @@ pub struct View<F> {
     /// The frame of the log at which the view stands, or 0.
     front: u32,
     /// By page: where its bytes begin in the log. 0, or none, where the file's count.
-    places: Vec<u64>,
+    places: Places,
 }
 
 impl<F> View<F> {
@@ -53,12 +54,27 @@ impl<F> View<F> {
         &self.log
     }
 
-    /// By page, from 1: where its bytes begin in the log, in bytes; 0 where the file's count. None where no log counts
-    /// (own).
-    pub fn places(&self) -> &[u64]
-        ensures { result.now ≡ self.now.places.items }
+    /// How many pages have a place: all where a log counts, otherwise none (own).
+    pub fn place_count(&self) -> usize
+        ensures { result ≡ length self.now.places.items }
     {
-        &self.places
+        self.places.len()
+    }
+
+    /// Where page `p` begins in the log, in bytes; 0 where the file's counts (own).
+    pub fn place(&self, p: u32) -> u64
+        requires { 0 < p }
+        ensures { result ≡ place_of self.now.places.items p }
+    {
+        self.places.get(p)
+    }
+
+    /// The places of all pages, the first one first (own).
+    pub fn copy_places(&self, out: &mut [u64])
+        requires { length out.old ≡ length self.now.places.items }
+        ensures { out.new ≡ self.now.places.items }
+    {
+        self.places.copy_to(out);
     }
 
     /// Leaves the first pages alone (own).
@@ -70,15 +86,7 @@ impl<F> View<F> {
         ensures files { (self.new.db ≡ self.old.db) × (self.new.log ≡ self.old.log) }
     {
         self.count = count;
-        self.places.truncate(count as usize);
-    }
-
-    /// Where page `p` begins in the log, 0 where the file's counts.
-    fn place(&self, p: u32) -> u64
-        requires { 0 < p }
-        ensures { result ≡ place_of self.now.places.items p }
-    {
-        self.places.get(p as usize - 1).copied().unwrap_or(0)
+        self.places.shorten(count);
     }
 }
 

@@ -1,16 +1,17 @@
 //! What a deep check of files finds, and how it is printed.
-use crate::deep_tests::file_with;
+use crate::deep_tests::{file_with, put};
 use cli_facts::Refusal;
 use cli_show::Asked;
 use cli_show_deep::{DeepFinding, judged_as, write_found};
 use cli_words::{Commit, Style};
 use sqcheck::Options as Maps;
 use sqdeep::InnerFault;
-use sqdeepjudge::{Damage, DeepVerdict, Kind, judge_deep, objects_of, things_of};
+use sqdeepjudge::{Damage, DeepVerdict, Kind, Lengths, judge_deep, objects_of, things_of};
+use sqpast::leave_used;
 use sqschema::{ObjectError, SchemaFault};
 use sqval::Limits;
 use sqview::{JudgeError, Verdict, View};
-use std::alloc::Global;
+use std::alloc::{AllocError, Global};
 use std::test::Fail;
 
 /// What is asked: the database as its log has it.
@@ -20,10 +21,21 @@ const ASKED: Asked = Asked {
     maps: Maps::PLAIN,
 };
 
+/// What is told of a file beside a journal.
+fn told_beside(
+    alloc: Global,
+    deep: bool,
+    file: &[u8],
+    journal: &[u8],
+) -> Result<DeepFinding, Refusal> {
+    let none = [].as_slice();
+    judged_as(alloc, ASKED, deep, file, none, journal)
+}
+
 /// What is told of a file without logs.
 fn told(alloc: Global, deep: bool, file: &[u8]) -> Result<DeepFinding, Refusal> {
     let none = [].as_slice();
-    judged_as(alloc, ASKED, deep, file, none, none)
+    told_beside(alloc, deep, file, none)
 }
 
 /// What is found of it.
@@ -34,14 +46,19 @@ fn found(alloc: Global, deep: bool, file: &[u8]) -> Result<DeepVerdict, Refusal>
     }
 }
 
-/// The line of that.
-fn line(alloc: Global, style: Style, deep: bool, file: &[u8]) -> Option<Vec<u8>> {
-    let found = told(alloc, deep, file).ok()?;
+/// The line of what is told.
+fn printed(alloc: Global, style: Style, told: Result<DeepFinding, Refusal>) -> Option<Vec<u8>> {
+    let found = told.ok()?;
     let mut out = Vec::new(alloc);
     match write_found(&mut out, style, &found.verdict, found.missing) {
         Ok(()) => Some(out),
         Err(_) => None,
     }
+}
+
+/// The line of a file without logs.
+fn line(alloc: Global, style: Style, deep: bool, file: &[u8]) -> Option<Vec<u8>> {
+    printed(alloc, style, told(alloc, deep, file))
 }
 
 /// Whether a line was printed, and is this one.
@@ -56,7 +73,13 @@ fn is_line(line: Option<Vec<u8>>, wanted: &[u8]) -> bool {
 fn viewed(alloc: Global, file: &[u8]) -> Result<DeepVerdict, JudgeError> {
     let none = [].as_slice();
     match View::new(alloc, file, none, none) {
-        Ok(mut view) => judge_deep(alloc, &mut view, file.len() as u64, Maps::PLAIN),
+        Ok(mut view) => match leave_used(alloc, &mut view) {
+            Ok(counts) => {
+                let long = file.len() as u64;
+                judge_deep(alloc, &mut view, Lengths { long, counts }, Maps::PLAIN)
+            }
+            Err(_) => Err(JudgeError::Unread),
+        },
         Err(_) => Err(JudgeError::Unread),
     }
 }
@@ -82,6 +105,43 @@ fn lines_of_files(rt: HostRuntime) -> Result<(), Fail> {
         b"{\"check\":\"clean\",\"pages\":2,\"trees\":2,\"b-tree\":2,\"overflow\":0,\"free\":0,\"missing\":2}\n";
     assert!(rt; is_line(line(alloc, Style::Json, false, &cut), missing));
     assert!(rt; is_line(line(alloc, Style::Lines, false, &cut), clean));
+    Ok(())
+}
+
+/// A hot journal without records, of a database of so many pages of 512 bytes.
+fn journal_of(alloc: Global, pages: u8) -> Result<Vec<u8>, AllocError> {
+    let mut journal = vec![in alloc; 0; 512]?;
+    put(
+        &mut journal,
+        0,
+        &[0xd9, 0xd5, 5, 0xf9, 0x20, 0xa1, 0x63, 0xd7],
+    );
+    put(&mut journal, 16, &[0, 0, 0, pages, 0, 0, 2, 0, 0, 0, 2]);
+    Ok(journal)
+}
+
+#[test]
+fn a_header_that_counts_too_many(rt: HostRuntime) -> Result<(), Fail> {
+    let alloc = rt.alloc();
+    let file = file_with(alloc, 2, &[])?;
+    let journal = journal_of(alloc, 1)?;
+    let found = told_beside(alloc, true, &file, &journal);
+    let fault = b"page 1: fault 37 PageCount\n";
+    assert!(rt; is_line(printed(alloc, Style::Lines, found), fault));
+    let found = told_beside(alloc, true, &file, &journal);
+    let fault = b"{\"page\":1,\"fault\":37,\"name\":\"PageCount\"}\n";
+    assert!(rt; is_line(printed(alloc, Style::Json, found), fault));
+    let longer = journal_of(alloc, 2)?;
+    match told_beside(alloc, true, &file, &longer) {
+        Ok(found) => assert!(rt; matches!(found.verdict, DeepVerdict::Sound(_, _, _))),
+        Err(_) => assert!(rt; false),
+    }
+    // A count that isn't valid is none, and then page 2 is one that the tree names and there isn't.
+    let other = file_with(alloc, 2, &[(95, &[5])])?;
+    match told_beside(alloc, true, &other, &journal) {
+        Ok(found) => assert!(rt; matches!(found.verdict, DeepVerdict::Damaged(Damage::Check(_)))),
+        Err(_) => assert!(rt; false),
+    }
     Ok(())
 }
 

@@ -1,4 +1,4 @@
-//! The indexes that sqlite3 3.40.1 makes of tables and of CREATE INDEX, as PRAGMA index_list and index_xinfo tell.
+//! The indexes that sqlite3 3.40.1 creates for tables and CREATE INDEX, by PRAGMA index_list and index_xinfo.
 use schema_columns::name_at;
 use schema_index::{
     IndexText, KeyColumn, automatic_indexes, collation_name, index_name, index_terms, read_index,
@@ -8,7 +8,7 @@ use schema_tokens::text_of;
 use std::alloc::{AllocError, Global};
 use std::test::Fail;
 
-/// Of each table its automatic indexes: a column's number, its collation, DESC.
+/// For each table its automatic indexes: a column's number, its collation, DESC.
 static AUTOMATIC: [(&[u8], &[u8]); 11] = [
     (b"CREATE TABLE t(a)", b""),
     (
@@ -50,7 +50,7 @@ static AUTOMATIC: [(&[u8], &[u8]); 11] = [
     (b"CREATE TABLE t(a UNIQUE PRIMARY KEY)", b"0 BINARY,;"),
 ];
 
-/// Of each index its table, and its terms: a column in small letters, its collation, DESC. Then u of UNIQUE, w of
+/// For each index its table, and its terms: a column in small letters, its collation, DESC. Then u of UNIQUE, w of
 /// WHERE.
 static INDEXES: [(&[u8], &[u8]); 9] = [
     (b"CREATE INDEX i ON t(a)", b"t:a BINARY,"),

@@ -1,5 +1,5 @@
 //! Tests of the readers of CREATE texts, by their public calls: texts whose tokens SQLite's documents give, and texts
-//! that do harm in a script as they are; tables and indexes, as sqlite3 reads them.
+//! that do harm in a script if they aren't changed; tables and indexes, as sqlite3 reads them.
 #![tactic(auto)]
 
 #[cfg(test)]

@@ -1,5 +1,5 @@
-//! Texts of tables, and what sqlite3 3.40.1 makes of each: PRAGMA table_xinfo and table_list; the affinities are those
-//! of CREATE TABLE AS SELECT, the collations those of an index of the column.
+//! Texts of tables, and how sqlite3 3.40.1 reads them: PRAGMA table_xinfo and table_list, the affinities by CREATE
+//! TABLE AS SELECT, the collations by an index of the column.
 use schema_columns::{
     Affinity, Column, affinity_in, columns_of, is_stored, is_strict, is_without_rowid, name_at,
     rowid_of, type_of, written_default, written_type,
@@ -9,7 +9,7 @@ use schema_tokens::text_of;
 use std::alloc::{AllocError, Global};
 use std::test::Fail;
 
-/// Of each text its columns: a name, a type and the first letter of its affinity. Then ! after NOT NULL (a key's
+/// For each text its columns: a name, a type and the first letter of its affinity. Then ! after NOT NULL (a key's
 /// aside), = and a default, ~ and a collation, * if it is virtual, + if it is stored. At the end are @ and the column
 /// that is the rowid, w of WITHOUT ROWID, s of STRICT.
 static TABLES: [(&[u8], &[u8]); 33] = [

@@ -64,9 +64,36 @@ fn views_at_commits(rt: HostRuntime) -> Result<(), Fail> {
     same(&rt, (view.front(), view.count()), (2, 2));
     same(&rt, *view.file(), db);
     same(&rt, *view.log(), wal);
-    same(&rt, view.places(), [56u64, 592].as_slice());
+    let mut places = [1u64; 2];
+    if view.place_count() == places.len() {
+        view.copy_places(&mut places);
+    }
+    same(&rt, places.as_slice(), [56u64, 592].as_slice());
+    same(
+        &rt,
+        (view.place_count(), view.place(2), view.place(3)),
+        (2, 592, 0),
+    );
     let out = copied(alloc, &mut view, b"")?;
     same(&rt, out.as_slice(), [b'b'; 1024].as_slice());
+    Ok(())
+}
+
+// A log of one frame, which names page 300,000 of 2,000,000: that page is too far behind for the list.
+#[test]
+fn views_far_pages(rt: HostRuntime) -> Result<(), Fail> {
+    let alloc = rt.alloc();
+    let log = log(alloc, &[(300_000, 2_000_000)])?;
+    let view = View::new(alloc, [].as_slice(), log.as_slice(), [].as_slice())?;
+    same(
+        &rt,
+        (view.count(), view.place_count()),
+        (2_000_000, 2_000_000),
+    );
+    let places = (view.place(1), view.place(299_999), view.place(300_000));
+    same(&rt, places, (0, 0, 56));
+    let past = (view.place(300_001), view.place(2_000_001));
+    same(&rt, past, (0, 0));
     Ok(())
 }
 

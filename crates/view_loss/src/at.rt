@@ -38,7 +38,7 @@ fn used_pages<F: FileBytes>(alloc: Global, view: &mut View<F>) -> Result<u32, Vi
     Ok(used_count(most, page))
 }
 
-/// The same before the first commit.
+/// Why the database before the first commit isn't known.
 fn loss_before<F: FileBytes + Copy + Drop>(
     alloc: Global,
     files: (F, F),
@@ -63,7 +63,7 @@ fn loss_before<F: FileBytes + Copy + Drop>(
     }
 }
 
-/// The same at a commit.
+/// Why the database at a commit isn't known.
 fn loss_after<F: FileBytes + Copy + Drop>(
     alloc: Global,
     limits: Limits,
@@ -86,10 +86,10 @@ fn loss_after<F: FileBytes + Copy + Drop>(
     page_loss(alloc, files, scan, frame, count as usize)
 }
 
-/// Why it isn't known which database was there at the commit that a frame ends, or at 0; of a file and its log beside a
-/// journal that isn't hot. The scan is the log's. It is the first page that a later frame is copied over, or that may
-/// have been cut away. If no page is, it is the length of the file. None if it is known, as at the front. What is read
-/// is as for `read_table`, and then the frames of that page. Refused by NoMemory, and by what refuses a view there.
+/// Why the database isn't known at the commit that a frame ends, or at 0; for a file and its log, with a journal that
+/// isn't hot. The scan is the log's. It is the first page that a later frame is copied over, or that may have been cut
+/// away. If no page is, it is the length of the file. None if it is known, as at the front. What is read is as for
+/// `read_table`, and then the frames of that page. Refused by NoMemory, and by what refuses a view there.
 pub fn loss_at<F: FileBytes + Copy + Drop>(
     alloc: Global,
     limits: Limits,

@@ -1,4 +1,4 @@
-//! Why it isn't known which database was there at a commit of a write-ahead log (own).
+//! Why the database at a commit of a write-ahead log isn't known (own).
 #![tactic(auto)]
 
 mod at;

@@ -30,7 +30,7 @@ pub enum Loss {
     Lengthened,
 }
 
-/// A database of which something is lost isn't known. It does nothing; its contract is that law.
+/// A database that lost something isn't known. It does nothing; its contract is that law.
 pub fn loss_is_lost()
     ensures { LossIsLost }
 {}
@@ -63,7 +63,7 @@ fn is_copy<F: FileBytes>(
     Ok(*buffer == *bytes)
 }
 
-/// A frame names a page, of which the number and the bytes are given, and has these bytes. They go to the buffer.
+/// A frame names the page with this number, and has these bytes. They go to the buffer.
 fn is_copied_by<F: FileBytes>(
     log: &mut F,
     scan: &Scan,
@@ -93,7 +93,7 @@ fn is_copied_by<F: FileBytes>(
     is_copy(log, place(frame, page_size), bytes, buffer)
 }
 
-/// The first frame that names a page, of which the number and the bytes are given, and has these bytes.
+/// The first frame that names the page with this number, and has these bytes.
 fn copied_from<F: FileBytes>(
     log: &mut F,
     scan: &Scan,

@@ -151,7 +151,7 @@ fn lengthened(zeros: bool) -> Option<Loss>
     if zeros { Some(Loss::Lengthened) } else { None }
 }
 
-/// Why the length of a file before the first commit of its log may be another than it was. None if it is as it was, or
+/// Why the length of a file before the first commit of its log may have been another one. None if it hasn't changed, or
 /// if the header counts its pages.
 pub(crate) fn length_loss<F: FileBytes + Copy + Drop>(
     alloc: Global,

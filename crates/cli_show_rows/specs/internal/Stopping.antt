@@ -1,7 +1,6 @@
 -- What a stop is told for (own).
 use Rattle.std.specs.Prelude.{◌≡◌, ◌<◌, ℕ, List, Option}
 use Rattle.std.specs.Io.KnownBytes.{Appends}
-use Rattle.cli_schema_text.specs.Comments.{count_text}
 use Rattle.sqrows.specs.declared.rows.RowsError.{RowsError}
 use Rattle.sqrows.specs.declared.rows.RowsError.TheVariants as row_errors
 use Rattle.sqrows.specs.declared.payload.PayloadError.TheVariants as payload_errors
@@ -12,11 +11,11 @@ use Rattle.cli_row_text.specs.declared.print.PrintError.TheVariants as print_err
 use Rattle.cli_show_rows.specs.declared.stop.Stop.{Stop}
 use Rattle.cli_show_rows.specs.declared.stop.Stop.TheVariants.{Fault, Record, TooLong, Default, Behind, LeftOut, NoMemory, Write}
 
--- What was left out was counted in a line, or the writer failed.
-abbrev pub IsCounted : (count : ℕ) → Stop → (before after : Option (List ℕ)) → Type 0
-IsCounted count (LeftOut n) before after = (n ≡ count) × (0 < count) × Appends before after (count_text count)
-IsCounted count (Write e) before after = Unit {0}
-IsCounted count _ before after = ⊥
+-- What was left out was counted behind this text, or the writer failed.
+abbrev pub IsCounted : (t : List ℕ) → (count : ℕ) → Stop → (before after : Option (List ℕ)) → Type 0
+IsCounted t count (LeftOut n) before after = (n ≡ count) × (0 < count) × Appends before after t
+IsCounted t count (Write e) before after = Unit {0}
+IsCounted t count _ before after = ⊥
 
 abbrev pub stop_of_row : RowsError → Stop
 stop_of_row (row_errors.Tree e) = Fault e

@@ -1,5 +1,5 @@
 -- What the words of a command line ask for.
-use Rattle.std.specs.Prelude.{◌≡◌, ◌≢◌, ◌⊎◌, ◌↔◌, Bool, false, IsTrue, Option, None, ℕ}
+use Rattle.std.specs.Prelude.{◌≡◌, ◌≢◌, ◌⊎◌, ◌↔◌, Bool, IsTrue, Option, None, ℕ}
 use Rattle.std.specs.Prelude.{List, codes}
 use Rattle.std.specs.Borrow.{Bor}
 use Rattle.std.specs.List.{Contains}
@@ -12,7 +12,7 @@ use Rattle.cli_words.specs.declared.requests.Request.{Request}
 use Rattle.cli_words.specs.declared.requests.Request.TheVariants.{Check, Report, Rows, Cells as TellsCells, Diff, DeletedDiff, Salvage}
 use Rattle.cli_words.specs.declared.requests.RowForm.{RowForm}
 use Rattle.cli_words.specs.declared.words.Own.TheVariants.{Checks, Reports, Prints, Compares, Salvages}
-use Rattle.cli_words.specs.Line.{HasNoText, HasText, AreKnown, AsksCells, AsksCompared, AsksForm, AsksNoCells, AsksNoForm, AsksNoPlaces}
+use Rattle.cli_words.specs.Line.{HasText, AreKnown, AsksCells, AsksCompared, AsksForm, AsksNoPlaces}
 use Rattle.cli_words.specs.Line.{AsksBetween, AsksDeep, AsksNothingCompared, AsksText}
 
 -- the options of `check` say this: which deep check, if any, and what else is asked
@@ -38,11 +38,7 @@ IsPlaced options file o request = (cells : Cells) × AsksCells options cells × 
 -- the options of `rows` say this: which rows or cells, and what else is asked
 abbrev pub IsRows : (options : List (List ℕ)) → (file : Bor (List ℕ)) → Options → Request → Type 0
 IsRows options file o request =
-    AreKnown Prints options × (o.pointer_maps ≡ false) × (IsFormed options file o request ⊎ IsPlaced options file o request)
-
--- they don't
-abbrev pub AskNoRows : (options : List (List ℕ)) → Options → Type 0
-AskNoRows options o = (¬ AreKnown Prints options) ⊎ IsTrue o.pointer_maps ⊎ AsksNoForm options ⊎ AsksNoCells options
+    AreKnown Prints options × (IsFormed options file o request ⊎ IsPlaced options file o request)
 
 -- the options of `diff` ask for changes of rows
 abbrev pub IsCompared : (options : List (List ℕ)) → (file : Bor (List ℕ)) → Options → Request → Type 0
@@ -54,19 +50,15 @@ IsBetween options file o request = (between : Between) × AsksBetween options be
 
 -- the options of `diff` say this: what is compared, and what else is asked
 abbrev pub IsDiff : (options : List (List ℕ)) → (file : Bor (List ℕ)) → Options → Request → Type 0
-IsDiff options file o request = AreKnown Compares options × (o.pointer_maps ≡ false) × (o.at ≡ None)
+IsDiff options file o request = AreKnown Compares options × (o.at ≡ None)
     × (IsCompared options file o request ⊎ IsBetween options file o request)
 
 -- they don't
 abbrev pub AskNoDiff : (options : List (List ℕ)) → Options → Type 0
-AskNoDiff options o = (¬ AreKnown Compares options) ⊎ IsTrue o.pointer_maps ⊎ (o.at ≢ None) ⊎ AsksNothingCompared options
+AskNoDiff options o = (¬ AreKnown Compares options) ⊎ (o.at ≢ None) ⊎ AsksNothingCompared options
 
 -- the options of `salvage` say this: the file that it makes, whether it has places, and what else is asked
 abbrev pub IsSalvage : (options : List (List ℕ)) → (file : Bor (List ℕ)) → Options → Request → Type 0
-IsSalvage options file o request = AreKnown Salvages options × (o.pointer_maps ≡ false)
+IsSalvage options file o request = AreKnown Salvages options
     × ((to : Bor (List ℕ)) × (places : Bool) × HasText (codes "--to") options to.now
     × (IsTrue places ↔ Contains options (codes "--places")) × (request ≡ Salvage file to places o))
-
--- they don't
-abbrev pub AskNoSalvage : (options : List (List ℕ)) → Options → Type 0
-AskNoSalvage options o = (¬ AreKnown Salvages options) ⊎ IsTrue o.pointer_maps ⊎ HasNoText (codes "--to") options

@@ -25,6 +25,8 @@ use Rattle.sqjournal.proofs.read.NextStateOfReading.{front_first, front_names, f
 use Rattle.sqpage.specs.Header.{HasMagic, HasPageSize, size_named}
 use Rattle.sqpage.specs.declared.fault.Fault.TheVariants as faults
 use Rattle.sqview.specs.LogView.{head_of, own_pages, IsLogged, IsAlone, IsTooLongWithin, IsAboveWithin, ViewRefusedWithin, pages_of, IsShownWithin, ViewAnswerWithin, ReadsFrom}
+use Rattle.sqview.specs.Places.{most_kept}
+use Rattle.sqview.specs.internal.Places.{PlaceTable}
 use Rattle.sqview.specs.Logs.{AreTwoLogs, IsRead}
 use Rattle.sqview.specs.Origins.{AreFramePlaces, AreJournalPlaces}
 use Rattle.sqview.specs.internal.ViewParts.{ReplayedAnswer, ScannedAnswer, LimitAnswer, IsUnsized, PlacedAnswer}
@@ -127,8 +129,8 @@ module _ (limits : Bounds) (db wal journal : List ℕ) (alone : IsAlone wal jour
       pub own_magic : (n : ℕ) → LimitAnswer limits.bytes size (own_pages size db) (Ok n) → ¬ HasMagic (head_of db) → ViewRefusedWithin limits db wal journal (Header faults.Magic)
       own_magic n le bad = (short, own_within le.1, alone, bad)
 
-      pub own_shown : {F : Type 0} (bytes : F → List ℕ) (v : View F) → LimitAnswer limits.bytes size (own_pages size db) (Ok v.count) → HasMagic (head_of db) → v.page_size ≡ size → bytes v.db ≡ db → v.places.items ≡ []
-          → v.front ≡ 0 → IsShownWithin limits bytes db wal journal v
+      pub own_shown : {F : Type 0} (bytes : F → List ℕ) (v : View F) → LimitAnswer limits.bytes size (own_pages size db) (Ok v.count) → HasMagic (head_of db) → v.page_size ≡ size → bytes v.db ≡ db
+          → v.places ≡ record { items = []; kept = 0 } → v.front ≡ 0 → IsShownWithin limits bytes db wal journal v
       own_shown bytes v le magic s d none zero = record {
         shows = inr (inr (
           alone,
@@ -137,7 +139,7 @@ module _ (limits : Bounds) (db wal journal : List ℕ) (alone : IsAlone wal jour
             named = s ∙ named;
             count = length_laid v.page_size v.count (bytes v.db) (bytes v.log) v.places.items ∙ le.0 ∙ ap (λ n. own_pages n db) (sym s);
             each = λ p one most. page_laid v.page_size v.count (bytes v.db) (bytes v.log) v.places.items p one (omega (arith, length_laid v.page_size v.count (bytes v.db) (bytes v.log) v.places.items))
-                ∙ laid_own v.page_size (bytes v.db) (bytes v.log) v.places.items p (ap (λ l. get_or l (p - 1) 0) none) ∙ ap (λ l. file_page v.page_size l p) d;
+                ∙ laid_own v.page_size (bytes v.db) (bytes v.log) v.places.items p (ap (λ (t : PlaceTable). get_or t.items (p - 1) 0) none) ∙ ap (λ l. file_page v.page_size l p) d;
           },
         ));
         one = not_two;
@@ -145,10 +147,11 @@ module _ (limits : Bounds) (db wal journal : List ℕ) (alone : IsAlone wal jour
         within = own_within le.1;
         headed = λ _. magic;
         stands = inr (zero, λ m logged. omega (arith, logged.some, front_unique (named_size wal) wal m 0 logged.is alone.none));
-        unplaced = λ _. none;
+        unplaced = λ _. ap (λ (t : PlaceTable). t.items) none;
         placed = λ counts. absurd (counts alone);
         framed = λ some. absurd (omega (arith, zero, some));
         recorded = λ hot. absurd (alone.cold hot);
+        few = let nothing : v.places.kept ≡ 0 = ap (λ (t : PlaceTable). t.kept) none in omega (arith, nothing);
       }
 
 -- ---- A hot journal.
@@ -177,8 +180,8 @@ module _ (limits : Bounds) (db journal : List ℕ) (hot : IsHot journal) where
         (⊎_elim (λ x. x.1.cold hot) (λ x. x.0.cold hot)) above.2
 
     pub restored_shown : {F : Type 0} (bytes : F → List ℕ) (v : View F) → LimitAnswer limits.bytes size count (Ok v.count) → v.page_size ≡ word journal 24 → IsRolledBack db journal (pages_of bytes v) → v.front ≡ 0
-        → AreJournalPlaces journal v.count v.places.items → IsShownWithin limits bytes db [] journal v
-    restored_shown bytes v le e is zero places = record {
+        → AreJournalPlaces journal v.count v.places.items → v.places.kept ≤ most_kept v.page_size (bytes v.log) → IsShownWithin limits bytes db [] journal v
+    restored_shown bytes v le e is zero places few = record {
       shows = inl (hot, e, is, just_one);
       one = just_one;
       short = not_long;
@@ -189,6 +192,7 @@ module _ (limits : Bounds) (db journal : List ℕ) (hot : IsHot journal) where
       placed = λ _. places.long;
       framed = λ some. absurd (omega (arith, zero, some));
       recorded = λ _. places;
+      few = few;
     }
 
 -- ---- A log.
@@ -246,8 +250,8 @@ module _ (limits : Bounds) (db wal journal : List ℕ) (cold : ¬ IsHot journal)
           above.2
 
       pub logged_shown : {F : Type 0} (bytes : F → List ℕ) (v : View F) → LimitAnswer limits.bytes size f.size (Ok v.count) → v.page_size ≡ size → v.front ≡ f.frames → IsView size db wal f.frames (pages_of bytes v)
-          → AreFramePlaces size wal f.frames v.count v.places.items → IsShownWithin limits bytes db wal journal v
-      logged_shown bytes v le e stands view are = record {
+          → AreFramePlaces size wal f.frames v.count v.places.items → v.places.kept ≤ most_kept size (bytes v.log) → IsShownWithin limits bytes db wal journal v
+      logged_shown bytes v le e stands view are few = record {
         shows = inr (inl (f.frames, here, e ∙ sym named, subst (λ (n : ℕ). IsView n db wal f.frames (pages_of bytes v)) (sym e) view));
         one = cold_one;
         short = not_so_long;
@@ -258,9 +262,10 @@ module _ (limits : Bounds) (db wal journal : List ℕ) (cold : ¬ IsHot journal)
         placed = λ _. are.long;
         framed = λ _. subst (λ (n : ℕ). AreFramePlaces n wal v.front v.count v.places.items) (sym e) (subst (λ (m : ℕ). AreFramePlaces size wal m v.count v.places.items) (sym stands) are);
         recorded = λ hot. absurd (cold hot);
+        few = subst (λ (n : ℕ). v.places.kept ≤ most_kept n (bytes v.log)) (sym e) few;
       }
 
       pub placed_logged : {F : Type 0} (bytes : F → List ℕ) (q : Result (View F) ViewError) → PlacedAnswer limits.bytes bytes size f.frames f.size db wal q → ViewAnswerWithin limits bytes db wal journal q
-      placed_logged bytes (Ok v) placed = logged_shown bytes v placed.2 placed.0 placed.1 placed.3 placed.4
+      placed_logged bytes (Ok v) placed = logged_shown bytes v placed.2 placed.0 placed.1 placed.3 placed.4 placed.5
       placed_logged bytes (Err NoMemory) placed = tt
       placed_logged bytes (Err e) placed = logged_limited e placed

@@ -12,6 +12,7 @@ use Rattle.sqjournal.specs.Journal.{IsHot}
 use Rattle.sqpage.specs.declared.fault.Fault.TheVariants as faults
 use Rattle.sqview.specs.At.{IsCommitAt, ViewsAt, IsTooLongAtWithin, IsAboveAtWithin, AtRefusedWithin, AtAnswerWithin}
 use Rattle.sqview.specs.LogView.{IsLogged, IsAlone, IsTooLongWithin, IsAboveWithin, Views, pages_of, ViewAnswerWithin}
+use Rattle.sqview.specs.Places.{most_kept}
 use Rattle.sqview.specs.Logs.{AreTwoLogs, CountsAnswer}
 use Rattle.sqview.specs.Origins.{AreFramePlaces}
 use Rattle.sqview.specs.internal.ViewParts.{ScannedAnswer, PlacedAnswer, CommitFound}
@@ -80,6 +81,7 @@ module _ (limits : Bounds) (db wal journal : List ℕ) (cold : ¬ IsHot journal)
         unplaced = λ zero. absurd (omega arith);
         placed = λ some. placed.4.long;
         framed = λ some. subst (λ (n : ℕ). AreFramePlaces n wal m v.count v.places.items) (sym placed.0) placed.4;
+        few = subst (λ (n : ℕ). v.places.kept ≤ most_kept n (bytes v.log)) (sym placed.0) placed.5;
       }
       placed_at bytes (Err NoMemory) placed = tt
       placed_at bytes (Err TooLarge) more = (cold_one, inr (at_short, (it.page_size, it.size, inr (here, sym named, count_is), more)))
@@ -124,6 +126,7 @@ module _ (limits : Bounds) (db wal journal : List ℕ) (one : ¬ AreTwoLogs wal 
     unplaced = λ _. shown.unplaced (bare limits db).1;
     placed = λ some. absurd (omega arith);
     framed = λ some. absurd (omega arith);
+    few = shown.few;
   }
   own_at bytes (Err TwoLogs) two = absurd (two.1 refl)
   own_at bytes (Err TooLarge) large = (one, inr (short, above_here (⊎_elim (λ long. absurd ((bare limits db).0 long)) (λ above. above.1) large.1)))

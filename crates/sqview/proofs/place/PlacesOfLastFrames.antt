@@ -1,12 +1,12 @@
 -- The places of a log's last frames.
-use Rattle.std.proofs.Common.{◌≡◌, ◌≢◌, inl, inr, ⊎_elim, ℕ, ◌+◌, ◌-◌, ◌*◌, ◌≤◌, cond, true, false, List, length, get_or, refl, sym, ◌∙◌, ap, subst, arith, eq-eqb, ne_eqb}
+use Rattle.std.proofs.Common.{◌≡◌, ◌≢◌, inl, inr, ⊎_elim, ℕ, ◌+◌, ◌-◌, ◌*◌, ◌≤◌, cond, true, false, List, length, refl, sym, ◌∙◌, ap, subst, arith, eq-eqb, ne_eqb}
 use Rattle.std.specs.Prelude.{◌==◌}
 use Rattle.std.proofs.lemmas.Bool.{cases_lt, cases_eq}
 use Rattle.sqwal.specs.Frames.{frame_at, page_of, size_of, IsValidFrame}
 use Rattle.sqwal.specs.View.{IsLast, IsView}
 use Rattle.sqwal.proofs.log.DependenceOnPrefix.{frame_at-end}
 use Rattle.sqview.specs.Laid.{part_or_zeros, place_of, laid}
-use Rattle.sqview.specs.internal.ViewParts.{Noted}
+use Rattle.sqview.specs.internal.Places.{Noted}
 use Rattle.sqview.specs.Origins.{IsFramePlace, AreFramePlaces}
 use Rattle.sqview.proofs.file.FileHeads.{part_is}
 use Rattle.sqview.proofs.openings.PagesOfView.{length_laid, page_laid, laid_own, laid_log}
@@ -15,8 +15,8 @@ pub content_place : (size frame : ℕ) → 32 + (frame - 1) * (24 + size) + 24 �
 unfolding frame_at
 content_place size frame = refl
 
-pub placed_none : (size : ℕ) (w : List ℕ) (count : ℕ) (places : List ℕ) → length places ≡ count → ((i : ℕ) → get_or places i 0 ≡ 0) → AreFramePlaces size w 0 count places
-placed_none size w count places long zeros = record { long = long; each = λ p one le. inl (zeros (p - 1), λ i a b. absurd (omega arith)) }
+pub placed_none : (size : ℕ) (w : List ℕ) (count : ℕ) (places : List ℕ) → length places ≡ count → ((p : ℕ) → place_of places p ≡ 0) → AreFramePlaces size w 0 count places
+placed_none size w count places long zeros = record { long = long; each = λ p one le. inl (zeros p, λ i a b. absurd (omega arith)) }
 
 module _ (size : ℕ) (w : List ℕ) (m p : ℕ) (other : page_of size w (m + 1) ≢ p) where
   not_named : (i : ℕ) → i ≡ m + 1 → page_of size w i ≢ p

@@ -4,13 +4,13 @@ use Rattle.std.specs.Prelude.{◌==◌, Some, None, unwrap_or, slice_get}
 use Rattle.std.proofs.lemmas.Bool.{cases_lt, cases_eq}
 use Rattle.std.proofs.lemmas.List.{append-nil, reverse-append, drop_more, drop_all}
 use Rattle.std.proofs.lemmas.Option.{none-some, slice_get_within, get_or_from_slice_get, slice_get-get_or}
-use Rattle.std.proofs.Math.Nat.{lt-div-mul-add}
+use Rattle.std.proofs.Math.Nat.{add-mul, lt-div-mul-add, suc-mul, zero-mul}
 use Rattle.sqval.specs.Bytes.{part, word}
 use Rattle.sqval.specs.Database.{Pages, file_page, supplied}
 use Rattle.sqjournal.specs.Header.{next_header}
 use Rattle.sqjournal.specs.Journal.{Segment, Sizes, sizes_of, record_len, records_end, AreRecords, AreSegments, IsHot, IsJournal, placed, entries}
 use Rattle.sqjournal.specs.Restored.{all_records, last_content, IsRolledBack}
-use Rattle.sqjournal.specs.Took.{Took, HasEntry, Says}
+use Rattle.sqjournal.specs.Took.{Took, HasCount, HasEntry, Says}
 use Rattle.sqjournal.specs.declared.replay.Replay.{Replay}
 use Rattle.sqjournal.specs.declared.reading.Record.{Record}
 use Rattle.sqjournal.specs.declared.reading.Why.{Why}
@@ -22,8 +22,11 @@ use Rattle.sqjournal.proofs.read.UniquenessOfReading.{one_journal}
 use Rattle.sqview.specs.Laid.{part_or_zeros, place_of, laid}
 use Rattle.sqview.specs.Logs.{HasRead}
 use Rattle.sqview.specs.Origins.{AreJournalPlaces, IsRecordPlace}
-use Rattle.sqview.specs.internal.ViewParts.{last_place, Noted, AreNoted, AreRecordPlaces}
+use Rattle.sqview.specs.Places.{most_kept}
+use Rattle.sqview.specs.internal.Places.{Noted}
+use Rattle.sqview.specs.internal.ViewParts.{last_place, AreFew, AreNoted, AreRecordPlaces}
 use Rattle.sqview.proofs.file.FileHeads.{part_is}
+use Rattle.sqview.proofs.place.FewPlaces.{kept_few}
 use Rattle.sqview.proofs.openings.PagesOfView.{length_laid, page_laid, laid_own, laid_log}
 
 -- ---- Each entry is the place of a whole page, above 0.
@@ -51,34 +54,46 @@ within_entries z b from (s ∷ ss) stop why are =
     (λ all. within_entries z b next ss stop why all.1)
     (λ few. subst (λ (l : List Segment). AreWithin z.page (length b) (entries z next l)) (sym few.1) tt) are.4)
 
--- ---- There are fewer entries than bytes.
+-- ---- The bytes have room for the pages of all entries.
 
 not_below : (sector end : ℕ) → 0 < sector → end ≤ next_header sector end
 not_below sector end pos = let up : end + sector - 1 < (end + sector - 1) / sector * sector + sector = lt-div-mul-add pos in omega arith
 
-few_placed : (z : Sizes) (b : List ℕ) (nonce at : ℕ) (rs : Pages) → AreRecords z b nonce at rs
-    → (length (placed z at rs) + at ≤ records_end z at rs) × ((records_end z at rs ≤ length b) ⊎ (records_end z at rs ≡ at))
-few_placed z b nonce at [] are = (omega arith, inr refl)
-few_placed z b nonce at (r ∷ rs) are =
-    let rest = few_placed z b nonce (at + record_len z) rs are.1 in
-    (omega (arith, rest.0), inl (⊎_elim (λ le. le) (λ e. omega (arith, are.0.whole)) rest.1))
+nothing : (size most : ℕ) → 0 * size ≤ most
+nothing size most = let none : 0 * size ≡ 0 = zero-mul size in omega (arith, none)
 
-few_entries : (z : Sizes) (b : List ℕ) (from : ℕ) (ss : List Segment) (stop : ℕ) (why : Why) → 0 < z.sector → AreSegments z b from ss stop why → length (entries z from ss) ≤ length b - from
-few_entries z b from [] stop why pos are = omega arith
-few_entries z b from (s ∷ ss) stop why pos are =
+room_placed : (z : Sizes) (b : List ℕ) (nonce at : ℕ) (rs : Pages) → AreRecords z b nonce at rs
+    → (length (placed z at rs) * z.page + at ≤ records_end z at rs) × ((records_end z at rs ≤ length b) ⊎ (records_end z at rs ≡ at))
+room_placed z b nonce at [] are = (omega arith, inr refl)
+room_placed z b nonce at (r ∷ rs) are =
+    let rest = room_placed z b nonce (at + record_len z) rs are.1 in
+    let n = length (placed z (at + record_len z) rs) in
+    let one_more : suc n * z.page ≡ n * z.page + z.page = suc-mul n z.page in
+    let left : n * z.page + (at + (z.page + 8)) ≤ records_end z (at + record_len z) rs = rest.0 in
+    let here : suc n * z.page + at ≤ records_end z (at + record_len z) rs = omega (arith, one_more, left) in
+    (here, inl (⊎_elim (λ le. le) (λ e. omega (arith, are.0.whole)) rest.1))
+
+room_entries : (z : Sizes) (b : List ℕ) (from : ℕ) (ss : List Segment) (stop : ℕ) (why : Why) → 0 < z.sector → AreSegments z b from ss stop why → length (entries z from ss) * z.page ≤ length b - from
+room_entries z b from [] stop why pos are = omega arith
+room_entries z b from (s ∷ ss) stop why pos are =
     let end = records_end z (from + z.sector) s.records in
     let next = next_header z.sector end in
-    let here = few_placed z b s.nonce (from + z.sector) s.records are.3 in
+    let here = room_placed z b s.nonce (from + z.sector) s.records are.3 in
     let up : end ≤ next = not_below z.sector end pos in
-    let rest : length (entries z next ss) ≤ length b - next = ⊎_elim (λ all. few_entries z b next ss stop why pos all.1)
-    (λ few. subst (λ (l : List Segment). length (entries z next l) ≤ length b - next) (sym few.1) (let none : 0 ≤ length b - next = omega arith in none)) are.4 in
-    let both : length (placed z (from + z.sector) s.records ++ entries z next ss) ≡ length (placed z (from + z.sector) s.records) + length (entries z next ss) = length-append (placed z (from + z.sector) s.records) (entries z next ss) in
-    ⊎_elim (λ le. omega (arith, here.0, are.0.whole)) (λ e. omega (arith, here.0, are.0.whole)) here.1
+    let rest : length (entries z next ss) * z.page ≤ length b - next = ⊎_elim (λ all. room_entries z b next ss stop why pos all.1)
+    (λ few. subst (λ (l : List Segment). length (entries z next l) * z.page ≤ length b - next) (sym few.1) (nothing z.page (length b - next))) are.4 in
+    let m = length (placed z (from + z.sector) s.records) in
+    let n = length (entries z next ss) in
+    let both : length (placed z (from + z.sector) s.records ++ entries z next ss) ≡ m + n = length-append (placed z (from + z.sector) s.records) (entries z next ss) in
+    let split : (m + n) * z.page ≡ m * z.page + n * z.page = add-mul m n z.page in
+    let fits : (m + n) * z.page ≤ length b - from = ⊎_elim (λ le. omega (arith, split, rest, here.0, are.0.whole)) (λ e. omega (arith, split, rest, here.0, are.0.whole)) here.1 in
+    subst (λ (k : ℕ). k * z.page ≤ length b - from) (sym both) fits
 
-pub few : (b : List ℕ) (segments : List Segment) (at : ℕ) (why : Why) → IsJournal b segments at why → length (entries (sizes_of b) 0 segments) ≤ length b
-few b segments at why is = ⊎_elim
-    (λ hot. let bounds = size_bounds (word b 20) hot.0.first.sector in let r : length (entries (sizes_of b) 0 segments) ≤ length b - 0 = few_entries (sizes_of b) b 0 segments at why (omega (arith, bounds.0)) hot.1 in omega arith)
-    (λ cold. subst (λ (l : List Segment). length (entries (sizes_of b) 0 l) ≤ length b) (sym cold.1) (let none : 0 ≤ length b = omega arith in none)) is
+pub room : (b : List ℕ) (segments : List Segment) (at : ℕ) (why : Why) → IsJournal b segments at why → length (entries (sizes_of b) 0 segments) * word b 24 ≤ length b
+room b segments at why is = ⊎_elim
+    (λ hot. let bounds = size_bounds (word b 20) hot.0.first.sector in
+    let r : length (entries (sizes_of b) 0 segments) * word b 24 ≤ length b - 0 = room_entries (sizes_of b) b 0 segments at why (omega (arith, bounds.0)) hot.1 in omega (arith, r))
+    (λ cold. subst (λ (l : List Segment). length (entries (sizes_of b) 0 l) * word b 24 ≤ length b) (sym cold.1) (nothing (word b 24) (length b))) is
 
 -- ---- What the last place holds.
 
@@ -131,8 +146,8 @@ module _ (z : Sizes) (b : List ℕ) (p : ℕ) (x : List ℕ) where
 same_entries : (b : List ℕ) (ss us : List Segment) (m n : ℕ) (v w : Why) → IsJournal b ss m v → IsJournal b us n w → entries (sizes_of b) 0 ss ≡ entries (sizes_of b) 0 us
 same_entries b ss us m n v w p q = ap (λ l. entries (sizes_of b) 0 l) (one_journal b ss us m n v w p q).0
 
-pub noted_none : (r : Replay) (count : ℕ) (places : List ℕ) → length places ≡ count → ((i : ℕ) → get_or places i 0 ≡ 0) → AreNoted r 0 count places
-noted_none r count places long zeros b segments at why t is p one le = ap (λ w. last_place (entries (sizes_of b) 0 segments) p w) (zeros (p - 1))
+pub noted_none : (r : Replay) (count : ℕ) (places : List ℕ) → ((p : ℕ) → place_of places p ≡ 0) → AreNoted r 0 count places
+noted_none r count places zeros b segments at why t is p one le = ap (λ w. last_place (entries (sizes_of b) 0 segments) p w) (zeros p)
 
 pub noted_more : (r : Replay) (i count : ℕ) (old new : List ℕ) (e : Record) → 1 ≤ i → length old ≡ count → AreNoted r (i - 1) count old → Noted e.page e.at old new
     → ((b : List ℕ) → Took b r → HasEntry b i (Some e)) → AreNoted r i count new
@@ -150,6 +165,10 @@ noted_more r i count old new e some long are noted has b segments at why t is p 
     let split : drop k es ≡ e ∷ drop i es = drop_more es k e lt ∙ ap (λ x. x ∷ drop (k + 1) es) at_k ∙ ap (λ n. e ∷ drop n es) next in
     ap (λ w. last_place (drop i es) p w) (noted.1 p one (omega arith))
     ∙ sym (ap (λ l. last_place l p (place_of old p)) split) ∙ are b segments at why t is p one le
+
+-- how many there are
+pub counted : (b : List ℕ) (n : ℕ) (segments : List Segment) (at : ℕ) (why : Why) → HasCount b n → IsJournal b segments at why → length (entries (sizes_of b) 0 segments) ≡ n
+counted b n segments at why has is = ap length (same_entries b segments has.segments at has.stop.at why has.stop.why is has.is) ∙ sym has.value
 
 pub noted_all : (r : Replay) (n count : ℕ) (places : List ℕ) (b : List ℕ) → length places ≡ count → AreNoted r n count places → Took b r
     → ((segments : List Segment) (at : ℕ) (why : Why) → IsJournal b segments at why → length (entries (sizes_of b) 0 segments) ≤ n) → AreRecordPlaces b count places
@@ -276,3 +295,14 @@ module _ (b : List ℕ) (r : Replay) (read : HasRead b r) where
             front.each here.segments s.1.at s.1.why here.is p one le
             ∙ ap (λ l. last_place l p 0) (here.records ∙ sym all.records ∙ same_entries b all.segments segments s.1.at at s.1.why why all.is is);
       }
+
+  -- and what is kept for its places is no more than it has room for
+  pub read_kept : (kept : ℕ) → IsHot b → ((c : List ℕ) → Took c r → AreFew c kept) → kept ≤ most_kept (word b 24) b
+  read_kept kept hot few =
+      let s = read_says in
+      let all = front_says s.0 s.1 s.2 in
+      let fits : length s.0 * word b 24 ≤ length b =
+      subst (λ (l : List Record). length l * word b 24 ≤ length b) all.records (room b all.segments s.1.at s.1.why all.is) in
+      let has : HasCount read.front (length s.0) = record { segments = s.2.segments; stop = s.1; is = s.2.is; value = sym (ap length s.2.records) } in
+      let bounds = size_bounds (word b 24) hot.first.size in
+      kept_few (word b 24) (length b) (length s.0) kept (omega (arith, bounds.0)) fits (few read.front read.took (length s.0) has)

@@ -1,5 +1,5 @@
 -- What the parts of a view promise one another.
-use Rattle.std.specs.Prelude.{◌≡◌, ℕ, suc, ◌*◌, ◌^◌, ◌<◌, ◌≤◌, ◌==◌, cond, List, [], ◌∷◌, length, drop, take, Option, Some, None, Result, Ok, Err}
+use Rattle.std.specs.Prelude.{◌≡◌, ℕ, suc, ◌+◌, ◌*◌, ◌^◌, ◌<◌, ◌≤◌, ◌==◌, cond, List, [], ◌∷◌, length, drop, take, Option, Some, None, Result, Ok, Err}
 use Rattle.sqwal.specs.Header.{named_size, IsHeader}
 use Rattle.sqwal.specs.Frames.{size_of, IsValidFrame, IsCommit}
 use Rattle.sqwal.specs.View.{IsView}
@@ -11,7 +11,7 @@ use Rattle.sqwal.specs.declared.scan.Scan.{Scan}
 use Rattle.sqpage.specs.Header.{HasMagic}
 use Rattle.sqpage.specs.declared.fault.Fault.TheVariants as faults
 use Rattle.sqjournal.specs.Journal.{Segment, IsJournal, entries, sizes_of}
-use Rattle.sqjournal.specs.Took.{Took as ReplayTook, Refuses}
+use Rattle.sqjournal.specs.Took.{Took as ReplayTook, HasCount, Refuses}
 use Rattle.sqjournal.specs.declared.error.JournalError.{JournalError}
 use Rattle.sqjournal.specs.declared.error.JournalError.TheVariants.{NoMemory as NoReplayMemory}
 use Rattle.sqjournal.specs.declared.replay.Replay.{Replay}
@@ -19,6 +19,7 @@ use Rattle.sqjournal.specs.declared.reading.Record.{Record}
 use Rattle.sqjournal.specs.declared.reading.Why.{Why}
 use Rattle.sqview.specs.LogView.{pages_of}
 use Rattle.sqview.specs.Origins.{AreFramePlaces}
+use Rattle.sqview.specs.Places.{most_kept}
 use Rattle.sqview.specs.Logs.{HasRead}
 use Rattle.sqview.specs.Laid.{place_of}
 use Rattle.sqview.specs.declared.view.View.{View}
@@ -63,7 +64,7 @@ LimitAnswer most size count (Err _) = ⊥
 -- the view of a file with the frames 1 to m of a log, where frame m names this count of pages
 abbrev pub PlacedAnswer : {F : Type 0} → (most : ℕ) → (bytes : F → List ℕ) → (size m count : ℕ) → (db w : List ℕ) → Result (View F) ViewError → Type 0
 PlacedAnswer most bytes size m count db w (Ok v) = (v.page_size ≡ size) × (v.front ≡ m) × LimitAnswer most size count (Ok v.count) × IsView size db w m (pages_of bytes v)
-    × AreFramePlaces size w m v.count v.places.items
+    × AreFramePlaces size w m v.count v.places.items × (v.places.kept ≤ most_kept size (bytes v.log))
 PlacedAnswer most bytes size m count db w (Err NoMemory) = Unit {0}
 PlacedAnswer most bytes size m count db w (Err e) = LimitAnswer most size count (Err e)
 
@@ -85,11 +86,6 @@ abbrev pub last_place : List Record → (p was : ℕ) → ℕ
 last_place [] p was = was
 last_place (e ∷ es) p was = last_place es p (cond (e.page == p) e.at was)
 
--- the page's number and place are put down, where it is a page up to the count
-abbrev pub Noted : (page at : ℕ) → (old new : List ℕ) → Type 0
-Noted page at old new = (length new ≡ length old)
-    × ((p : ℕ) → 1 ≤ p → p ≤ length old → place_of new p ≡ cond (page == p) at (place_of old p))
-
 -- the first n records of a journal were put down
 abbrev pub AreNoted : Replay → (n count : ℕ) → (places : List ℕ) → Type 0
 AreNoted r n count places = (b : List ℕ) (segments : List Segment) (at : ℕ) (why : Why) → ReplayTook b r → IsJournal b segments at why
@@ -100,3 +96,7 @@ AreNoted r n count places = (b : List ℕ) (segments : List Segment) (at : ℕ) 
 pub record AreRecordPlaces (b : List ℕ) (count : ℕ) (places : List ℕ) : Type 0 where
   pub long : length places ≡ count
   pub each : (segments : List Segment) (at : ℕ) (why : Why) → IsJournal b segments at why → (p : ℕ) → 1 ≤ p → p ≤ count → place_of places p ≡ last_place (entries (sizes_of b) 0 segments) p 0
+
+-- at most so many numbers are kept for the places of a journal's records
+abbrev pub AreFew : (b : List ℕ) (kept : ℕ) → Type 0
+AreFew b kept = (n : ℕ) → HasCount b n → kept ≤ 262144 + 17 * n

@@ -14,6 +14,7 @@ use super::at_commit::Commit;
 use crate::file_bytes::FileBytes;
 use crate::file_head::{count_pages, read_head};
 use crate::logs::{LogInUse, log_in_use, replay_log, scan_log_within};
+use crate::place_table::Places;
 use crate::places::{frame_places, record_places};
 use crate::view_error::ViewError;
 use sqjournal::{JournalError, JournalHeader, Replay};
@@ -248,7 +249,7 @@ pub(super) fn own<F: FileBytes + Drop>(
         page_size,
         count,
         front: 0,
-        places: Vec::new(alloc),
+        places: Places::none(alloc),
     })
 }
 
@@ -265,10 +266,10 @@ fn without_size(head: &[u8; 100]) -> ViewError
 
 impl<F: FileBytes + Drop> View<F> {
     /// The view of a file with its write-ahead log and its rollback journal, where a missing file has no bytes. A hot
-    /// journal counts, or a log that isn't empty. It reads no log behind its stop, and keeps 8 bytes for each page
-    /// where one counts; while it reads also 8 for each valid frame, or 16 for each record. Refused, in this order, by
-    /// TwoLogs, TooLarge and Header; NoMemory may stand in place of any answer, and Unread where a file could not be
-    /// read.
+    /// journal counts, or a log that isn't empty. It reads no log behind its stop. Where one counts it keeps about 160
+    /// bytes for each frame or record at most, and 2 MiB; while it reads also 8 for each valid frame, or 16 for each
+    /// record. Refused, in this order, by TwoLogs, TooLarge and Header; NoMemory may stand in place of any answer, and
+    /// Unread where a file could not be read.
     pub fn new(alloc: Global, db: F, wal: F, journal: F) -> Result<View<F>, ViewError>
         ensures answer { F.gives_bytes db × F.gives_bytes wal × F.gives_bytes journal
             → ViewAnswer F.bytes (F.bytes db) (F.bytes wal) (F.bytes journal) result }

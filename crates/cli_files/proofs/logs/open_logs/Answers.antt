@@ -1,7 +1,8 @@
-use Rattle.std.proofs.Common.{Option, refl, subst, sym}
+use Rattle.std.proofs.Common.{Option, subst, sym}
 use Rattle.std.specs.declared.fs.attrs.Metadata.{Metadata}
 use Rattle.cli_files.specs.Files.{IsOpenedOf}
 use Rattle.cli_files.specs.declared.logs.Beheld.{Beheld}
+use Rattle.cli_files.proofs.JournalsLeft.{left_missing}
 use Rattle.cli_files.proofs.logs.open_logs.Goals as goal
 
 pub returns-in-Ok-clause-left : goal.returns-in-Ok-clause-left
@@ -17,5 +18,5 @@ returns-then-len-eq0-clause-left g c = record {
   journal = c.without_journal.result.journal;
   opened = subst (λ (m : Option Metadata). IsOpenedOf c.without_journal.result.journal c.args.paths.now.journal 28 m) (sym c.without_journal.ensures.found.1)
       c.without_journal.ensures.journal;
-  is = λ steady. record { out = λ _. c.without_journal.ensures.journal; counts = λ _. refl };
+  is = λ steady. left_missing g.R.File.SystemFile.bytes c.args.super_journal c.without_journal.result.journal c.without_journal.ensures.journal;
 }

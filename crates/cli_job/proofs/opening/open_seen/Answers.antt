@@ -1,7 +1,7 @@
 use Rattle.std.proofs.Common.{◌≡◌, ◌≢◌, ◌⊎◌, ℕ, Option, Some, false, inl, inr, ⊎_elim, sym, subst}
 use Rattle.std.specs.Fs.{metadata_len}
 use Rattle.cli_words.specs.declared.requests.SuperJournal.{SuperJournal}
-use Rattle.cli_words.specs.declared.requests.SuperJournal.TheVariants.{Gone}
+use Rattle.cli_files.specs.Journals.{MayBeGone}
 use Rattle.cli_files.specs.Files.{AreRegular, IsMissing, IsOpenedAt, IsOpenedOf}
 use Rattle.cli_files.specs.declared.logs.Beheld.{Beheld}
 use Rattle.cli_files.specs.declared.opened_file.OpenedFile.{OpenedFile}
@@ -13,7 +13,7 @@ use Rattle.cli_job.proofs.opening.open_seen.Goals as goal
 -- the files that were opened, of which at front 0 the logs are left out
 opened_all : {F : Type 0} (paths : Paths) (said : Option SuperJournal) (front : Option ℕ) (found : Beheld) (db wal journal : OpenedFile F) (files : Contents (OpenedFile F))
     → AreRegular found → IsOpenedAt db paths.db (metadata_len found.db) → IsOpenedOf wal paths.wal 1 found.wal
-    → (((said ≡ Some Gone) × IsMissing journal) ⊎ IsOpenedOf journal paths.journal 28 found.journal) → files.db ≡ db
+    → ((MayBeGone said × IsMissing journal) ⊎ IsOpenedOf journal paths.journal 28 found.journal) → files.db ≡ db
     → (front ≡ Some 0 → IsMissing files.wal × IsMissing files.journal) → (front ≢ Some 0 → files ≡ record { db = db; wal = wal; journal = journal })
     → AreOpened false paths said front files
 opened_all {F} paths said front found db wal journal files regular opened by_wal by_journal same alone logs = record {

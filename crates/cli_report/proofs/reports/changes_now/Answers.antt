@@ -1,3 +1,4 @@
+use Rattle.std.proofs.Common.{inl}
 use Rattle.cli_files.specs.Files.{opened_bytes}
 use Rattle.cli_job.specs.Opened.{GivesBytes}
 use Rattle.cli_report.proofs.ReportsOfFiles.{changes_are, changes_unread}
@@ -16,3 +17,6 @@ returns-in-Ok-clause-refused g c =
     let gives = GivesBytes g.R.File.SystemFile.bytes g.R.File.SystemFile.keeps_word g.R.File.SystemFile.never_fails in
     let source = c.args.job.now.source.now in
     changes_unread bytes gives source c.in-Ok.files c.changes_in.result c.in-Ok.ensures.opened c.changes_in.ensures.refused
+
+pub returns-clause-refused : goal.returns-clause-refused
+returns-clause-refused g c = inl c.in-Err.ensures.refused

@@ -1,4 +1,4 @@
-use Rattle.std.proofs.Common.{◌≡◌, ◌+◌, ◌≤◌, ℕ, List, length, ◌∙◌, ap, sym, subst}
+use Rattle.std.proofs.Common.{◌+◌, ◌≤◌, ℕ, length, ◌∙◌, sym, subst}
 use Rattle.cli_show.proofs.LastSegments.{behind_header, behind_record, default_none, journal_stop}
 use Rattle.cli_show.proofs.behind.end_of_segments.Goals as goal
 

@@ -1,4 +1,4 @@
-use Rattle.std.proofs.Common.{◌≡◌, List, ℕ, length, ◌∙◌, ap}
+use Rattle.std.proofs.Common.{List, ℕ, length, ◌∙◌, ap}
 use Rattle.cli_show.proofs.LinesBehind.{zeros_begin}
 use Rattle.cli_show.proofs.behind.has_zeros.Goals as goal
 

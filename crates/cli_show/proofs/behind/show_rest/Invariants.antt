@@ -1,4 +1,4 @@
-use Rattle.std.proofs.Common.{◌≡◌, ℕ, ◌+◌, List}
+use Rattle.std.proofs.Common.{ℕ, List}
 use Rattle.std.specs.Io.KnownBytes.{Appends}
 use Rattle.cli_show.specs.Behind.{AreLines, IsRestLine}
 use Rattle.cli_show.specs.Contents.{KeepsBytes}

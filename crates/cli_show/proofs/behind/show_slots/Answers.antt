@@ -1,4 +1,4 @@
-use Rattle.std.proofs.Common.{◌+◌, ◌<◌, ◌^◌, length, ℕ, ◌≡◌, ◌-◌, [], List, refl, ap, subst, sym, ◌∙◌, arith}
+use Rattle.std.proofs.Common.{◌+◌, ◌<◌, ◌^◌, length, ℕ, ◌≡◌, ◌-◌, [], refl, ap, sym, ◌∙◌, arith}
 use Rattle.std.proofs.KnownBytes.{Appends-nil}
 use Rattle.cli_text.specs.Behind.{slot_text}
 use Rattle.cli_text.specs.declared.behind.SlotKind.TheVariants.{Frame}

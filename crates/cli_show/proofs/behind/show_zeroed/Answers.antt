@@ -1,11 +1,9 @@
 use Rattle.std.proofs.Common.{◌+◌, ◌-◌, ◌<◌, ◌≤◌, ◌^◌, length, ℕ, ◌≡◌, List, refl, sym, ap, subst, ◌∙◌, arith}
 use Rattle.std.proofs.Math.Nat.{div-le_self}
 use Rattle.std.specs.Prelude.{◌≢◌, ◌⊎◌, ◌↔◌, IsTrue, Option, Some}
-use Rattle.sqjournal.specs.declared.slots.RecordSlot.{RecordSlot}
 use Rattle.cli_text.specs.Behind.{record_slot_text}
 use Rattle.cli_text.specs.declared.behind.SlotKind.TheVariants.{Record}
 use Rattle.cli_show.specs.Behind.{IsZeroedLine, over_from, slot_place, slots_from}
-use Rattle.cli_show.specs.internal.Behind.{IsRecordOf}
 use Rattle.cli_show.proofs.LinesBehind.{counted_over, counted_slots, ended, fellows, kept_twice, next_there, nonce_behind, one_more, placed, record_fails, record_there, zeroed_line}
 use Rattle.cli_show.proofs.behind.show_zeroed.Goals as goal
 

@@ -1,4 +1,4 @@
-use Rattle.std.proofs.Common.{◌+◌, ◌≤◌, ◌≡◌, ℕ, List, ap, sym, subst, ◌∙◌}
+use Rattle.std.proofs.Common.{◌+◌, ℕ, ap, sym, ◌∙◌}
 use Rattle.sqval.specs.Bytes.{part}
 use Rattle.cli_show.proofs.LinesBehind.{piece_read}
 use Rattle.cli_show.proofs.behind.slot_at.Goals as goal

@@ -1,4 +1,4 @@
-use Rattle.std.proofs.Common.{◌≡◌, ℕ, ◌-◌, ◌≤◌, ap, sym, subst, ◌∙◌, arith}
+use Rattle.std.proofs.Common.{◌≡◌, ℕ, ◌-◌, ◌≤◌, ap, ◌∙◌, arith}
 use Rattle.sqwal.specs.Slots.{stored}
 use Rattle.cli_show.proofs.LinesBehind.{sum_is, sums_place, sums_read}
 use Rattle.sqview.specs.Laid.{part_or_zeros}

@@ -1,6 +1,5 @@
 use Rattle.std.proofs.Common.{subst}
 use Rattle.sqval.specs.Limits.{Bounds}
-use Rattle.cli_words.specs.Commits.{commit_named}
 use Rattle.cli_words.specs.declared.requests.Commit.{Commit}
 use Rattle.cli_show.specs.Limits.{limits_named}
 use Rattle.cli_show.specs.Views.{IsWholeView, AskedRefused}

@@ -1,5 +1,5 @@
 use Rattle.std.proofs.Common.{sym, subst}
-use Rattle.std.specs.Prelude.{Result, Ok, Err}
+use Rattle.std.specs.Prelude.{Result}
 use Rattle.sqpage.specs.declared.fault.CheckError.{CheckError}
 use Rattle.sqcheck.specs.declared.survey.Survey.{Survey}
 use Rattle.cli_show.specs.Pages.{IsSurveyed}

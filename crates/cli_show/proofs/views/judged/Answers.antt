@@ -1,5 +1,5 @@
 use Rattle.cli_show.specs.Views.{AreAskedCounts}
-use Rattle.cli_show.proofs.Findings.{counted_by, uncounted_by, view_found, view_front, view_refused, none_found, none_front, none_refused}
+use Rattle.cli_show.proofs.Findings.{counted_by, view_found, view_front, view_refused}
 use Rattle.cli_show.proofs.views.judged.Goals as goal
 
 pub returns-in-Ok-clause-found : goal.returns-in-Ok-clause-found

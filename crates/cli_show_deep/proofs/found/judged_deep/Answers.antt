@@ -1,5 +1,6 @@
 use Rattle.sqview.specs.LogView.{pages_of}
 use Rattle.sqdeepjudge.proofs.SchemaFindings.{both_parts}
+use Rattle.sqdeepjudge.specs.declared.verdict.Lengths.{Lengths}
 use Rattle.cli_show.specs.Views.{AreAskedCounts}
 use Rattle.cli_show_deep.proofs.DeepFindings.{counted_by, view_found, view_front, view_refused, none_found, none_front, none_refused}
 use Rattle.cli_show_deep.proofs.found.judged_deep.Goals as goal
@@ -10,10 +11,12 @@ returns-in-Ok-clause-found g c = λ gives.
     let a = c.args.asked in
     let v = c.in-Ok.used.view in
     let still = c.in-Ok.ensures.still_gives gives in
+    let lengths : Lengths = record { long = c.len-long.result; counts = c.in-Ok.used.counts } in
     let both = both_parts a.maps.pointer_maps (pages_of bytes v) v.page_size c.judge_deep-found.result
     (c.judge_deep-found.ensures.found (g.met.F.FileBytes.right v.db still.0, g.met.F.FileBytes.right v.log still.1)) (c.judge_deep-found.ensures.schema still) in
     view_found a.maps.pointer_maps a.limits bytes (bytes c.args.db) (bytes c.args.wal) (bytes c.args.journal) a.at v c.of_view-front.result c.judge_deep-found.result c.as_found.result
-    (c.in-Ok.ensures.answer gives) c.len-long.result (c.len-long.ensures.count (g.met.F.FileBytes.right c.args.db gives.0)) c.as_found.ensures.ok both c.judge_deep-found.ensures.cut
+    (c.in-Ok.ensures.answer gives) lengths (c.len-long.ensures.count (g.met.F.FileBytes.right c.args.db gives.0), c.in-Ok.ensures.counts gives) c.as_found.ensures.ok both
+    c.judge_deep-found.ensures.cut c.judge_deep-found.ensures.counts
 
 pub returns-in-Ok-clause-front : goal.returns-in-Ok-clause-front
 returns-in-Ok-clause-front g c = λ gives.

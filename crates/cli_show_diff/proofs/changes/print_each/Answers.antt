@@ -1,4 +1,4 @@
-use Rattle.std.proofs.Common.{◌∙◌, List, ℕ, subst, sym, ap, refl}
+use Rattle.std.proofs.Common.{◌∙◌, List, ℕ, subst}
 use Rattle.sqval.specs.Database.{Database}
 use Rattle.cli_show_diff.specs.Changes.{IsNamedPrinted, IsNamedStopped}
 use Rattle.cli_show_diff.proofs.NamesTaken.{first_texts, names_more, text_at}

@@ -1,18 +1,23 @@
-use Rattle.std.proofs.Common.{◌≡◌, ℕ, List, Option, inl, inr, refl, subst}
+use Rattle.std.proofs.Common.{◌≡◌, ◌∙◌, ◌+◌, ℕ, List, ap, inl, length, subst, sym}
 use Rattle.std.specs.Io.KnownBytes.{Appends}
+use Rattle.std.proofs.lemmas.List.{length-append, length-map}
 use Rattle.cli_show_rows.specs.internal.Stopping.{IsCounted}
-use Rattle.cli_show_diff.specs.Changes.{AreFramed, AreFramedPrinted, AreFramedStopped, texts_of}
-use Rattle.cli_show_diff.specs.internal.Framing.{AreBegunPrinted, AreBegunStopped}
+use Rattle.cli_show_rows.specs.Strays.{bytes_of}
+use Rattle.cli_show_diff.specs.declared.changes.Asked.{Asked}
+use Rattle.cli_show_diff.specs.Changes.{AreFramedPrinted, AreFramedStopped, texts_of}
+use Rattle.cli_show_diff.specs.Frames.{left_text_of}
+use Rattle.cli_show_diff.specs.internal.Framing.{AreBegunPrinted, AreBegunStopped, strays_of}
 use Rattle.cli_show_diff.proofs.Answered.{on_err, on_ok}
-use Rattle.cli_show_diff.proofs.FramesPrinted.{begun_stopped, framed, some_left, unheaded}
+use Rattle.cli_show_diff.proofs.FramesPrinted.{begun_stopped, framed, none_left, some_left, unheaded}
 use Rattle.cli_show_diff.proofs.changes.print_framed.Goals as goal
-use Rattle.cli_show_diff.proofs.changes.print_framed.Goals.{then-not-are_written-via-then-not-are_written, then-not-are_written-via-else-not-are_written+then-not-are_written-2}
 
-pub returns-then-not-are_written-clause-err : goal.returns-then-not-are_written-clause-err
-returns-then-not-are_written-clause-err g c = λ gives too. elim c.then-not-are_written.branch [
-  | then-not-are_written-via-then-not-are_written w ↦ let f = w.if-not-are_written.ensures.not refl in inr (inl (f.0, inl f.1, f.2, refl, refl))
-  | then-not-are_written-via-else-not-are_written+then-not-are_written-2 w ↦ let f = w.if-not-are_written-2.ensures.not refl in inr (inl (f.0, inr f.1, f.2, refl, refl))
-]
+-- how much is left out, with the rows of both schemas
+counted : (asked : Asked) (out left : ℕ) → left ≡ out + (length asked.strays.0.now + length asked.strays.1.now) → left ≡ out + length (strays_of asked)
+counted asked out left is =
+    let olds = asked.strays.0.now in
+    let news = asked.strays.1.now in
+    is ∙ ap (λ n. out + n)
+    (sym (length-append (bytes_of olds) (bytes_of news) ∙ ap (λ n. n + length (bytes_of news)) (length-map olds (λ v. v.items)) ∙ ap (λ n. length olds + n) (length-map news (λ v. v.items))))
 
 pub returns-in-Err-clause-err : goal.returns-in-Err-clause-err
 returns-in-Err-clause-err g c = λ gives too. inl (unheaded c.in-Err.stop (g.W.Write.contents c.args.out.now) c.in-Err.ensures.err)
@@ -28,7 +33,7 @@ returns-in-Err-print_begun-clause-err g c = λ gives too.
     let names = texts_of asked.selected.names.now in
     let stop = c.in-Err-print_begun.stop in
     let it = subst (λ (t : List ℕ). AreBegunStopped d e asked.schemas names asked.form t stop old mid) c.deref.ensures.value (c.in-Err-print_begun.ensures.err gives too) in
-    begun_stopped d e asked.schemas names asked.form asked.encoding c.in-Ok.frame c.in-Ok.ensures.ok stop c.stopped.result old mid new it c.stopped.ensures
+    begun_stopped d e asked.schemas names asked.form asked.encoding c.in-Ok.frame (strays_of asked) c.in-Ok.ensures.ok stop c.stopped.result old mid new it c.stopped.ensures
 
 pub returns-in-Ok-write_all-clause-ok : goal.returns-in-Ok-write_all-clause-ok
 returns-in-Ok-write_all-clause-ok g c = λ gives too.
@@ -41,12 +46,13 @@ returns-in-Ok-write_all-clause-ok g c = λ gives too.
     let asked = c.args.asked in
     let names = texts_of asked.selected.names.now in
     let frame = c.in-Ok.frame in
+    let left = c.in-Some.left in
+    let strays = strays_of asked in
     let begun = subst (λ (t : List ℕ). AreBegunPrinted d e asked.schemas names asked.form t old ended) c.deref.ensures.value (c.in-Ok-print_begun.ensures.ok gives too) in
     let last = subst (λ (t : List ℕ). Appends ended mid t) c.deref-2.ensures.value c.in-Ok-write_all.ensures.bytes in
-    let all = framed d e asked.schemas names asked.form asked.encoding frame c.in-Ok.ensures.ok old ended mid begun last in
-    on_ok c.print_count.result ((frame.left ≡ 0) × (mid ≡ new)) (AreFramedPrinted d e asked.schemas names asked.form asked.encoding old new)
-    (λ w. subst (λ (n : ℕ). AreFramed d e asked.schemas names asked.form asked.encoding n old new) w.0
-    (subst (λ (x : Option (List ℕ)). AreFramed d e asked.schemas names asked.form asked.encoding frame.left old x) w.1 all)) c.print_count.ensures.ok
+    let all = framed d e asked.schemas names asked.form asked.encoding frame strays c.in-Ok.ensures.ok old ended mid begun last in
+    on_ok c.print_count.result ((left ≡ 0) × (mid ≡ new)) (AreFramedPrinted d e asked.schemas names asked.form asked.encoding strays old new)
+    (λ w. none_left d e asked.schemas names asked.form asked.encoding strays frame.left left old mid new (counted asked frame.left left c.in-Some.ensures) all w.0 w.1) c.print_count.ensures.ok
 
 pub returns-in-Ok-write_all-clause-err : goal.returns-in-Ok-write_all-clause-err
 returns-in-Ok-write_all-clause-err g c = λ gives too.
@@ -59,8 +65,10 @@ returns-in-Ok-write_all-clause-err g c = λ gives too.
     let asked = c.args.asked in
     let names = texts_of asked.selected.names.now in
     let frame = c.in-Ok.frame in
+    let left = c.in-Some.left in
+    let strays = strays_of asked in
     let begun = subst (λ (t : List ℕ). AreBegunPrinted d e asked.schemas names asked.form t old ended) c.deref.ensures.value (c.in-Ok-print_begun.ensures.ok gives too) in
     let last = subst (λ (t : List ℕ). Appends ended mid t) c.deref-2.ensures.value c.in-Ok-write_all.ensures.bytes in
-    let all = framed d e asked.schemas names asked.form asked.encoding frame c.in-Ok.ensures.ok old ended mid begun last in
-    on_err c.print_count.result (λ stop. IsCounted frame.left stop mid new) (λ stop. AreFramedStopped d e asked.schemas names asked.form asked.encoding stop old new)
-    (λ stop w. some_left d e asked.schemas names asked.form asked.encoding frame.left old mid new stop all w) c.print_count.ensures.err
+    let all = framed d e asked.schemas names asked.form asked.encoding frame strays c.in-Ok.ensures.ok old ended mid begun last in
+    on_err c.print_count.result (λ stop. IsCounted (left_text_of asked.form strays left) left stop mid new) (λ stop. AreFramedStopped d e asked.schemas names asked.form asked.encoding strays stop old new)
+    (λ stop w. some_left d e asked.schemas names asked.form asked.encoding strays frame.left left old mid new (counted asked frame.left left c.in-Some.ensures) stop all w) c.print_count.ensures.err

@@ -1,10 +1,10 @@
-use Rattle.std.proofs.Common.{◌≡◌, ◌∙◌, ◌++◌, Bool, true, false, List, ℕ, OnOk, [], append-nil, ap, refl, subst, sym}
+use Rattle.std.proofs.Common.{◌≡◌, ◌∙◌, ◌++◌, Bool, true, false, List, ℕ, OnOk, ap, refl, subst, sym}
 use Rattle.std.specs.Prelude.{MatchBool}
 use Rattle.sqtables.specs.declared.list.Object.{Object}
 use Rattle.cli_schema_text.specs.Comments.{unnamed_text}
 use Rattle.cli_schema_text.specs.Names.{can_be_named}
 use Rattle.cli_show_rows.proofs.Cases.{when_false, when_true}
-use Rattle.cli_show_diff.specs.Frames.{IsDropText, IsStaying, drop_trigger, is_trigger}
+use Rattle.cli_show_diff.specs.Frames.{IsDropText, IsStaying, IsVirtualLeft, drop_trigger, is_trigger, undropped_text}
 use Rattle.cli_show_diff.proofs.Answered.{on_ok}
 use Rattle.cli_show_diff.proofs.frame.add_drop.Goals as goal
 
@@ -16,23 +16,30 @@ named_drop : (news : List Object) (o : Object) (stays : Bool) → is_trigger o �
     → IsDropText news o (drop_trigger stays o.name.items)
 named_drop news o stays of can is =
     let t = drop_trigger stays o.name.items in
-    when_true (is_trigger o) (MatchBool (can_be_named o.name.items) (Named news o t) (t ≡ unnamed_text o.name.items)) (t ≡ []) of
+    when_true (is_trigger o) (MatchBool (can_be_named o.name.items) (Named news o t) (t ≡ unnamed_text o.name.items)) ((left : Bool) × IsVirtualLeft news o left × (t ≡ undropped_text left o)) of
     (when_true (can_be_named o.name.items) (Named news o t) (t ≡ unnamed_text o.name.items) can (stays, is, refl))
 
 unnamed_drop : (news : List Object) (o : Object) → is_trigger o ≡ true → can_be_named o.name.items ≡ false → IsDropText news o (unnamed_text o.name.items)
 unnamed_drop news o of can =
     let t = unnamed_text o.name.items in
-    when_true (is_trigger o) (MatchBool (can_be_named o.name.items) (Named news o t) (t ≡ t)) (t ≡ []) of
+    when_true (is_trigger o) (MatchBool (can_be_named o.name.items) (Named news o t) (t ≡ t)) ((left : Bool) × IsVirtualLeft news o left × (t ≡ undropped_text left o)) of
     (when_false (can_be_named o.name.items) (Named news o t) (t ≡ t) can refl)
 
-no_drop : (news : List Object) (o : Object) → is_trigger o ≡ false → IsDropText news o []
-no_drop news o of =
-    when_false (is_trigger o) (MatchBool (can_be_named o.name.items) (Named news o []) ([] ≡ unnamed_text o.name.items)) ([] ≡ []) of refl
+no_drop : (news : List Object) (o : Object) (left : Bool) → is_trigger o ≡ false → IsVirtualLeft news o left → IsDropText news o (undropped_text left o)
+no_drop news o left of is =
+    let t = undropped_text left o in
+    when_false (is_trigger o) (MatchBool (can_be_named o.name.items) (Named news o t) (t ≡ unnamed_text o.name.items))
+    ((left : Bool) × IsVirtualLeft news o left × (t ≡ undropped_text left o)) of (left, is, refl)
 
 pub returns-then-not-is_trigger-clause-ok : goal.returns-then-not-is_trigger-clause-ok
 returns-then-not-is_trigger-clause-ok c =
+    let o = c.args.object.now in
+    let news = c.args.news.now in
+    let old = c.args.out.now.items in
+    let new = c.add_undropped.new.out.items in
     let not_so = sym c.is_trigger.ensures ∙ c.if-not-is_trigger.true in
-    ([], no_drop c.args.news.now c.args.object.now not_so, sym (append-nil c.args.out.now.items))
+    on_ok c.add_undropped.result ((left : Bool) × IsVirtualLeft news o left × (new ≡ old ++ undropped_text left o)) ((t : List ℕ) × IsDropText news o t × (new ≡ old ++ t))
+    (λ w. (undropped_text w.0 o, no_drop news o w.0 not_so w.1, w.2)) c.add_undropped.ensures.ok
 
 pub returns-then-not-can_be_named-clause-ok : goal.returns-then-not-can_be_named-clause-ok
 returns-then-not-can_be_named-clause-ok c =

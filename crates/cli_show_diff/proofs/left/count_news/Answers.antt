@@ -1,4 +1,4 @@
-use Rattle.std.proofs.Common.{◌+◌, ℕ, List, arith, subst, sym, take, take_all}
+use Rattle.std.proofs.Common.{◌+◌, ℕ, arith, subst, sym, take}
 use Rattle.sqtables.specs.declared.list.Object.{Object}
 use Rattle.cli_show_diff.specs.Changes.{texts_of}
 use Rattle.cli_show_diff.specs.LeftOut.{HasCount, IsNewLeft}

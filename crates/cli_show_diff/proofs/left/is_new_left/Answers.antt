@@ -1,4 +1,4 @@
-use Rattle.std.proofs.Common.{◌∙◌, inl, inr, refl, sym}
+use Rattle.std.proofs.Common.{◌∙◌, inl, inr, sym}
 use Rattle.cli_show_diff.specs.Changes.{texts_of}
 use Rattle.cli_show_diff.specs.Frames.{IsTextLeft}
 use Rattle.cli_show_diff.specs.LeftOut.{IsMadeLeft, IsNewLeft}
@@ -18,4 +18,4 @@ returns-then-is_made c =
     if_ok c.is_made_left.result (IsMadeLeft o) (IsNewLeft (texts_of c.args.names.now) c.args.olds.now o) (λ left w. inr (inl (made.0, made.1, made.2, w))) c.is_made_left.ensures
 
 pub returns : goal.returns
-returns c = inr (inr (sym c.is_trigger.ensures ∙ c.if-is_trigger.false, c.is_made.ensures.not c.if-is_made.false, refl))
+returns c = inr (inr (sym c.is_trigger.ensures ∙ c.if-is_trigger.false, c.is_made.ensures.not c.if-is_made.false, c.is_virtual_left.ensures))

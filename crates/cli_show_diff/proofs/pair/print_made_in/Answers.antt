@@ -1,4 +1,4 @@
-use Rattle.std.proofs.Common.{◌≡◌, ◌∙◌, List, Option, OnOk, ℕ, ap, inl, inr, refl, subst, sym}
+use Rattle.std.proofs.Common.{◌≡◌, ◌∙◌, OnOk, ap, inl, inr, refl, subst, sym}
 use Rattle.std.specs.Prelude.{IfErr}
 use Rattle.sqdeep.specs.declared.text.Encoding.{Encoding}
 use Rattle.cli_schema_text.specs.Names.{can_be_named}

@@ -1,8 +1,7 @@
-use Rattle.std.proofs.Common.{◌≡◌, ◌∙◌, ℕ, List, [], ◌∷◌, length, arith, refl, sym}
+use Rattle.std.proofs.Common.{◌≡◌, ◌∙◌, [], ◌∷◌, length, arith, refl, sym}
 use Rattle.std.proofs.lemmas.Grind.{common_steps}
 use Rattle.sqval.specs.Database.{Database, page}
 use Rattle.sqval.proofs.page.FilePages.{size_some}
-use Rattle.sqdeep.specs.declared.text.Encoding.{Encoding}
 use Rattle.sqdeep.specs.declared.text.Encoding.TheVariants.{Utf8}
 use Rattle.sqdeep.specs.Records.{encoding_of}
 use Rattle.cli_show_diff.specs.Sorted.{format_of}

@@ -1,8 +1,7 @@
-use Rattle.std.proofs.Common.{◌≡◌, Option, OnOk, inl, subst, sym}
+use Rattle.std.proofs.Common.{◌≡◌, OnOk, inl, subst, sym}
 use Rattle.std.specs.Prelude.{IfErr}
 use Rattle.sqval.specs.Database.{Database}
 use Rattle.sqdeep.specs.Records.{encoding_of}
-use Rattle.sqkeydiff.specs.declared.key.KeyOrder.{KeyOrder}
 use Rattle.cli_show_diff.specs.Sorted.{AreSortedBy}
 use Rattle.cli_show_diff.specs.Tables.{IsKeptPrinted, IsKeptStopped}
 use Rattle.cli_show_diff.proofs.TablesPrinted.{unbegun}

@@ -1,4 +1,4 @@
-use Rattle.std.proofs.Common.{◌≡◌, Option, OnOk, inl, subst, sym}
+use Rattle.std.proofs.Common.{◌≡◌, OnOk, inl, subst, sym}
 use Rattle.std.specs.Prelude.{IfErr}
 use Rattle.sqval.specs.Database.{Database}
 use Rattle.sqdeep.specs.Records.{encoding_of}

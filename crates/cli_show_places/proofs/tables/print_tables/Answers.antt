@@ -1,59 +1,63 @@
-use Rattle.std.proofs.Common.{◌∙◌, List, OnOk, false, true, inl, inr, subst}
-use Rattle.std.specs.Prelude.{IfErr}
+use Rattle.std.proofs.Common.{◌≡◌, ◌<◌, ◌∙◌, ℕ, List, arith, inl, inr, length, subst, sym}
+use Rattle.std.proofs.lemmas.List.{length-map}
 use Rattle.std.proofs.lemmas.Result.{IfErr-weaker, on_ok_weaker}
 use Rattle.sqval.specs.Database.{Database}
 use Rattle.sqtables.specs.declared.list.Object.{Object}
-use Rattle.cli_show_places.specs.Places.{AreTurnsPlaced, form_of}
-use Rattle.cli_show_places.specs.Stops.{AreTablesStopped, IsTurnStopped}
+use Rattle.sqdeep.specs.Records.{encoding_of}
+use Rattle.cli_show_rows.specs.declared.stop.Stop.TheVariants.{LeftOut}
+use Rattle.cli_show_rows.specs.Strays.{HasStrays, bytes_of}
+use Rattle.cli_show_rows.proofs.LeftOut.{no_strays}
+use Rattle.cli_show_places.specs.Places.{AreObjectsPlaced}
+use Rattle.cli_show_places.specs.Stops.{AreObjectsStopped, AreTablesStopped}
 use Rattle.cli_show_places.proofs.tables.print_tables.Goals as goal
 
-pub returns-in-Ok-print_turn-clause-ok : goal.returns-in-Ok-print_turn-clause-ok
-returns-in-Ok-print_turn-clause-ok g c = λ gives tells.
+pub returns-in-Ok-print_objects-clause-ok : goal.returns-in-Ok-print_objects-clause-ok
+returns-in-Ok-print_objects-clause-ok g c = λ gives tells.
     let d = g.S.PageSource.pages c.args.source.now in
     let frames = g.S.Framed.frames in
-    let form = form_of c.args.style true in
     let old = g.W.Write.contents c.args.out.now in
-    let mid = g.W.Write.contents c.print_turn.new.out in
-    let new = g.W.Write.contents c.print_turn-in-Ok-print_turn.new.out in
-    let objects = c.in-Ok.schema.objects.items in
+    let new = g.W.Write.contents c.print_objects.new.out in
     let keeps = c.in-Ok.ensures.keeps in
-    let later = c.in-Ok-print_turn.ensures.keeps in
-    let users = subst (λ (os : List Object). AreTurnsPlaced d frames form false os old mid) c.deref.ensures.value
-    (subst (λ (p : Database). AreTurnsPlaced p frames form false c.deref.result.now old mid) keeps.same_pages (c.in-Ok-print_turn.ensures.ok (keeps.still_gives gives) tells)) in
-    let own = subst (λ (os : List Object). OnOk c.print_turn-in-Ok-print_turn.result (AreTurnsPlaced d frames form true os mid new)) c.deref-in-Ok-print_turn.ensures.value
-    (subst (λ (p : Database). OnOk c.print_turn-in-Ok-print_turn.result (AreTurnsPlaced p frames form true c.deref-in-Ok-print_turn.result.now mid new)) (later.same_pages ∙ keeps.same_pages)
-    (c.print_turn-in-Ok-print_turn.ensures.ok (later.still_gives (keeps.still_gives gives)) tells)) in
-    on_ok_weaker c.print_turn-in-Ok-print_turn.result (λ (is : AreTurnsPlaced d frames form true objects mid new). (objects, mid, (c.in-Ok.ensures.ok gives).0, users, is)) own
+    let objects = c.in-Ok.schema.objects.items in
+    let strays = bytes_of c.in-Ok.schema.strays.items in
+    let same : c.len.result ≡ length strays = c.len.ensures ∙ c.in-Ok.schema.strays.ok.0 ∙ sym (length-map c.in-Ok.schema.strays.items (λ v. v.items)) in
+    let placed = subst (λ (os : List Object). AreObjectsPlaced d frames c.args.style os old new) c.deref.ensures.value
+    (subst (λ (p : Database). AreObjectsPlaced p frames c.args.style c.deref.result.now old new) keeps.same_pages (c.in-Ok-print_objects.ensures.ok (keeps.still_gives gives) tells)) in
+    on_ok_weaker c.refused.result (λ (zero : c.len.result ≡ 0). (
+      objects,
+      (c.in-Ok.ensures.ok gives).0,
+      subst (λ (ts : List (List ℕ)). HasStrays d (encoding_of d) ts) (no_strays strays 0 (omega (arith, same, zero))) (c.in-Ok.ensures.strays gives),
+      placed,
+    )) c.refused.ensures.ok
 
-pub returns-in-Ok-print_turn-clause-err : goal.returns-in-Ok-print_turn-clause-err
-returns-in-Ok-print_turn-clause-err g c = λ gives tells.
+pub returns-in-Ok-print_objects-clause-err : goal.returns-in-Ok-print_objects-clause-err
+returns-in-Ok-print_objects-clause-err g c = λ gives tells.
     let d = g.S.PageSource.pages c.args.source.now in
     let frames = g.S.Framed.frames in
-    let form = form_of c.args.style true in
     let old = g.W.Write.contents c.args.out.now in
-    let mid = g.W.Write.contents c.print_turn.new.out in
-    let new = g.W.Write.contents c.print_turn-in-Ok-print_turn.new.out in
-    let objects = c.in-Ok.schema.objects.items in
+    let new = g.W.Write.contents c.print_objects.new.out in
     let keeps = c.in-Ok.ensures.keeps in
-    let later = c.in-Ok-print_turn.ensures.keeps in
-    let users = subst (λ (os : List Object). AreTurnsPlaced d frames form false os old mid) c.deref.ensures.value
-    (subst (λ (p : Database). AreTurnsPlaced p frames form false c.deref.result.now old mid) keeps.same_pages (c.in-Ok-print_turn.ensures.ok (keeps.still_gives gives) tells)) in
-    let own = subst (λ (os : List Object). IfErr c.print_turn-in-Ok-print_turn.result (λ stop. IsTurnStopped d frames form true os stop mid new)) c.deref-in-Ok-print_turn.ensures.value
-    (subst (λ (p : Database). IfErr c.print_turn-in-Ok-print_turn.result (λ stop. IsTurnStopped p frames form true c.deref-in-Ok-print_turn.result.now stop mid new)) (later.same_pages ∙ keeps.same_pages)
-    (c.print_turn-in-Ok-print_turn.ensures.err (later.still_gives (keeps.still_gives gives)) tells)) in
-    IfErr-weaker c.print_turn-in-Ok-print_turn.result (λ stop. IsTurnStopped d frames form true objects stop mid new) (λ stop. AreTablesStopped d frames c.args.style stop old new)
-    (λ stop stopped. inr (inr (objects, mid, (c.in-Ok.ensures.ok gives).0, users, stopped))) own
+    let objects = c.in-Ok.schema.objects.items in
+    let strays = bytes_of c.in-Ok.schema.strays.items in
+    let same : c.len.result ≡ length strays = c.len.ensures ∙ c.in-Ok.schema.strays.ok.0 ∙ sym (length-map c.in-Ok.schema.strays.items (λ v. v.items)) in
+    let placed = subst (λ (os : List Object). AreObjectsPlaced d frames c.args.style os old new) c.deref.ensures.value
+    (subst (λ (p : Database). AreObjectsPlaced p frames c.args.style c.deref.result.now old new) keeps.same_pages (c.in-Ok-print_objects.ensures.ok (keeps.still_gives gives) tells)) in
+    IfErr-weaker c.refused.result (λ stop. (0 < c.len.result) × (stop ≡ LeftOut c.len.result)) (λ stop. AreTablesStopped d frames c.args.style stop old new)
+    (λ stop w. inr (inr (
+      strays,
+      subst (λ (n : ℕ). 0 < n) same w.0,
+      subst (λ (n : ℕ). stop ≡ LeftOut n) same w.1,
+      (objects, (c.in-Ok.ensures.ok gives).0, c.in-Ok.ensures.strays gives, placed),
+    ))) c.refused.ensures.err
 
 pub returns-clause-err : goal.returns-clause-err
 returns-clause-err g c = λ gives tells.
     let d = g.S.PageSource.pages c.args.source.now in
     let frames = g.S.Framed.frames in
-    let form = form_of c.args.style true in
     let old = g.W.Write.contents c.args.out.now in
-    let mid = g.W.Write.contents c.print_turn.new.out in
-    let objects = c.in-Ok.schema.objects.items in
+    let new = g.W.Write.contents c.print_objects.new.out in
     let keeps = c.in-Ok.ensures.keeps in
-    let stop = c.in-Err-print_turn.stop in
-    let stopped = subst (λ (os : List Object). IsTurnStopped d frames form false os stop old mid) c.deref.ensures.value
-    (subst (λ (p : Database). IsTurnStopped p frames form false c.deref.result.now stop old mid) keeps.same_pages (c.in-Err-print_turn.ensures.err (keeps.still_gives gives) tells)) in
-    inr (inl (objects, (c.in-Ok.ensures.ok gives).0, stopped))
+    let stop = c.in-Err-print_objects.stop in
+    let stopped = subst (λ (os : List Object). AreObjectsStopped d frames c.args.style os stop old new) c.deref.ensures.value
+    (subst (λ (p : Database). AreObjectsStopped p frames c.args.style c.deref.result.now stop old new) keeps.same_pages (c.in-Err-print_objects.ensures.err (keeps.still_gives gives) tells)) in
+    inr (inl (c.in-Ok.schema.objects.items, (c.in-Ok.ensures.ok gives).0, stopped))

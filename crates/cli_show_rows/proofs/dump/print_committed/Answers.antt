@@ -1,6 +1,6 @@
 use Rattle.std.proofs.Common.{inl, inr, subst}
 use Rattle.sqval.specs.Database.{Database}
-use Rattle.cli_show_rows.specs.declared.dump.Turn.TheVariants.{Internal}
+use Rattle.cli_show_rows.specs.declared.dump.Turn.TheVariants.{Sequence}
 use Rattle.cli_show_rows.specs.Stops.{IsTurnStopped}
 use Rattle.cli_show_rows.proofs.dump.print_committed.Goals as goal
 
@@ -10,5 +10,5 @@ returns-in-Err-print_turn-clause-err g c = λ gives.
     let mid = g.W.Write.contents c.print_turn.new.out in
     let after = g.W.Write.contents c.print_turn-2.new.out in
     let stop = c.in-Err-print_turn.stop in
-    let stopped = subst (λ (p : Database). IsTurnStopped p c.args.form Internal c.args.objects.now stop mid after) keeps.same_pages (c.in-Err-print_turn.ensures.err (keeps.still_gives gives)) in
+    let stopped = subst (λ (p : Database). IsTurnStopped p c.args.form (Sequence c.args.of.1) c.args.of.0.now stop mid after) keeps.same_pages (c.in-Err-print_turn.ensures.err (keeps.still_gives gives)) in
     inr (inr (inl (mid, c.in-Ok.ensures.ok gives, stopped)))

@@ -14,7 +14,7 @@ returns-clause-ok g c = λ gives.
     let new = g.W.Write.contents c.print_headed.new.out in
     let table = c.args.table.now in
     let named = is_named_in c.args.form.notation table.name.items in
-    on_ok c.print_headed.result (IsHeadedPrinted d table c.args.form mid new) (IsMadePrinted d c.args.form table old new)
+    on_ok c.print_headed.result (IsHeadedPrinted d table c.args.form mid new) (IsMadePrinted d c.args.form c.args.made table old new)
     (λ headed. (mid, c.in-Ok.ensures.ok, when_true named (IsHeadedPrinted d table c.args.form mid new) (mid ≡ new) (sym (c.is_named_in.ensures ∙ ap (λ n. is_named_in c.args.form.notation n) c.as_slice.ensures.value) ∙ c.if-not-is_named_in.false) headed)) (c.print_headed.ensures.ok gives)
 
 pub returns-clause-err : goal.returns-clause-err
@@ -23,7 +23,7 @@ returns-clause-err g c = λ gives.
     let old = g.W.Write.contents c.args.out.now in
     let mid = g.W.Write.contents c.print_before.new.out in
     let new = g.W.Write.contents c.print_headed.new.out in
-    on_err c.print_headed.result (λ stop. IsHeadedStopped d c.args.table.now c.args.form stop mid new) (λ stop. IsMadeStopped d c.args.form c.args.table.now stop old new)
+    on_err c.print_headed.result (λ stop. IsHeadedStopped d c.args.table.now c.args.form stop mid new) (λ stop. IsMadeStopped d c.args.form c.args.made c.args.table.now stop old new)
     (λ stop stopped. inr (mid, c.in-Ok.ensures.ok, (sym (c.is_named_in.ensures ∙ ap (λ n. is_named_in c.args.form.notation n) c.as_slice.ensures.value) ∙ c.if-not-is_named_in.false), stopped)) (c.print_headed.ensures.err gives)
 
 pub returns-then-not-is_named_in-clause-ok : goal.returns-then-not-is_named_in-clause-ok

@@ -26,8 +26,8 @@ loop-object-preserved c =
       }
     ]
 
-pub returns : goal.returns
-returns c =
+pub returns-clause-counted : goal.returns-clause-counted
+returns-clause-counted c =
     let objects = c.args.objects.now in
     let i = c.loop-object.object-index in
     let all = take_all i objects (omega (arith, c.loop-object-test.false)) in

@@ -4,7 +4,7 @@ use Rattle.std.specs.Cmp.Lexicographic.{bytes_decides}
 use Rattle.cli_words.proofs.CommandLineArguments.{agree, differ, told}
 use Rattle.cli_words.proofs.OptionsOfCommand.{others, check_asks, diff_asks, report_asks, rows_asks, salvage_asks, show_amiss, at_named, at_none, asks_to, no_to, some_to}
 use Rattle.cli_words.proofs.words.asked.Goals as goal
-use Rattle.cli_words.proofs.words.asked.Goals.{then-ne-via-then-ne, then-ne-via-else-ne+then-not-may_recover}
+use Rattle.cli_words.proofs.words.asked.Goals.{then-ne-via-then-ne, then-ne-via-else-ne+then-not-are_known}
 use Rattle.cli_words.proofs.words.asked.Goals.{else-is_none-via-then-is_none+else-is_some, else-is_none-via-else-is_none}
 
 pub returns-in_err-part : goal.returns-in_err-part
@@ -76,10 +76,7 @@ returns-then-ne c = λ _ _.
         (λ is. absurd (others _ _ c.if-eq-5.ensures is)),
         (λ is. elim c.then-ne.branch [
           | then-ne-via-then-ne w ↦ absurd (differ _ _ true w.if-ne.ensures refl is)
-          | then-ne-via-else-ne+then-not-may_recover w ↦ elim (w.if-not-may_recover.ensures.not refl) [
-            | inl unknown ↦ inl unknown
-            | inr maps ↦ inr (inl (c.in_ok-options.ensures.pointer_maps.0 maps))
-          ]
+          | then-ne-via-else-ne+then-not-are_known w ↦ inl (w.if-not-are_known.ensures.not refl)
         ]),
         (λ is. absurd (others _ _ c.if-eq-2.ensures is)),
         (λ is. absurd (others _ _ c.if-eq-3.ensures is)),
@@ -96,10 +93,10 @@ returns-then-is_some c = λ _ _.
       c.options_of-given.ensures,
       inr (
         (λ is. absurd (others _ _ c.if-eq-5.ensures is)),
-        (λ _. inr (inr (
+        (λ _. inr (
           at_named options c.in_ok-options.options.at c.if-is_some.ensures c.in_ok-options.ensures.at_commit,
           no_to options c.text_of-to.result c.if-is_none.ensures (asks_to options c.text_of-to.result c.text_of-to.ensures),
-        ))),
+        )),
         (λ is. absurd (others _ _ c.if-eq-2.ensures is)),
         (λ is. absurd (others _ _ c.if-eq-3.ensures is)),
         (λ is. absurd (others _ _ c.if-eq-4.ensures is)),
@@ -116,7 +113,7 @@ returns c =
       (
         options,
         c.options_of-given.ensures,
-        c.if-not-may_recover.ensures.known refl,
+        c.if-not-are_known.ensures.yes refl,
         c.in_ok-options.ensures,
         (c.stands_in-force.ensures.yes, told _ _ c.stands_in-force.ensures.not),
         asks_to options c.text_of-to.result c.text_of-to.ensures,
@@ -124,6 +121,5 @@ returns c =
           | else-is_none-via-then-is_none+else-is_some w ↦ at_none c.in_ok-options.options.at w.if-is_some.ensures
           | else-is_none-via-else-is_none w ↦ absurd (some_to c.text_of-to.result w.if-is_none.ensures none)
         ]),
-        c.if-not-may_recover.ensures.none refl,
       ),
     )

@@ -1,4 +1,3 @@
-use Rattle.std.proofs.Common.{refl}
 use Rattle.cli_words.proofs.CommandLineArguments.{told}
 use Rattle.cli_words.proofs.words.deep_of.Goals as goal
 

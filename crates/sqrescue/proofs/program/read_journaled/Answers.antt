@@ -6,11 +6,14 @@ use Rattle.cli_show.specs.declared.error.ShowError.{ShowError}
 use Rattle.cli_job.specs.declared.answers.Answer.{Answer}
 use Rattle.sqrescue.proofs.program.read_journaled.Goals as goal
 
-pub returns-in-Some : goal.returns-in-Some
-returns-in-Some g c =
+pub returns-in-Changed : goal.returns-in-Changed
+returns-in-Changed g c =
     ⊎_elim (λ r. inl (c.alone.result, inr (c.requires, c.alone.ensures), r))
     (λ e. inr (subst (λ (r : Result Answer ShowError). IsErrAnd r (λ error. IfRefused IsFromWatch error)) (sym e) (inl refl)))
     c.read_again.ensures
 
-pub returns-in-None : goal.returns-in-None
-returns-in-None g c = inl (c.args.source, inl refl, c.read_from-answer.ensures)
+pub returns-in-Same : goal.returns-in-Same
+returns-in-Same g c = inl (c.args.source, inl refl, c.read_from-answer.ensures)
+
+pub returns-in-Unseen : goal.returns-in-Unseen
+returns-in-Unseen g c = inr (inr (inl refl))

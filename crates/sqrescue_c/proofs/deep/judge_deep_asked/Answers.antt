@@ -4,14 +4,14 @@ use Rattle.sqview.specs.LogView.{pages_of}
 use Rattle.sqpast.specs.declared.past_error.PastError.TheVariants.{CommitOverwritten}
 use Rattle.sqdeepjudge.proofs.SchemaFindings.{both_parts}
 use Rattle.sqrescue_c.specs.Deeps.{IsAskedDeep, AreDeepUnjudged}
-use Rattle.sqrescue_c.proofs.DeepFindings.{asked, cut_asked, unjudged, without, unjudged_without}
+use Rattle.sqrescue_c.proofs.DeepFindings.{asked, counted_asked, cut_asked, unjudged, without, unjudged_without}
 use Rattle.sqrescue_c.proofs.ReportedFindings.{carried, refusal}
 use Rattle.sqrescue_c.proofs.deep.judge_deep_asked.Goals as goal
 
 pub returns-in-Ok : goal.returns-in-Ok
 returns-in-Ok c =
     let files = c.args.files.now in
-    let view = c.in-Ok.view in
+    let view = c.in-Ok.used.view in
     let d = pages_of (λ file. file.now) view in
     let found = both_parts true d view.page_size c.judge_deep.result (c.judge_deep.ensures.found (tt, tt)) (c.judge_deep.ensures.schema (tt, tt)) in
     record {
@@ -20,7 +20,9 @@ returns-in-Ok c =
           (asked c.args.flags c.args.frame files.db.now files.wal.now files.journal.now view.page_size d
           c.in-Ok.ensures.shown c.judge_deep.result found
           (cut_asked c.args.flags c.args.frame files.db.now files.wal.now files.journal.now (λ file. file.now) view c.length_of-long.result c.judge_deep.result
-          c.in-Ok.ensures.missing c.length_of-long.ensures c.judge_deep.ensures.cut));
+          c.in-Ok.ensures.missing c.length_of-long.ensures c.judge_deep.ensures.cut)
+          (counted_asked c.args.flags c.args.frame files.db.now files.wal.now files.journal.now c.in-Ok.used.counts c.judge_deep.result
+          c.in-Ok.ensures.counts c.judge_deep.ensures.counts));
       refused = refusal c.judge_deep.result (AreDeepUnjudged c.args.flags c.args.frame files.db.now files.wal.now files.journal.now)
           c.with_status.result c.with_status.ensures.err
           (unjudged c.args.flags c.args.frame files.db.now files.wal.now files.journal.now view.page_size d

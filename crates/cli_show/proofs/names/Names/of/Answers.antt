@@ -1,4 +1,4 @@
-use Rattle.std.proofs.Common.{List, subst, arith}
+use Rattle.std.proofs.Common.{List, subst}
 use Rattle.std.specs.Prelude.{map, string_bytes}
 use Rattle.cli_show.specs.Names.{IsTreeName}
 use Rattle.cli_show.specs.declared.names.Name.{Name}

@@ -1,4 +1,4 @@
-use Rattle.std.proofs.Common.{◌≡◌, ℕ, ◌+◌, ◌++◌, ◌<◌, refl, List, length, take, drop, ◌∙◌, ap, subst, arith}
+use Rattle.std.proofs.Common.{◌≡◌, ◌+◌, ◌++◌, ◌<◌, refl, length, take, drop, sym, ◌∙◌, ap, subst, arith}
 use Rattle.std.proofs.lemmas.List.{take_at}
 use Rattle.sqval.specs.Database.{Database, page}
 use Rattle.sqview.specs.Laid.{place_of}
@@ -35,7 +35,7 @@ loop-i-preserved-then-knows g c =
     let commit = commit_of c.args.self.now in
     let less : n < v.count = omega (arith, c.loop-i-test.true, c.count-count.ensures, length_laid v.page_size v.count (bytes v.db) (bytes v.log) v.places.items) in
     let known = c.knows.ensures.0 c.if-knows.true in
-    let own = subst (λ (l : List ℕ). place_of l (n + 1) ≡ 0) (c.places.ensures ∙ ap (λ (s : Shape). s.places) was.0) known.0 in (
+    let own : place_of v.places.items (n + 1) ≡ 0 = ap (λ (s : Shape). place_of s.places (n + 1)) (sym was.0) ∙ sym c.place-place.ensures ∙ known.0 in (
       was.0,
       was.1,
       was.2,
@@ -65,7 +65,7 @@ loop-i-preserved g c =
       λ gives. c.read.ensures.still_gives (was.3 gives),
       λ gives is.
           c.learn.ensures.near commit (file v.db) (was.4 gives is) (λ yes at.
-          let own = subst (λ (l : List ℕ). place_of l (n + 1) ≡ 0) (c.places-in-loop-i.ensures ∙ ap (λ (s : Shape). s.places) shape) at in
+          let own : place_of v.places.items (n + 1) ≡ 0 = ap (λ (s : Shape). place_of s.places (n + 1)) (sym was.0) ∙ sym c.place-place.ensures ∙ at in
           let read : c.deref-in-loop-i.result.now ≡ page d (n + 1) =
           c.deref-in-loop-i.ensures.value ∙ kept ∙ ok_now c.read.result (c.read.ensures.never_fails (was.3 gives)) (c.read.ensures.read (g.met.F.FileBytes.right c.loop-i.view.db (was.3 gives).0, g.met.F.FileBytes.right c.loop-i.view.log (was.3 gives).1))
           ∙ ap (λ (x : Database). page x (n + 1)) (same_pages file c.loop-i.view v was.0) in

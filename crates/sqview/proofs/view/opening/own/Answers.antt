@@ -39,4 +39,4 @@ returns-clause-right g c = λ right ok wal journal short alone.
     let counted : c.count_pages.result ≡ own_pages c.in-Some.page_size db = c.count_pages.ensures (c.read_head.ensures.still_right right) (head ∙ ap head_of (sym c.read_head.ensures.same_bytes)) ∙ ap (own_pages c.in-Some.page_size) c.read_head.ensures.same_bytes in
     let le : LimitAnswer c.args.limits.bytes c.in-Some.page_size (own_pages c.in-Some.page_size db) (Ok c.in_ok-count.count) = subst (λ (n : ℕ). LimitAnswer c.args.limits.bytes c.in-Some.page_size n (Ok c.in_ok-count.count)) counted c.in_ok-count.ensures in
     own_shown c.args.limits db wal journal alone short c.in-Some.page_size size named g.F.FileBytes.bytes _ le
-    (subst HasMagic head (c.has_magic.ensures.0 c.if-not-has_magic.false)) refl c.read_head.ensures.same_bytes c.new.ensures.items refl
+    (subst HasMagic head (c.has_magic.ensures.0 c.if-not-has_magic.false)) refl c.read_head.ensures.same_bytes c.none.ensures refl

@@ -1,8 +1,9 @@
-use Rattle.std.proofs.Common.{◌∙◌, ℕ, List, [], refl, sym, subst}
+use Rattle.std.proofs.Common.{◌∙◌, ◌≤◌, ℕ, List, [], refl, sym, subst}
 use Rattle.sqjournal.specs.Restored.{IsRolledBack}
 use Rattle.sqjournal.specs.declared.replay.Replay.{Replay}
 use Rattle.sqview.specs.Laid.{laid}
-use Rattle.sqview.proofs.place.PlacesOfLastRecords.{journal_places, read_journal, read_places, rolled_back}
+use Rattle.sqview.specs.Places.{most_kept}
+use Rattle.sqview.proofs.place.PlacesOfLastRecords.{journal_places, read_journal, read_kept, read_places, rolled_back}
 use Rattle.sqview.proofs.openings.ShownOrRefusedView.{answers, read_before, replay_refused, restored_limited, restored_shown}
 use Rattle.sqview.proofs.view.opening.restored.Goals as goal
 
@@ -37,3 +38,5 @@ returns-clause-right g c = λ right ok hot names.
     restored_shown c.args.limits db b hot size c.from.result names.size count read.0 bytes
     (record { db = c.args.db; log = c.replayed.new.journal; page_size = size; count = n; front = 0; places = c.in_ok-places.places }) c.in_ok-count.ensures names.size
     (subst (λ (l : List ℕ). IsRolledBack db b (laid size n db l places)) (sym c.replayed.ensures.same_bytes) back) refl (journal_places b n places are)
+    (subst (λ (l : List ℕ). c.in_ok-places.places.kept ≤ most_kept size l) (sym c.replayed.ensures.same_bytes)
+    (subst (λ (k : ℕ). c.in_ok-places.places.kept ≤ most_kept k b) (sym names.size) (read_kept b c.in_ok-replay.replay read.1 c.in_ok-places.places.kept hot c.in_ok-places.ensures.few)))
