@@ -258,7 +258,7 @@ static uint32_t make(const struct copied *it) {
 /* What is to be copied: at a commit, or at 0, the view that the path is opened with; otherwise what the plan leaves. */
 static uint32_t look(struct copied *it) {
     const int is_past = (it->flags & SQR_AT) != 0;
-    const uint32_t how = is_past ? it->flags : (it->flags & SQR_NO_LOCK) | SQR_FILES_ONLY;
+    const uint32_t how = is_past ? it->flags : (it->flags & (SQR_NO_LOCK | SQR_ANY)) | SQR_FILES_ONLY;
     it->from.db.folder = it->from.wal.folder = it->from.journal.folder = it->folder;
     uint32_t status = sqr_path_begin(&it->from, it->path, how, it->at);
     it->call.is_held_up = status == SQR_IN_USE;
@@ -291,10 +291,12 @@ static void copy_once(struct sqr_task *task, struct sqr_call *call) {
 static uint32_t copied(struct copied *it, const char *path, const struct sqr_options *options) {
     struct sqr_asked asked = {0, 0};
     char real[PATH_MAX], folder[PATH_MAX + 16];
-    uint32_t status = sqr_file_asked(path, it->flags, SQR_NO_LOCK | SQR_AT, options, real, &asked);
+    uint32_t status = sqr_file_asked(path, it->flags, SQR_NO_LOCK | SQR_AT | SQR_ANY, options, real, &asked);
     folder_of(folder, it->to);
     it->path = real, it->at = asked.at, it->folder = folder;
-    return status ? status : sqr_call_run(copy_once, &it->call, real, NULL, asked.wait);
+    if (!status) status = sqr_call_run(copy_once, &it->call, real, NULL, asked.wait);
+    it->path = it->folder = NULL; /* both end here */
+    return status;
 }
 
 uint32_t sqr_recover_to(const char *path, const char *to, uint32_t flags, const struct sqr_options *options,

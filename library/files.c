@@ -136,6 +136,28 @@ uint32_t sqr_file_is_hot(int journal, uint64_t len, uint8_t *header, int *is_hot
     return status;
 }
 
+/* Whether a path leads to something that isn't an empty regular file. */
+static uint32_t look_for(const char *path, int *is_there) {
+    struct stat found;
+    *is_there = !stat(path, &found);
+    if (*is_there) *is_there = !S_ISREG(found.st_mode) || found.st_size;
+    else if (errno != ENOENT && errno != ENOTDIR && errno != ENAMETOOLONG && errno != ELOOP) return SQR_SUPER_JOURNAL;
+    return SQR_OK;
+}
+
+uint32_t sqr_file_super(const struct sqr_opened *journal, size_t *len) {
+    char path[513]; /* SQLite accepts 512 bytes */
+    int is_there = 1;
+    *len = journal->len;
+    if (*len <= SQR_JOURNAL_HEADER) return SQR_OK; /* of a journal that isn't hot no more than this is read */
+    const uint32_t names = sqr_super_path(sqr_bytes(journal->bytes), journal->len, (uint8_t *)path, sizeof path);
+    if (names == SQR_SUPER_NONE) return SQR_OK;
+    if (names == SQR_SUPER_NAMED && *path != '/') return SQR_SUPER_JOURNAL;
+    uint32_t status = names == SQR_SUPER_NAMED ? look_for(path, &is_there) : SQR_OK;
+    *len = is_there ? journal->len - 8 : 0;
+    return status;
+}
+
 uint32_t sqr_file_bytes(int fd, size_t len, int is_copy, struct sqr_opened *out) {
     if (len == 0) return SQR_OK;
     if (len > PTRDIFF_MAX) return SQR_TOO_LARGE;

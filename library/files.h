@@ -34,6 +34,10 @@ struct sqr_asked { /* as the crate's Asked */
 
 uint32_t sqr_options_read(uint32_t flags, const uint8_t *options, size_t len, struct sqr_asked *out);
 
+/* What a journal says of a super-journal, as the crate's supers.rt has it. */
+enum { SQR_SUPER_NONE, SQR_SUPER_UNNAMED, SQR_SUPER_NAMED };
+uint32_t sqr_super_path(const uint8_t *journal, size_t len, uint8_t *path, size_t room);
+
 /* What a caller asks of a path, whose links are led to their file in `real`, which has room for PATH_MAX bytes. Other
    flags than `known` are refused. */
 uint32_t sqr_file_asked(const char *path, uint32_t flags, uint32_t known, const struct sqr_options *options, char *real,
@@ -64,6 +68,11 @@ uint32_t sqr_file_log(int file, const char *path, const char *end, int how, int 
 /* Whether a rollback journal of this length is hot, by its header (sqr_journal_is_hot): 28 bytes; no more is read. */
 #define SQR_JOURNAL_HEADER 28
 uint32_t sqr_file_is_hot(int journal, uint64_t len, uint8_t *header, int *is_hot);
+
+/* How many bytes of a hot journal count if the file system decides whether its super-journal exists, as for SQLite:
+   none if that is gone; otherwise all but the last 8, if these say that there may be one. SQR_SUPER_JOURNAL if the name
+   is relative, or can't be looked at. */
+uint32_t sqr_file_super(const struct sqr_opened *journal, size_t *len);
 
 /* The first `len` bytes of a file, mapped or copied. */
 #define SQR_COPIED 4194304 /* bytes: the copy of a longer file takes no memory, but a file without a name */

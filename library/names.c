@@ -72,6 +72,7 @@ const char *sqr_fault_name(uint32_t fault) {
     case SQR_FAULT_FREEBLOCK_GAP: return "FreeblockGap";
     case SQR_FAULT_ROOT_BEHIND: return "RootBehind";
     case SQR_FAULT_FILE_CUT: return "FileCut";
+    case SQR_FAULT_PAGE_COUNT: return "PageCount";
     case SQR_FAULT_SHORT_CELL: return "ShortCell";
     case SQR_FAULT_TOO_LONG: return "TooLong";
     case SQR_FAULT_NOT_RECORD: return "NotRecord";

@@ -188,8 +188,11 @@ uint32_t sqr_path_begin(struct sqr_path *of, const char *path, uint32_t flags, u
     if (!status) status = read_file(of, path, how, flags);
     if (!status && how >= NO_INDEX && is_there(path, "-shm")) status = SQR_IN_USE;
     if (status) return status;
+    size_t counts = of->journal.len;
+    if (flags & SQR_SUPER_JOURNAL_LOOK) status = sqr_file_super(&of->journal, &counts);
+    if (status) return status;
     of->files = (struct sqr_files)SQR_FILES(of->db.bytes, of->db.len, of->wal.bytes, of->wal.len, of->journal.bytes,
-                                            of->journal.len);
+                                            counts);
     of->is_alone = how == SCANNED_ALONE;
     if (!(flags & SQR_FILES_ONLY)) status = open_view(of, flags, at);
     if (!status) status = settle(of);

@@ -150,7 +150,10 @@ static uint32_t recover(struct recovery *of) {
     uint32_t status = read_files(of, of->path);
     if (status) return status;
     const struct sqr_opened *db = &of->db, *wal = &of->logs[WAL].bytes, *journal = &of->logs[JOURNAL].bytes;
-    const struct sqr_files files = SQR_FILES(db->bytes, db->len, wal->bytes, wal->len, journal->bytes, journal->len);
+    size_t counts = journal->len;
+    if (of->flags & SQR_SUPER_JOURNAL_LOOK) status = sqr_file_super(journal, &counts);
+    if (status) return status;
+    const struct sqr_files files = SQR_FILES(db->bytes, db->len, wal->bytes, wal->len, journal->bytes, counts);
     status = sqr_file_plan(&files, &of->places, &of->plan, &of->found);
     return status ? status : carry_out(of);
 }
@@ -182,7 +185,7 @@ uint32_t sqr_recover(const char *path, uint32_t flags, const struct sqr_options 
     struct sqr_asked asked = {0, 0};
     char real[PATH_MAX];
     const int before = sqr_call_begun();
-    uint32_t status = sqr_file_asked(path, flags, SQR_NO_LOCK, options, real, &asked);
+    uint32_t status = sqr_file_asked(path, flags, SQR_NO_LOCK | SQR_ANY, options, real, &asked);
     of.path = real, of.flags = flags;
     if (!status) status = sqr_call_run(recover_once, &of.call, real, NULL, asked.wait);
     if (!status && out) *out = of.found;

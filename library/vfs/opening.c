@@ -1,8 +1,9 @@
-/* opening.c: reads a database that is open, and shares openings that show the same. Not proved. */
+/* opening.c: reads a database that is open, and shares openings that show the same. Not proved, except in which pages
+   the bytes are (pieces.h). */
 #define _GNU_SOURCE
 #include "opening.h"
 #include "memory.h"
-#include "range.h"
+#include "pieces.h"
 #include "shown.h"
 #include <errno.h>
 #include <pthread.h>
@@ -197,7 +198,7 @@ uint64_t vfs_length(const struct vfs_opening *it) {
 
 /* Bytes of FILE or its log, and zeros after its end: 0 or -1. */
 static int copied(const uint8_t *of, size_t has, uint64_t at, uint8_t *to, size_t len, int is_copy) {
-    const size_t there = (size_t)vfs_within(at, len, has);
+    const size_t there = (size_t)sqr_bytes_there(at, len, has);
     memset(to + there, 0, len - there);
     if (!is_copy) return there ? vfs_copy(to, of + at, there) : 0;
     if (there) memcpy(to, of + at, there);
@@ -205,7 +206,7 @@ static int copied(const uint8_t *of, size_t has, uint64_t at, uint8_t *to, size_
 }
 
 /* A piece of a page of the view. */
-static int piece_of(const struct vfs_shown *it, const struct vfs_piece *piece, uint8_t *to) {
+static int piece_of(const struct vfs_shown *it, const struct sqr_piece *piece, uint8_t *to) {
     const struct sqr_view *view = &it->view;
     struct sqr_place place = {0, 0};
     if (piece->page > view->pages || sqr_page_place(view, (uint32_t)piece->page, &place)) {
@@ -217,15 +218,20 @@ static int piece_of(const struct vfs_shown *it, const struct vfs_piece *piece, u
     return copied(of, has, place.at + piece->from, to, piece->len, !it->path);
 }
 
+/* The bytes of a range of the view's pages, all of which are there: 0 or -1. */
+static int pages_of(const struct vfs_shown *it, uint8_t *to, uint64_t len, uint64_t at) {
+    struct sqr_piece piece = {0, 0, 0};
+    for (; sqr_first_piece(at, len, it->view.page_size, &piece); to += piece.len, at += piece.len, len -= piece.len)
+        if (piece_of(it, &piece, to)) return -1;
+    return 0;
+}
+
 enum vfs_answer vfs_read(const struct vfs_opening *it, uint8_t *to, uint64_t len, uint64_t at) {
     const struct vfs_shown *shown = &it->shown;
-    const uint64_t has = vfs_within(at, len, vfs_length(it));
-    if (shown->is_file && copied(shown->view.db, shown->view.db_len, at, to, has, !shown->path)) return VFS_FAILED;
-    for (uint64_t done = 0; !shown->is_file && done < has;) {
-        const struct vfs_piece piece = vfs_first_piece(at + done, has - done, shown->view.page_size);
-        if (piece_of(shown, &piece, to + done)) return VFS_FAILED;
-        done += piece.len;
-    }
+    const uint64_t has = sqr_bytes_there(at, len, vfs_length(it));
+    const int failed = shown->is_file ? copied(shown->view.db, shown->view.db_len, at, to, has, !shown->path)
+                                      : pages_of(shown, to, has, at);
+    if (failed) return VFS_FAILED;
     memset(to + has, 0, len - has);
     return has < len ? VFS_SHORT : VFS_READ;
 }

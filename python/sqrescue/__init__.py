@@ -204,7 +204,8 @@ class _Survey(ctypes.Structure):
     _fields_ = [("pages", Word), ("fault", Word), ("page", Word)]
 
 
-FILES_ONLY, NO_LOCK, AT, LARGE, POINTER_MAPS, COMPLETE = 1, 2, 4, 8, 16, 32
+FILES_ONLY, NO_LOCK, AT, LARGE, POINTER_MAPS, COMPLETE, SUPER_JOURNAL_LOOK = 1, 2, 4, 8, 16, 32, 64
+ANY = LARGE | POINTER_MAPS | SUPER_JOURNAL_LOOK
 
 
 def _found(name="libsqrescue.so.1"):
@@ -459,21 +460,27 @@ class _Path(_Source):
             self._give_up()
 
 
-def _source(database, wal, journal, flags, wait, lock):
+def _path_flags(lock, look):
+    return (0 if lock else NO_LOCK) | (SUPER_JOURNAL_LOOK if look else 0)
+
+
+def _source(database, wal, journal, flags, wait, lock, look):
     """The files of a path, or their bytes."""
     if isinstance(database, (str, os.PathLike)):
-        return _Path(database, flags | (0 if lock else NO_LOCK), wait)
+        return _Path(database, flags | _path_flags(lock, look), wait)
     return _Bytes(database, wal, journal)
 
 
 class View:
     """The database that a file and its logs define. They are given as a path, with the logs next to the file that it
     leads to, or as bytes. It is a sequence of pages, counted from 1. It waits for locks up to `wait` seconds. Without
-    `lock` it holds none, and nobody may write to the files while it is open."""
+    `lock` it holds none, and nobody may write to the files while it is open. If the hot journal of a path names a
+    super-journal, the file system decides whether it is current, as for SQLite. Without `look` it raises
+    SuperJournal."""
 
-    def __init__(self, database, wal=b"", journal=b"", *, wait=5.0, lock=True):
+    def __init__(self, database, wal=b"", journal=b"", *, wait=5.0, lock=True, look=True):
         self._is_part, self._commits, self._at = False, None, None
-        self._source = _source(database, wal, journal, 0, wait, lock)
+        self._source = _source(database, wal, journal, 0, wait, lock, look)
         self._files, self._view = self._source.files, self._source.view
         if self._view is None:
             page_size, pages = Word(), Word()
@@ -539,13 +546,13 @@ class View:
     def __reversed__(self):
         return (self[number] for number in range(len(self), 0, -1))
 
-    def check(self, *, large=False, pointer_maps=False):
+    def check(self, *, large=True, pointer_maps=True):
         """The Report of a database that is well formed; otherwise Damaged. A database with auto-vacuum raises
-        AutoVacuum without pointer_maps. With large it may have up to 2**40 bytes."""
+        AutoVacuum without pointer_maps. One above 2**30 bytes raises TooLarge without large."""
         with self._source:
             return _checked(self._opened()[1], *self._asked(large, pointer_maps))
 
-    def check_deep(self, *, large=False, complete=False):
+    def check_deep(self, *, large=True, complete=False):
         """The DeepReport of a database that is well formed, and whose records, schema, indexes and rows are sound;
         otherwise Damaged. The indexes and tables that aren't judged are in the rows `indexes` and `tables` of the
         schema, from 0. Pointer maps are judged, too. With complete it raises NotJudged if anything isn't judged except
@@ -554,7 +561,7 @@ class View:
         with self._source:
             return _deeply_checked(self._opened()[1], _deep_flags(flags, complete), frame)
 
-    def roles(self, *, large=False, pointer_maps=False):
+    def roles(self, *, large=True, pointer_maps=True):
         """The Roles of the pages, page 1 first: the use of a page, one of USES, and the page that goes with it. That is
         the root of its tree, or the page whose payload it holds. Also the fault that `check` finds, with its page, or
         None."""
@@ -593,10 +600,10 @@ class View:
         return view
 
 
-def check(database, wal=b"", journal=b"", *, large=False, pointer_maps=False, wait=5.0, lock=True):
+def check(database, wal=b"", journal=b"", *, large=True, pointer_maps=True, wait=5.0, lock=True, look=True):
     """The Report of a database that is well formed; otherwise Damaged, also if the files show none, and so have no
     View. Otherwise as View.check."""
-    source = _source(database, wal, journal, FILES_ONLY, wait, lock)
+    source = _source(database, wal, journal, FILES_ONLY, wait, lock, look)
     try:
         with source:
             return _checked(source.files, _flags(large, pointer_maps))
@@ -604,9 +611,9 @@ def check(database, wal=b"", journal=b"", *, large=False, pointer_maps=False, wa
         source.close()
 
 
-def check_deep(database, wal=b"", journal=b"", *, large=False, complete=False, wait=5.0, lock=True):
+def check_deep(database, wal=b"", journal=b"", *, large=True, complete=False, wait=5.0, lock=True, look=True):
     """As `check`, and whether what the database holds is sound: the DeepReport, as View.check_deep gives it."""
-    source = _source(database, wal, journal, FILES_ONLY, wait, lock)
+    source = _source(database, wal, journal, FILES_ONLY, wait, lock, look)
     try:
         with source:
             return _deeply_checked(source.files, _deep_flags(_flags(large, False), complete))
@@ -614,23 +621,23 @@ def check_deep(database, wal=b"", journal=b"", *, large=False, complete=False, w
         source.close()
 
 
-def recover(path, *, wait=5.0, lock=True):
+def recover(path, *, wait=5.0, lock=True, look=True):
     """Recovers a database in place: folds its write-ahead log into it and empties the log, or rolls it back by a hot
     journal. The Recovered names which of RECOVERIES it was. It raises InUse if somebody still has it open after `wait`
     seconds. Without `lock` the caller must ensure that nobody has. After an error of the disk call it again."""
     found = _Recovered()
-    _by_path(_library.sqr_recover, path, None, 0 if lock else NO_LOCK, _options(wait), found)
+    _by_path(_library.sqr_recover, path, None, _path_flags(lock, look), _options(wait), found)
     return Recovered(RECOVERIES[found.recovery], found.page_size, found.pages)
 
 
-def recover_to(path, out, *, at=None, wait=5.0, lock=True):
+def recover_to(path, out, *, at=None, wait=5.0, lock=True, look=True):
     """Creates `out`, a new file with what a recovery would leave, or with the database at the commit that ends at the
     frame `at`, or at 0 before the first. The database is only read, and any writer may go on. `out` is whole and
     durable, or doesn't exist. It raises AlreadyThere if something exists at `out`."""
     frame = 0 if at is None else operator.index(at)
     if not 0 <= frame < 2**32:
         raise NoSuchCommit(f"frame {frame}")
-    flags, found = (0 if lock else NO_LOCK) | (0 if at is None else AT), _Recovered()
+    flags, found = _path_flags(lock, look) | (0 if at is None else AT), _Recovered()
     _by_path(_library.sqr_recover_to, path, out, flags, _options(wait, frame), found)
     return Recovered(RECOVERIES[found.recovery], found.page_size, found.pages)
 
@@ -644,7 +651,7 @@ def extension():
 def uri(path, *, at=None, wait=None, copy=None, flags=()):
     """The URI of a database for a connection that has loaded `extension()`, to open or attach it with SQLite's
     `uri=True`. `at` is the frame that ends a commit, or 0. `wait` is in seconds, `copy` in MiB, and `flags` are words
-    (docs/GUIDE.md, 'Read evidence by SQL')."""
+    (docs/GUIDE.md, 'SQL at any commit')."""
     path = _path(path)
     if path.startswith(b"/"):
         path = b"///" + path.lstrip(b"/")
@@ -654,12 +661,12 @@ def uri(path, *, at=None, wait=None, copy=None, flags=()):
     return f"file:{quote(path)}?vfs=sqrescue{asked}" + (f"&flags={','.join(words)}" if words else "")
 
 
-def plan(database, wal=b"", journal=b"", *, wait=5.0, lock=True):
+def plan(database, wal=b"", journal=b"", *, wait=5.0, lock=True, look=True):
     """The Steps of a recovery, one after another, for a caller's storage: the `content` of a page or of zeros at `at`,
     a new length, or a `sync` of what was done before. They are for the database file, or if is_of_log is 1 for the
     current log. In their order they leave what `recover` leaves. `database` is bytes, or a path, which is open until
     the last step was read."""
-    source = _source(database, wal, journal, FILES_ONLY, wait, lock)
+    source = _source(database, wal, journal, FILES_ONLY, wait, lock, look)
     page_size, pages, made = Word(), Word(), _Plan()
     try:
         if _library.sqr_size(source.files, page_size, pages) == NoMemory.status:
