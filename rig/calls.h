@@ -1,6 +1,7 @@
 /* What both recorders have: the C library's own calls, the lock of a process, which file a descriptor is of, and the
    calls that each recorder takes by a few functions of its own. These are declared here, and defined in record.c and
    files.c, which include this after their `enum not_held`. */
+#include <aio.h>
 #include <dlfcn.h>
 #include <elf.h>
 #include <errno.h>
@@ -64,6 +65,8 @@ NEXT(FILE *, fdopen, int, const char *);
 NEXT(FILE *, freopen64, const char *, const char *, FILE *);
 NEXT(void *, mmap64, void *, size_t, int, int, int, off64_t);
 NEXT(int, mprotect, void *, size_t, int);
+NEXT(int, pkey_mprotect, void *, size_t, int, int);
+NEXT(void *, mremap, void *, size_t, size_t, int, ...);
 NEXT(int, fallocate64, int, int, off64_t, off64_t);
 NEXT(int, posix_fallocate64, int, off64_t, off64_t);
 NEXT(long, syscall, long, ...);
@@ -76,7 +79,7 @@ static void find_calls(void) {
     FIND(ftruncate64), FIND(truncate64), FIND(fsync), FIND(fdatasync), FIND(syncfs), FIND(sync);
     FIND(unlinkat), FIND(remove), FIND(renameat), FIND(renameat2), FIND(linkat);
     FIND(fopen64), FIND(fdopen), FIND(freopen64);
-    FIND(mmap64), FIND(mprotect), FIND(fallocate64), FIND(posix_fallocate64);
+    FIND(mmap64), FIND(mprotect), FIND(pkey_mprotect), FIND(mremap), FIND(fallocate64), FIND(posix_fallocate64);
 }
 
 /* ---- The lock of a process, and what a call gave. */
@@ -288,8 +291,16 @@ int renameat(int at, const char *path, int at_to, const char *to) { return renam
 int rename(const char *path, const char *to) { return renameat2(AT_FDCWD, path, AT_FDCWD, to, 0); }
 
 /* Shared maps that can't be written yet, of files that are open to be written: mprotect may change that. */
-static struct { char *at; size_t count; int file; } maps[256];
+enum { MAPS = 256 };
+static struct { char *at; size_t count; int file; } maps[MAPS];
 static unsigned map_count;
+
+static void remember_map(void *map, size_t count, int file) {
+    pthread_mutex_lock(&known_lock);
+    maps[map_count % MAPS].at = map, maps[map_count % MAPS].count = count, maps[map_count % MAPS].file = file;
+    map_count++;
+    pthread_mutex_unlock(&known_lock);
+}
 
 void *mmap64(void *at, size_t count, int rights, int flags, int descriptor, off64_t place) {
     int kinds = flags & MAP_TYPE, shared = kinds == MAP_SHARED || kinds == MAP_SHARED_VALIDATE;
@@ -297,25 +308,52 @@ void *mmap64(void *at, size_t count, int rights, int flags, int descriptor, off6
     int file = shared && !(flags & MAP_ANONYMOUS) ? held_by(descriptor, "mmap") : NONE;
     if (file >= 0 && (rights & PROT_WRITE)) note(file, SHARED_MAP, "mmap");
     void *map = next_mmap64(at, count, rights, flags, descriptor, place);
-    if (map != MAP_FAILED && file >= 0 && !(rights & PROT_WRITE)) {
-        pthread_mutex_lock(&known_lock);
-        maps[map_count % 256].at = map, maps[map_count % 256].count = count, maps[map_count % 256].file = file;
-        map_count++;
-        pthread_mutex_unlock(&known_lock);
-    }
+    if (map != MAP_FAILED && file >= 0 && !(rights & PROT_WRITE)) remember_map(map, count, file);
     return map;
 }
 void *mmap(void *at, size_t count, int rights, int flags, int descriptor, off_t place) {
     return mmap64(at, count, rights, flags, descriptor, place);
 }
 
+static int overlaps(unsigned i, const char *from, size_t count) {
+    return from < maps[i].at + maps[i].count && maps[i].at < from + count;
+}
+
+static void note_maps(const void *at, size_t count, int rights, const char *call) {
+    for (unsigned i = 0; (rights & PROT_WRITE) && i < MAPS && i < map_count; i++) {
+        if (overlaps(i, at, count)) note(maps[i].file, SHARED_MAP, call);
+    }
+}
+
 int mprotect(void *at, size_t count, int rights) {
     if (!next_mprotect) start();
-    for (unsigned i = 0; (rights & PROT_WRITE) && i < 256 && i < map_count; i++) {
-        char *from = at, *map = maps[i].at;
-        if (from < map + maps[i].count && map < from + count) note(maps[i].file, SHARED_MAP, "mprotect");
-    }
+    note_maps(at, count, rights, "mprotect");
     return next_mprotect(at, count, rights);
+}
+
+int pkey_mprotect(void *at, size_t count, int rights, int key) {
+    if (!next_mprotect) start();
+    note_maps(at, count, rights, "pkey_mprotect");
+    return next_pkey_mprotect(at, count, rights, key);
+}
+
+/* Such a map may move. */
+static void *moved_map(const void *at, size_t former, void *map, size_t count) {
+    for (unsigned i = 0, all = map_count; map != MAP_FAILED && i < MAPS && i < all; i++) {
+        if (!overlaps(i, at, former)) continue;
+        remember_map(map, count, maps[i].file);
+        break;
+    }
+    return map;
+}
+
+void *mremap(void *at, size_t former, size_t count, int flags, ...) {
+    va_list rest;
+    va_start(rest, flags);
+    void *to = flags & MREMAP_FIXED ? va_arg(rest, void *) : NULL;
+    va_end(rest);
+    if (!next_mremap) start();
+    return moved_map(at, former, next_mremap(at, former, count, flags, to), count);
 }
 
 /* ---- Bytes that the kernel moves from one file to another: what lies there then is recorded. */
@@ -447,16 +485,34 @@ static void note_if(int descriptor, enum not_held what, const char *call) {
     if (file >= 0) note(file, what, call);
 }
 
-struct aiocb;
-struct aiocb64;
 #define AIO(call, block)                                                                \
     int call(struct block *one) {                                                       \
         int (*next)(struct block *) = (__typeof__(next))dlsym(RTLD_NEXT, #call);        \
-        note_if(*(int *)one, UNSEEN, #call);                                            \
+        note_if(one->aio_fildes, UNSEEN, #call);                                        \
         return next(one);                                                               \
     }
 AIO(aio_write, aiocb)
 AIO(aio_write64, aiocb64)
+
+#define AIO_SYNC(call, block)                                                           \
+    int call(int how, struct block *one) {                                              \
+        int (*next)(int, struct block *) = (__typeof__(next))dlsym(RTLD_NEXT, #call);   \
+        note_if(one->aio_fildes, UNSEEN, #call);                                        \
+        return next(how, one);                                                          \
+    }
+AIO_SYNC(aio_fsync, aiocb)
+AIO_SYNC(aio_fsync64, aiocb64)
+
+#define AIO_LIST(call, block)                                                                                \
+    int call(int mode, struct block *const all[], int count, struct sigevent *event) {                       \
+        int (*next)(int, struct block *const[], int, struct sigevent *) = (__typeof__(next))dlsym(RTLD_NEXT, #call); \
+        for (int i = 0; i < count; i++) {                                                                    \
+            if (all[i] && all[i]->aio_lio_opcode == LIO_WRITE) note_if(all[i]->aio_fildes, UNSEEN, #call);   \
+        }                                                                                                    \
+        return next(mode, all, count, event);                                                                \
+    }
+AIO_LIST(lio_listio, aiocb)
+AIO_LIST(lio_listio64, aiocb64)
 
 /* Rings write what the recorder doesn't see, whichever file that is of. */
 #define RING(call)                                                                                          \
@@ -505,6 +561,9 @@ long syscall(long number, ...) {
     case SYS_fallocate: return fallocate64((int)a, (int)b, c, d);
     case SYS_mmap: return (long)mmap64((void *)a, (size_t)b, (int)c, (int)d, (int)e, f);
     case SYS_mprotect: return mprotect((void *)a, (size_t)b, (int)c);
+    case SYS_pkey_mprotect: note_maps((void *)a, (size_t)b, (int)c, "pkey_mprotect"); break;
+    case SYS_mremap:
+        return (long)moved_map((void *)a, (size_t)b, (void *)next_syscall(number, a, b, c, d, e), (size_t)c);
     case SYS_sendfile: return sendfile64((int)a, (int)b, (void *)c, (size_t)d);
     case SYS_copy_file_range: return copy_file_range((int)a, (void *)b, (int)c, (void *)d, (size_t)e, (unsigned)f);
     case SYS_splice: return splice((int)a, (void *)b, (int)c, (void *)d, (size_t)e, (unsigned)f);
