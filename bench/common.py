@@ -2,7 +2,7 @@
 import os, re, shutil, statistics, subprocess, sys, time
 
 top = os.path.dirname(os.path.dirname(os.path.abspath(__file__)))
-sqrescue = os.path.join(top, "bin", "sqrescue")
+sqrescue = os.environ.get("SQRESCUE") or os.path.join(top, "bin", "sqrescue")
 
 # The note of a file that isn't as long as its header says.
 LENGTH = re.compile(r"sqrescue: note: .* (ends at byte|goes on for) .*\n")

@@ -11,7 +11,8 @@ typedef long off_t;
 enum { NOT_PERMITTED = 1, INTERRUPTED = 4, IO_FAILED = 5, KILL = 9 };
 enum { WRITE_ON = 01 | 0100 | 02000, LONGEST = 4096, PAGE = 512, SET_LOCK = 37 };
 
-enum { FSTAT = 5, PREAD = 17, PWRITE = 18, FCNTL = 72, FSYNC = 74, FTRUNCATE = 77, OPENAT = 257 }; /* of x86-64 */
+/* Of x86-64. */
+enum { FSTAT = 5, PREAD = 17, PWRITE = 18, FCNTL = 72, FSYNC = 74, FTRUNCATE = 77, OPENAT = 257, SYNCFS = 306 };
 
 enum { HALVES = 1, REFUSES = 2, ENDS = 4, STOPS = 8 };
 
@@ -278,6 +279,13 @@ int fsync(int file) { return synced(file); }
 
 int fdatasync(int file) { return synced(file); }
 
+/* The same of all of a file system. */
+int syncfs(int file) {
+    char found[LONGEST];
+    tell("sync all of %s\n", name_of(file, found));
+    return is_over(fate()) ? -1 : 0;
+}
+
 /* The C library asks the system by these numbers, past the names above (locks/raw.h). */
 long syscall(long what, long a, long b, long c, long d, long e, long f) {
     switch (what) {
@@ -287,6 +295,7 @@ long syscall(long what, long a, long b, long c, long d, long e, long f) {
     case FCNTL: return fcntl((int)a, (int)b, (void *)c);
     case FSYNC: return fsync((int)a);
     case FTRUNCATE: return ftruncate((int)a, b);
+    case SYNCFS: return syncfs((int)a);
     case OPENAT: return open((const char *)b, (int)c, (unsigned)d);
     default: return NEXT(asks, "syscall")(what, a, b, c, d, e, f);
     }

@@ -1,12 +1,14 @@
 """Parts of tests/history: checkpoints of sqlite3 that copy frames into the file, cut it and lengthen it again, and
 writers that are killed."""
-import random, re, sqlite3, subprocess
+import random, re, sqlite3, subprocess, sys
 
 from history_answers import *
 from history_logs import Several
 from lib import preloaded
+from locks_runs import launched, launcher, left, program
 
 PARTS = []
+COMMITS = int(os.environ.get("COMMITS", "1000"))  # that `defaults` asks for
 
 
 def part(function):
@@ -286,6 +288,80 @@ def killed_while_it_grew(folder):
     holds("pages were cut away", "cut away" in reasons, reasons)
 
 
+@part
+def lengthened_in_advance(folder):
+    """A file that SQLite lengthens by chunks: its commits have more pages than their headers count. What happened to
+    the pages above the count doesn't make a commit unknown. sqlite3 shows the same databases of logs that end there."""
+    path, chunks = os.path.join(folder, "long.db"), ".filectrl chunk_size 65536"
+    shell(path, chunks, "PRAGMA page_size=1024;", "PRAGMA journal_mode=wal;",
+          "CREATE TABLE t(a INTEGER PRIMARY KEY, b);", "CREATE TABLE n(v);", "INSERT INTO n VALUES(0);")
+    commits = [f"BEGIN; UPDATE n SET v={k}; INSERT INTO t(b) VALUES('{'y' * 900}'); COMMIT;" for k in range(1, 7)]
+    before, after = (f".system cp long.db {name}.db; cp long.db-wal {name}.db-wal" for name in ("before", "after"))
+    done = subprocess.run(["sqlite3", path], text=True, capture_output=True, cwd=folder, input="\n".join([
+        chunks, "PRAGMA synchronous=off;", "PRAGMA wal_autocheckpoint=0;", *commits, before,
+        "PRAGMA wal_checkpoint(PASSIVE);", after]))
+    check("sqlite3", (done.returncode, done.stderr), (0, ""))
+    (file, log), later = (copied(os.path.join(folder, name)) for name in ("before.db", "after.db"))
+    past, told = Past(file, log), Told()
+    for commit in [0, *past.commits]:
+        told.sums[commit] = sum_of(shown_by_sqlite(folder, file, log[:32 + commit * (24 + past.size)]))
+    holds("the log stays", later[1] == log)
+    sizes = {commit: (past.count(commit), past.frames[commit - 1][1]) for commit in past.commits}
+    holds("the headers count fewer pages", all(count < size for count, size in sizes.values()), sizes)
+    judged(Files(folder, file, log, told, "lengthened in advance"))
+    files = Files(folder, *later, told, "lengthened in advance and copied")
+    known = [commit for commit in files.commits if files.known[commit]]
+    check("each is known whose frames, or those before, have page 1", known, files.commits[2:])
+    above = range(files.past.count(known[0]) + 1, files.past.long + 1)
+    holds("pages above its count are copied", any(files.past.is_copied(page) for page in above))
+    judged(files)
+
+
+def shown_by_sqlite(folder, file, log):
+    """The database that sqlite3 shows of a file and a log."""
+    path = os.path.join(folder, "shown.db")
+    for end, some in ("", file), ("-wal", log):
+        put(path + end, some)
+    os.path.exists(path + "-shm") and os.remove(path + "-shm")
+    db = sqlite3.connect(path)
+    try:
+        return db.serialize()
+    finally:
+        db.close()
+
+
+EXCLUSIVE = """import os, sqlite3, sys
+db = sqlite3.connect(sys.argv[1], isolation_level=None)
+for line in "PRAGMA locking_mode=exclusive", "PRAGMA wal_checkpoint(PASSIVE)": db.execute(line).fetchall()
+os._exit(0)
+"""
+
+
+@part
+def an_index_that_lies(folder):
+    """A connection in exclusive mode keeps its index to itself. So FILE-shm, which a killed one left, says that no
+    frame was copied although a checkpoint copied all. Nothing is read from that: commits are refused all the same,
+    with locks and without."""
+    path = os.path.join(folder, "index.db")
+    left("PRAGMA journal_mode=wal", "PRAGMA wal_autocheckpoint=0", "CREATE TABLE t(a)", "CREATE TABLE u(a)",
+         "PRAGMA wal_checkpoint(TRUNCATE)", "INSERT INTO t VALUES(1)", "INSERT INTO u VALUES(2)",
+         "INSERT INTO t VALUES(3)", file=path)
+    index, before = content(path + "-shm"), content(path)
+    subprocess.run([sys.executable, "-c", EXCLUSIVE, path], check=True)
+    past = Past(*copied(path))
+    holds("it copied", content(path) != before and len(past.commits) == 3, past.commits)
+    holds("FILE-shm says that it didn't", index[96:100] == index[128:132] == bytes(4))
+    holds("FILE-shm is as before", content(path + "-shm") == index)
+    holds("FILE-shm is the log's", index[32:40] == copied(path)[1][16:24])
+    known = [commit for commit in [0, *past.commits] if past.is_known(commit)]
+    check("the last two are known", known, past.commits[-2:])
+    for commit in [0, *past.commits]:
+        for by in launcher, program:
+            answer = launched(f"check {path} --at {commit}", by=by)
+            wanted = (0, "") if commit in known else (3, REFUSED.decode())
+            check(f"at {commit} by {os.path.basename(by)}", (answer.status, answer.err), wanted)
+
+
 # ---- killed at any time
 
 
@@ -345,16 +421,18 @@ def killed_writers(folder):
 
 @part
 def defaults(folder):
-    """A thousand commits of logs of which sqlite3's own checkpoints, as they are by default, copied frames."""
+    """Commits of logs of which sqlite3's own checkpoints, as they are by default, copied frames: a thousand, or
+    COMMITS."""
     library, rng = preloaded(folder, "ends"), random.Random(2)
     runs = [dict(seed=number, page_size=4096, checkpoint="", auto=None, reader=number % 4 < 3, rows=300, ends=True,
-                 late=True, vacuum=0, steps=rng.choice([250, 300, 350])) for number in range(10)]
+                 late=True, vacuum=0, steps=rng.choice([250, 300, 350])) for number in range(-(-COMMITS // 100))]
     asked = found = 0
     for files in list(workers.map(lambda one: killed_files(folder, *one, library), enumerate(runs))):
         files.is_true()
-        some = thinned(files, min(max(1000 - asked, 10), 125), rng) if asked < 1000 else []
+        some = thinned(files, min(max(COMMITS - asked, 10), 125), rng) if asked < COMMITS else []
         files.judge_all(some, [])
         asked += len(some)
         found += sum(files.known[commit] for commit in some)
-    holds("a thousand commits", asked >= 1000, asked)
-    holds("some are known, and some aren't", 100 < found < asked, (found, asked))
+    print(f"defaults: {asked} commits, {found} known and right")
+    holds("so many commits", asked >= COMMITS, asked)
+    holds("some are known, and some aren't", asked // 10 < found < asked, (found, asked))

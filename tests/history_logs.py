@@ -1,5 +1,5 @@
 """Parts of tests/history: the twin against every file that there may have been, and logs that are made byte by byte."""
-import itertools, os, random
+import itertools, os, random, sys
 
 from history_answers import *
 from history_twin import Past
@@ -105,6 +105,69 @@ def of_log(frames, before):
             if past.is_known(commit) != is_one or bool(is_lost) == is_one:
                 wrong.append((frames, made, commit, is_one, page))
     return wrong
+
+
+# The same with counts. A first page is zeros, or counts no pages validly ("n"), or so many of them.
+MOST = 2  # pages of a file that checkpoints made; one that they began with may have one more
+FIRSTS, OTHERS = ("0", "n", 1, 2, 3), ("0", "a", "b")
+
+
+def page_for(content):
+    """The bytes of a page of such a file."""
+    return put_all(letter("n"), [(24, words(7, content)), (92, words(7))]) if isinstance(content, int) else (
+        letter(content))
+
+
+def pages_at(file, frames, commit):
+    """The database at a commit of a file that checkpoints haven't changed. A frame's page stands for the file's, which
+    is zeros past its end. It has as many pages as the header counts, if that is valid and not above the commit's size,
+    otherwise that size. Before the first commit the file's length is in place of the size, and any count is valid."""
+    named = {page: content for page, _, content in frames[:commit]}
+    size = frames[commit - 1][1] if commit else len(file)
+    count = page_at(file, frames, commit, 1)
+    is_valid = isinstance(count, int) and (not commit or count <= size)
+    return tuple(named.get(page, page_at(file, [], 0, page)) for page in range(1, (count if is_valid else size) + 1))
+
+
+def counted_logs(rng, most):
+    """All logs of a frame, and so many each of two and three that are drawn."""
+    one = [(page, content, end) for page in range(1, MOST + 1) for end in range(MOST + 1)
+           for content in (FIRSTS if page == 1 else OTHERS)]
+    last = [frame for frame in one if frame[2]]
+    drawn = [[*(rng.choice(one) for _ in range(number)), rng.choice(last)] for number in (1, 2) for _ in range(most)]
+    return [[(page, end, content) for page, content, end in frames] for frames in [[it] for it in last] + drawn]
+
+
+def counted_of_log(frames, files):
+    """Commits at which the twin judges otherwise than all files that each file may have been."""
+    before, sizes, wrong = {}, {end for _, end, _ in frames if end}, []
+    for file in files:
+        for made in reached(file, frames, sizes, MOST):
+            if len(made) <= MOST:
+                before.setdefault(made, []).append(file)
+    log = log_with([(page, end, page_for(content)) for page, end, content in frames])
+    for made, others in before.items():
+        past = Past(b"".join(map(page_for, made)), log)
+        for commit in [0, *past.commits][:-1]:
+            found = {pages_at(file, frames, commit) for file in others}
+            if past.is_known(commit) != (len(found) == 1):
+                wrong.append((frames, made, commit, found))
+            elif past.is_known(commit) and [page_for(content) for content in found.pop()] != past.pages(commit):
+                wrong.append((frames, made, commit, past.pages(commit)))
+    return wrong, len(before)
+
+
+@part
+def every_count_before(_):
+    """The same with first pages that count pages: a commit is known to the twin exactly if all files that checkpoints
+    turn into this one have the same database there, with as many pages as its header counts. `--long` draws more."""
+    files = [file for length in range(MOST + 2)
+             for file in itertools.product(*([FIRSTS, OTHERS, OTHERS][:length]))]
+    wrong, count = [], 0
+    for frames in counted_logs(random.Random(28), 2000 if "--long" in sys.argv else 60):
+        faults, number = counted_of_log(frames, files)
+        wrong, count = wrong + faults, count + number
+    holds(f"known exactly if it is so, of {count} files", not wrong and count > 2000, wrong[:2])
 
 
 # ---- logs made byte by byte

@@ -357,6 +357,8 @@ static void answer_unknown(const struct sqr_files *files, struct sqr_commit comm
     check(sqr_open_at(files, frame, places, commit.pages, &view) == wanted, "a commit that isn't known");
     check(!memcmp(&view, &kept, sizeof view) && are_zeros(places, commit.pages), "which leaves all");
     check(sqr_check_at(files, frame, &report) == wanted && report.fault == 1, "its check");
+    struct sqr_deep_report deep = {.fault = 77};
+    check(sqr_check_deep(files, SQR_AT, frame, NULL, 0, &deep) == wanted && deep.fault == 77, "its deep check");
     check(sqr_page_roles(files, SQR_AT, frame, &role, 1, &survey) == wanted && role.kind == 77, "its roles");
     free(places);
 }
@@ -725,6 +727,28 @@ static void check_names(uint32_t number) {
     check(is_name(&name, length, wanted), "a fault of sqr_check has one name");
 }
 
+/* A header that counts two pages, beside a hot journal of a database of one. */
+static void run_count(void) {
+    uint8_t db[1024] = {0}, journal[512] = {0xd9, 0xd5, 0x05, 0xf9, 0x20, 0xa1, 0x63, 0xd7};
+    uint64_t place = 5;
+    struct sqr_deep_report report;
+    db[31] = 2;
+    journal[19] = 1;
+    journal[22] = journal[26] = 2;
+    struct sqr_files files = SQR_FILES(db, sizeof db, NULL, 0, journal, sizeof journal);
+    at_hand = "a count";
+    check(sqr_check_deep(&files, 0, 0, &place, 0, &report) == SQR_DAMAGED, "a header that counts too many");
+    check(report.fault == SQR_FAULT_PAGE_COUNT && report.places == SQR_DEEP_PAGE && report.page == 1, "its fault");
+    journal[19] = 2;
+    check(sqr_check_deep(&files, 0, 0, &place, 0, &report) == SQR_DAMAGED, "a header that counts as many");
+    check(report.fault == SQR_FAULT_MAGIC, "another fault");
+    files.db_len = 700;
+    journal[19] = 2;
+    db[31] = 3;
+    check(sqr_check_deep(&files, 0, 0, &place, 0, &report) == SQR_DAMAGED, "a file that is cut beside that");
+    check(report.fault == SQR_FAULT_FILE_CUT && report.page == 2, "which comes first");
+}
+
 static void run_none(void) {
     struct sqr_files files = SQR_FILES(NULL, 0, NULL, 0, NULL, 0);
     struct sqr_view view = SQR_VIEW_INIT;
@@ -753,11 +777,12 @@ static void run_none(void) {
     check(!strcmp(sqr_fault_name(21), "SchemaRecord"), "the name of a fault");
     check(!strcmp(sqr_fault_name(62), "KeyTwice") && !strcmp(sqr_fault_name(44), "?"), "the name of a fault inside");
     check(!strcmp(sqr_fault_name(SQR_FAULT_FILE_CUT), "FileCut"), "the name of the fault of a file that is cut");
+    check(!strcmp(sqr_fault_name(SQR_FAULT_PAGE_COUNT), "PageCount"), "the name of the fault of a count");
     struct sqr_deep_report deep;
     check(sqr_check_deep(&files, 0, 0, &place, 0, &deep) == SQR_DAMAGED && deep.fault == SQR_FAULT_MAGIC, "a fault");
     check(deep.places == SQR_DEEP_PAGE && deep.page == 1 && !deep.cell && !deep.row, "the place of a fault");
     check(sqr_check_deep(&files, 1, 0, &place, 0, &deep) == SQR_UNKNOWN_OPTIONS, "a flag that isn't known");
-    check(sqr_check_deep(&files, 64, 0, &place, 0, &deep) == SQR_UNKNOWN_OPTIONS, "nor is the next one");
+    check(sqr_check_deep(&files, 128, 0, &place, 0, &deep) == SQR_UNKNOWN_OPTIONS, "nor is the next one");
     check(sqr_check_deep(&files, SQR_COMPLETE, 0, &place, 0, &deep) == SQR_DAMAGED, "damage where all is to be judged");
     check(sqr_check_with(&files, SQR_COMPLETE, 0, &report) == SQR_UNKNOWN_OPTIONS, "a flag of deep checks alone");
     check(sqr_version() == SQR_VERSION_NUMBER, "the version of the header is that of the library");
@@ -781,6 +806,7 @@ int main(int argc, char **argv) {
         run_shared(argv[3]);
     } else if (argc == 2 && !strcmp(argv[1], "none")) {
         run_none();
+        run_count();
     } else {
         return 2;
     }

@@ -117,6 +117,8 @@ READINGS = [
     ("rows a.db --places", is_done),
     ("show a.db --log", is_done),
     ("rows a.db --table t --sql", statements_fault),
+    ("rows a.db --deleted", is_done),
+    ("report a.db --to -", is_done),
 ]
 
 

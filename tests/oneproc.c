@@ -4,10 +4,12 @@
    oneproc keeps FILE ROOM     the process's locks outlive each call, and nothing else is left
    oneproc hostile FILE ROOM   threads that are cancelled, signals, closed streams, no descriptor left, forked children
    oneproc odd FILE ROOM       10,000 descriptors, other users, no thread, too many descriptors in flight, a new
-                               namespace, SIGTERM, a file that is replaced or cut; what the system doesn't allow here,
-                               such as another user, isn't counted
+                               namespace, SIGTERM, a file that is replaced, cut or lengthened; what the system doesn't
+                               allow here, such as another user, is told as skipped
+   oneproc pipe FILE ROOM      the first call of a process doesn't keep its descriptors open
    oneproc two FILE ROOM A B   two versions of the library, A and B, in one process
    oneproc alone FILE ROOM     where there is no task: a process of one thread, and one that has FILE open
+   oneproc unparked FILE ROOM  where no pair of sockets may be created: nothing is held open, all else is done
    oneproc size FILE ROOM      calls by path, and prints how many KiB they took at most, but for mapped files
 
    The last line of all but `old` and `size` is 'N passed, M failed'. */
@@ -423,8 +425,20 @@ static int while_waiting(int is_recovery) {
     return WIFSIGNALED(status) && WTERMSIG(status) == SIGTERM && over.tv_sec - begun.tv_sec < 5 ? 0 : 2;
 }
 
-/* What is open stays as it was: FILE is replaced by another, or a database in WAL mode that nobody has open is cut. */
-static int while_open(int is_cut) {
+enum change { REPLACED, CUT, LENGTHENED };
+
+static int changed(enum change how) { /* FILE, by a program without locks */
+    static const char more[8192] = {1};
+    if (how == REPLACED) return rename(out, thread_file);
+    if (how == CUT) return truncate(thread_file, 0);
+    int file = open(thread_file, O_WRONLY | O_APPEND);
+    return file < 0 || write(file, more, sizeof more) != sizeof more || close(file);
+}
+
+/* What is open stays as it was: FILE is replaced by another, or a database in WAL mode that nobody has open is cut, or
+   FILE gets more bytes at its end, which the log's size doesn't count. */
+static int while_open(int how) {
+    const int is_cut = how == CUT;
     char index[4200];
     uint8_t before[65536], after[65536];
     struct sqr_path *path = NULL;
@@ -435,16 +449,20 @@ static int while_open(int is_cut) {
     const struct sqr_files *files = sqr_path_files(path);
     const size_t len = files->db_len, last = len - 512;
     memcpy(before, files->db, 512), memcpy(before + 512, files->db + last, 512);
-    if (is_cut ? truncate(thread_file, 0) : rename(out, thread_file)) return 4;
+    if (changed((enum change)how)) return 4;
     memcpy(after, files->db, 512), memcpy(after + 512, files->db + last, 512);
+    const int is_as_long = files->db_len == len;
     sqr_close_path(&path);
-    if (memcmp(before, after, 1024)) return 5;
+    if (memcmp(before, after, 1024) || !is_as_long) return 5;
     return opened(thread_file, 0) == (is_cut ? SQR_NOT_A_DATABASE : SQR_OK) ? 0 : 6;
 }
 
 static void is_well(int (*asked)(int), int with, const char *what) {
     const int answer = answered(asked, with);
-    if (answer == SKIPPED) return;
+    if (answer == SKIPPED) {
+        printf("skipped: %s: the system or this user doesn't allow it here\n", what);
+        return;
+    }
     if (answer) fprintf(stderr, "%s: %d\n", what, answer);
     check(answer == 0, what);
 }
@@ -469,8 +487,51 @@ static int odd(const char *file) {
     is_well(by_rights, 1, "a thread's rights");
     is_well(by_rights, 0, "a process that has given up its rights");
     for_all(file);
-    is_well(while_open, 0, "a file that is replaced");
-    is_well(while_open, 1, "a file that is cut");
+    is_well(while_open, LENGTHENED, "a file that is lengthened");
+    is_well(while_open, REPLACED, "a file that is replaced");
+    is_well(while_open, CUT, "a file that is cut");
+    return 0;
+}
+
+/* ---- what a task copies */
+
+struct large {
+    char from[4300];
+    int is_over;
+};
+
+/* A database of 256 MiB whose pages are holes, but the first. */
+static int make_large(const char *name) {
+    static const uint8_t header[32] = "SQLite format 3\0\x10\0\1\1\0\x40\x20\x20\0\0\0\0\0\1\0";
+    int file = open(name, O_RDWR | O_CREAT | O_TRUNC, 0600);
+    if (file < 0) return 1;
+    return write(file, header, sizeof header) != sizeof header || ftruncate(file, 256 << 20) || close(file);
+}
+
+static void *copies_large(void *with) {
+    struct large *it = with;
+    check(sqr_recover_to(it->from, out, SQR_AT, NULL, NULL) == SQR_OK, "a copy of a large file");
+    __atomic_store_n(&it->is_over, 1, __ATOMIC_SEQ_CST);
+    return NULL;
+}
+
+/* Who reads a pipe sees its end at once if its writer closes it while a call runs, which had copied all descriptors. */
+static int pipe_ends(void) {
+    static struct large it;
+    char part[4300], byte;
+    int ends_of[2], is_seen = 0;
+    pthread_t other;
+    snprintf(it.from, sizeof it.from, "%s.large", out);
+    snprintf(part, sizeof part, "%s.sqrescue-part", out);
+    unlink(out);
+    check(!make_large(it.from) && !pipe2(ends_of, O_NONBLOCK), "a large file, and a pipe");
+    if (pthread_create(&other, NULL, copies_large, &it)) return check(0, "a thread"), 0;
+    while (access(part, F_OK) && !__atomic_load_n(&it.is_over, __ATOMIC_SEQ_CST)) usleep(50);
+    close(ends_of[1]);
+    while (!is_seen && !access(part, F_OK)) is_seen = read(ends_of[0], &byte, 1) == 0 && !access(part, F_OK);
+    pthread_join(other, NULL);
+    check(is_seen, "a pipe ends while a call runs");
+    unlink(it.from);
     return 0;
 }
 
@@ -554,10 +615,23 @@ static int alone(const char *file) {
         close(fd);
     }
     check(opened(file, 0) == SQR_OK, "none of them is open");
-    check(!pipe(gate) && !pthread_create(&other, NULL, sleeps, gate), "a second thread");
+    check(!pipe(gate), "a pipe");
+    const int error = pthread_create(&other, NULL, sleeps, gate);
+    if (error == ENOSYS) return 0; /* no thread can be created at all */
+    check(!error, "a second thread");
     check(opened(file, 0) == SQR_SHARED_PROCESS, "a second thread may open them");
     close(gate[1]);
     pthread_join(other, NULL);
+    return 0;
+}
+
+/* Without a pair of sockets no lock can be kept for a path that is open. */
+static int unparked(const char *file) {
+    check(locked_first(file) >= 0, "a lock of the process's own");
+    check(is_refused(opened(file, 0), SQR_SHARED_PROCESS, ENOSYS), "a path isn't opened, and errno says why");
+    check(opened(file, SQR_NO_LOCK) == SQR_OK, "without locks it is");
+    check(copied(file) == SQR_OK && recovered(file) == SQR_OK, "a copy, and a recovery, hold nothing open");
+    check(is_kept(file, LOCKED), "the process's own lock is there still");
     return 0;
 }
 
@@ -570,7 +644,9 @@ int main(int argc, char **argv) {
     if (!strcmp(argv[1], "keeps")) keeps(argv[2]);
     if (!strcmp(argv[1], "hostile")) hostile(argv[2]);
     if (!strcmp(argv[1], "odd")) odd(argv[2]);
+    if (!strcmp(argv[1], "pipe")) pipe_ends();
     if (!strcmp(argv[1], "two") && argc > 5) two(argv[2], argv + 4);
     if (!strcmp(argv[1], "alone")) alone(argv[2]);
+    if (!strcmp(argv[1], "unparked")) unparked(argv[2]);
     return summed();
 }

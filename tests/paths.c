@@ -92,7 +92,7 @@ static int misuse(const char *file) {
     check(sqr_open_path(NULL, 0, NULL, &path) == SQR_MISUSE && !path, "no path");
     check(sqr_open_path(file, 0, NULL, NULL) == SQR_MISUSE, "no place for the handle");
     check(sqr_open_path("", 0, NULL, &path) == SQR_NOT_THERE && !path, "an empty path");
-    check(sqr_open_path(file, 8, NULL, &path) == SQR_UNKNOWN_OPTIONS && !path, "a flag of a later version");
+    check(sqr_open_path(file, 128, NULL, &path) == SQR_UNKNOWN_OPTIONS && !path, "a flag of a later version");
     check(sqr_open_path(file, UINT32_MAX, NULL, &path) == SQR_UNKNOWN_OPTIONS, "all flags");
     check(sqr_open_path(file, 0, &none, &path) == SQR_UNKNOWN_OPTIONS, "options of zeros");
     endless.size = SIZE_MAX;

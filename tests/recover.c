@@ -86,7 +86,8 @@ static void misuse_in(const char *file) {
     check(sqr_recover(NULL, 0, NULL, &it) == SQR_MISUSE, "no path");
     check(sqr_recover("", 0, NULL, &it) == SQR_NOT_THERE, "an empty path");
     for (uint32_t flag = 1; flag; flag <<= 1)
-        if (flag != SQR_NO_LOCK) check(sqr_recover(file, flag, NULL, &it) == SQR_UNKNOWN_OPTIONS, "a flag");
+        if (!(flag & (SQR_NO_LOCK | SQR_ANY)))
+            check(sqr_recover(file, flag, NULL, &it) == SQR_UNKNOWN_OPTIONS, "a flag");
     check(sqr_recover(file, 0, &none, &it) == SQR_UNKNOWN_OPTIONS, "options of zeros");
     check(sqr_recover(file, 0, &endless, &it) == SQR_UNKNOWN_OPTIONS, "options without end");
     check(sqr_recover(file, 0, &longer.known, &it) == SQR_UNKNOWN_OPTIONS, "options of a later version");
@@ -126,7 +127,7 @@ static void misuse_to(const char *file) {
         check(is_there == !access(beside, F_OK), "which is made by nobody");
     }
     for (uint32_t flag = 1; flag; flag <<= 1)
-        if (flag != SQR_NO_LOCK && flag != SQR_AT)
+        if (!(flag & (SQR_NO_LOCK | SQR_AT | SQR_ANY)))
             check(sqr_recover_to(file, out, flag, NULL, &it) == SQR_UNKNOWN_OPTIONS, "a flag");
     check(sqr_recover_to(file, out, 0, &none, &it) == SQR_UNKNOWN_OPTIONS, "options of zeros");
     check(is_unwritten(&it) && access(out, F_OK), "these leave the answer, and make nothing");

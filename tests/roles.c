@@ -84,7 +84,7 @@ static void plain_calls(const struct sqr_files *files) {
         check(sqr_check_with(files, SQR_AT, frame, &one) == sqr_check_at(files, frame, &other), "a check at a frame");
         check(memcmp(&one, &other, sizeof one) == 0, "its report");
     }
-    static const uint32_t unknown[] = {1, 2, 3, 5, 32, 33, 64, 1u << 31, UINT32_MAX};
+    static const uint32_t unknown[] = {1, 2, 3, 5, 32, 33, 128, 1u << 31, UINT32_MAX};
     one = kept;
     struct sqr_role role = {77, 88};
     struct sqr_survey survey = {7, 8, 9};

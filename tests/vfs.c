@@ -1,15 +1,17 @@
 /* Tests library/vfs from C, in a process that loads it.
 
-   vfs range                     the arithmetic of range.c against a count byte by byte
+   vfs pieces                    what crates/view_pieces_c exports, against a count byte by byte
    vfs reads EXTENSION URI COPY  each length at each place of a database, as its xRead has it, against the bytes of COPY
    vfs calls EXTENSION FILE      what the VFS opens, deletes and passes on, call by call; loaded twice
    vfs threads EXTENSION FILE    threads that open the sample database at its commits
+   vfs memory EXTENSION FILE     opens the sample with each allocation refused in turn, if WRAPPED is defined
    vfs in BOX COMMAND..          runs a command: `unread` without process_vm_readv(2), `closed` without close_range(2),
                                  clone3(2) and unshare(2), so no call gets a task
 
-   The last line of all but `in` is 'N passed, M failed'. */
+   The last line of all but `in` is 'N passed, M failed'. If SQLITE_CORE is defined, the extension is linked with the
+   program, and EXTENSION isn't looked at. */
 #define _GNU_SOURCE
-#include "../library/vfs/range.h"
+#include "../library/vfs/pieces.h"
 #include "frame.h"
 
 #include <errno.h>
@@ -25,13 +27,25 @@
 #define THREADS 8
 #define ROUNDS 40
 
+#ifdef SQLITE_CORE
+int sqlite3_sqrescuevfs_init(sqlite3 *db, char **error, const void *none);
+
+static int load(sqlite3 *db, const char *extension, char **error) {
+    (void)extension;
+    return sqlite3_sqrescuevfs_init(db, error, NULL) == SQLITE_OK_LOAD_PERMANENTLY ? SQLITE_OK : SQLITE_ERROR;
+}
+#else
+static int load(sqlite3 *db, const char *extension, char **error) {
+    sqlite3_enable_load_extension(db, 1);
+    return sqlite3_load_extension(db, extension, NULL, error);
+}
+#endif
+
 static sqlite3 *loaded(const char *extension) {
     sqlite3 *db = NULL;
     char *error = NULL;
     sqlite3_open(":memory:", &db);
-    sqlite3_enable_load_extension(db, 1);
-    const int code = sqlite3_load_extension(db, extension, NULL, &error);
-    check(code == SQLITE_OK, "the extension is loaded");
+    check(load(db, extension, &error) == SQLITE_OK, "the extension is loaded");
     sqlite3_free(error);
     return db;
 }
@@ -43,29 +57,44 @@ static sqlite3 *opened(const char *name, int *code) {
     return db;
 }
 
-/* ---- the arithmetic */
-
-/* A range is its pieces one after another: each begins where the one before ended, and lies in one page. */
-static void in_pieces(uint64_t at, uint64_t len, uint32_t size) {
-    int is_right = 1;
-    uint64_t place = at;
-    for (uint64_t left = len; left > 0;) {
-        const struct vfs_piece it = vfs_first_piece(place, left, size);
-        is_right = is_right && it.len > 0 && it.len <= left && (it.page - 1) * size + it.from == place
-            && it.from + (uint64_t)it.len <= size && (it.len == left || it.from + it.len == size);
-        if (!is_right) break;
-        place += it.len, left -= it.len;
-    }
-    check(is_right && place == at + len, "a range is its pieces");
+static int rows_of(sqlite3 *db) {
+    sqlite3_stmt *it = NULL;
+    int rows = -1;
+    if (!sqlite3_prepare_v2(db, "SELECT count(*) FROM entry", -1, &it, NULL) && sqlite3_step(it) == SQLITE_ROW)
+        rows = sqlite3_column_int(it, 0);
+    sqlite3_finalize(it);
+    return rows;
 }
 
-static int range(void) {
+/* ---- the arithmetic */
+
+/* A range is its pieces one after another: each begins where the one before ended, and is in one page. */
+static void in_pieces(uint64_t at, uint64_t len, uint32_t size) {
+    int is_right = 1;
+    uint64_t place = at, left = len;
+    struct sqr_piece it = {0, 0, 0};
+    while (is_right && sqr_first_piece(place, left, size, &it)) {
+        is_right = it.len > 0 && it.len <= left && (it.page - 1) * size + it.from == place
+            && it.from + (uint64_t)it.len <= size && (it.len == left || it.from + it.len == size);
+        place += it.len, left -= it.len;
+    }
+    check(is_right && left == 0 && place == at + len, "a range is its pieces");
+}
+
+static void no_piece(uint64_t at, uint64_t len, uint32_t size) {
+    struct sqr_piece it = {7, 8, 9};
+    check(!sqr_first_piece(at, len, size, &it) && it.page == 7 && it.from == 8 && it.len == 9, "there is no piece");
+}
+
+static int pieces(void) {
     static const uint64_t places[] = {0,     1,          18,                 511,               512, 65535,
                                       65536, 1073741824, 0x7ffffffffffffe00, 0xfffffffffffff000};
     static const uint64_t lengths[] = {1, 2, 16, 100, 511, 512, 513, 4095};
-    for (uint64_t at = 0; at < 40; at++)
-        for (uint64_t len = 1; len < 40; len++)
-            for (uint32_t size = 2; size < 17; size++) in_pieces(at, len, size);
+    for (uint64_t at = 480; at < 530; at++)
+        for (uint64_t len = 0; len < 1100; len += len < 40 ? 1 : 53)
+            for (uint32_t size = 512; size < 517; size++) in_pieces(at, len, size);
+    for (uint32_t size = 0; size < 512; size++) no_piece(5, 6, size);
+    no_piece(5, 0, 4096);
     for (size_t i = 0; i < sizeof places / sizeof *places; i++)
         for (size_t j = 0; j < sizeof lengths / sizeof *lengths; j++)
             for (uint32_t size = 512; size <= 65536; size *= 2) in_pieces(places[i], lengths[j], size);
@@ -74,9 +103,9 @@ static int range(void) {
             for (uint64_t has = 0; has < 20; has++) {
                 uint64_t count = 0;
                 for (uint64_t byte = at; byte < at + len; byte++) count += byte < has;
-                check(vfs_within(at, len, has) == count, "the bytes that there are");
+                check(sqr_bytes_there(at, len, has) == count, "the bytes that there are");
             }
-    check(vfs_within(UINT64_MAX, UINT64_MAX, 7) == 0 && vfs_within(3, UINT64_MAX, 7) == 4, "the greatest numbers");
+    check(sqr_bytes_there(UINT64_MAX, UINT64_MAX, 7) == 0 && sqr_bytes_there(3, UINT64_MAX, 7) == 4, "great numbers");
     return 0;
 }
 
@@ -195,6 +224,38 @@ static void twice(const char *extension, const char *path) {
     sqlite3_vfs_register(standard, 1);
 }
 
+/* If all connections of the process share their caches, each commit has a cache of its own. */
+static void of_shared_caches(const char *path) {
+    static const int commits[] = {0, 10, 4, 0}, rows[] = {1, 71, 41, 1};
+    sqlite3 *all[4];
+    char uri[4200];
+    int code;
+    sqlite3_enable_shared_cache(1);
+    for (int i = 0; i < 4; i++) {
+        snprintf(uri, sizeof uri, "file:%s?vfs=sqrescue&at=%d", path, commits[i]);
+        all[i] = opened(uri, &code);
+        check(code == SQLITE_OK && rows_of(all[i]) == rows[i], "the rows of a commit, with shared caches");
+    }
+    for (int i = 0; i < 4; i++) check(rows_of(all[i]) == rows[i], "the rows of a commit, beside others");
+    for (int i = 0; i < 4; i++) sqlite3_close(all[i]);
+    sqlite3_enable_shared_cache(0);
+}
+
+/* Names that are no URIs, with the VFS as a parameter. */
+static void of_names(const char *path) {
+    static const char *const ends[] = {"", "/@4", "/@0", "/@3"};
+    static const int rows[] = {71, 41, 1, -1};
+    for (int i = 0; i < 4; i++) {
+        sqlite3 *db = NULL;
+        char name[4200];
+        snprintf(name, sizeof name, "%s%s", path, ends[i]);
+        const int code = sqlite3_open_v2(name, &db, SQLITE_OPEN_READWRITE | SQLITE_OPEN_CREATE, "sqrescue");
+        check((code == SQLITE_OK) == (rows[i] > 0) && (code || rows_of(db) == rows[i]), "a name that is no URI");
+        check(code || sqlite3_db_readonly(db, "main") == 1, "it is open for reading");
+        sqlite3_close(db);
+    }
+}
+
 /* What SQLite's log has of an opening that is refused. */
 static char logged[1024];
 static int logged_code;
@@ -229,7 +290,41 @@ static int calls(const char *extension, const char *path) {
     of_files(vfs, path);
     of_methods(path);
     of_log(path);
+    of_shared_caches(path);
+    of_names(path);
     twice(extension, path);
+    return 0;
+}
+
+/* ---- memory */
+
+/* Opens the sample with an allocation of the extension and the library refused; whether one was. */
+static int open_without(size_t number, const char *uri, int rows) {
+    int code;
+    count_from(number);
+    sqlite3 *db = opened(uri, &code);
+    const int found = code ? -1 : rows_of(db);
+    sqlite3_close(db);
+    is_counting = 0;
+    const int was_refused = number <= asked;
+    check(held == 0, "all memory is given back");
+    check(code == SQLITE_OK ? found == rows : was_refused, "the rows, or an allocation was refused");
+    check(!code || code == SQLITE_NOMEM || code == (SQLITE_CANTOPEN | (64 + SQR_NO_MEMORY) << 8), "out of memory");
+    return was_refused;
+}
+
+static int memory(const char *extension, const char *path) {
+    static const char *const keys[] = {"&at=4", "", "&at=0&copy=0", "&flags=header"};
+    static const int rows[] = {41, 71, 1, 71};
+    sqlite3 *db = loaded(extension);
+    for (int i = 0; i < 4; i++) {
+        char uri[4200];
+        size_t number = 1;
+        snprintf(uri, sizeof uri, "file:%s?vfs=sqrescue%s", path, keys[i]);
+        while (open_without(number, uri, rows[i]) && number < 1000) number++;
+        check(number > 2 && number < 1000, "allocations were refused, and then none");
+    }
+    sqlite3_close(db);
     return 0;
 }
 
@@ -237,15 +332,6 @@ static int calls(const char *extension, const char *path) {
 
 static const char *sample;
 static int wrong[THREADS];
-
-static int rows_of(sqlite3 *db) {
-    sqlite3_stmt *it = NULL;
-    int rows = -1;
-    if (!sqlite3_prepare_v2(db, "SELECT count(*) FROM entry", -1, &it, NULL) && sqlite3_step(it) == SQLITE_ROW)
-        rows = sqlite3_column_int(it, 0);
-    sqlite3_finalize(it);
-    return rows;
-}
 
 static void *opens(void *number) {
     static const int commits[] = {0, 4, 8, 9, 10}, rows[] = {1, 41, 71, 70, 71};
@@ -305,10 +391,11 @@ static int in_box(char **words) {
 
 int main(int argc, char **argv) {
     if (argc > 3 && !strcmp(argv[1], "in")) return in_box(argv + 2);
-    if (argc == 2 && !strcmp(argv[1], "range")) range();
+    if (argc == 2 && !strcmp(argv[1], "pieces")) pieces();
     else if (argc == 5 && !strcmp(argv[1], "reads")) reads(argv[2], argv[3], argv[4]);
     else if (argc == 4 && !strcmp(argv[1], "calls")) calls(argv[2], argv[3]);
     else if (argc == 4 && !strcmp(argv[1], "threads")) threads(argv[2], argv[3]);
+    else if (argc == 4 && !strcmp(argv[1], "memory")) memory(argv[2], argv[3]);
     else return 2;
     return summed();
 }

@@ -1,4 +1,4 @@
-"""Databases for tests/vfs."""
+"""Databases for tests/vfs, and what a connection answers."""
 import os, random, shutil, sqlite3
 
 SQL = "SELECT * FROM t ORDER BY k"  # the rows of a table that each of them has
@@ -60,3 +60,44 @@ def logged(folder, page_size, checkpoints):
     copied(path, folder / "log.db")
     db.close()
     return folder / "log.db", rows
+
+
+def answers(db, statements):
+    """What a connection answers to each statement: its rows, or the code and the text of an error."""
+    found = []
+    db.text_factory = bytes
+    for sql in statements:
+        try:
+            found.append(db.execute(sql).fetchall())
+        except sqlite3.Error as error:
+            found.append((error.sqlite_errorcode, str(error)))
+    db.close()
+    return found
+
+
+def plain(path, statements):
+    """The same by SQLite's own VFS with `immutable`."""
+    return answers(sqlite3.connect(f"file:{path}?immutable=1", uri=True, isolation_level=None), statements)
+
+
+STATEMENTS = ["PRAGMA page_count", "SELECT * FROM sqlite_schema", "PRAGMA integrity_check", SQL, "SELECT * FROM t",
+              "SELECT v FROM t ORDER BY v", "SELECT * FROM w", "SELECT count(*), sum(k) FROM t",
+              "PRAGMA freelist_count"]
+
+
+SIZES = {512: "PRAGMA encoding = 'UTF-16le'", 1024: "PRAGMA auto_vacuum = 1", 4096: "SELECT 1"}
+
+
+def sources(folder):
+    """Databases of several kinds."""
+    for page_size, first in SIZES.items():
+        path = folder / f"source{page_size}.db"
+        db = sqlite3.connect(path, isolation_level=None)
+        db.execute(f"PRAGMA page_size = {page_size}")
+        db.execute(first)
+        db.close()
+        db = made(path, "delete", page_size)
+        db.execute("CREATE TABLE w(a, b, PRIMARY KEY(b, a)) WITHOUT ROWID")
+        db.execute("INSERT INTO w SELECT k, v FROM t")
+        db.close()
+        yield path.read_bytes()
