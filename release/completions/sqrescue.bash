@@ -26,7 +26,7 @@ _sqrescue() {
       return
       ;;
     show--super-journal | check--super-journal | rows--super-journal | diff--super-journal | salvage--super-journal | recover--super-journal | report--super-journal)
-      COMPREPLY=($(compgen -W 'present gone' -- "$word"))
+      COMPREPLY=($(compgen -W 'present gone look' -- "$word"))
       return
       ;;
     rows--table | diff--table)
@@ -47,13 +47,13 @@ _sqrescue() {
       ;;
   esac
   case $command in
-    show) options='-v --verbose --json --at --large --super-journal= --wait --no-lock --page --pages --pointer-maps --log --all --commits -h --help' ;;
-    check) options='-v --verbose --json --at --large --super-journal= --wait --no-lock --pointer-maps --deep --complete -h --help' ;;
-    rows) options='-v --verbose --json --at --large --super-journal= --wait --no-lock --table --csv --sql --places --deleted --all -h --help' ;;
-    diff) options='-v --verbose --json --from --large --super-journal= --wait --no-lock --to --table --commits --deleted --sql -h --help' ;;
-    salvage) options='-v --verbose --json --at --large --super-journal= --wait --no-lock --places --to -h --help' ;;
-    recover) options='-v --verbose --json --at --large --super-journal= --wait --no-lock --to --force -h --help' ;;
-    report) options='-v --verbose --json --at --large --super-journal= --wait --no-lock --pointer-maps --changes --to -h --help' ;;
+    show) options='-v --verbose --json --at --any --large --super-journal= --wait --no-lock --page --pages --pointer-maps --log --all --commits -h --help' ;;
+    check) options='-v --verbose --json --at --any --large --super-journal= --wait --no-lock --pointer-maps --deep --complete -h --help' ;;
+    rows) options='-v --verbose --json --at --any --large --super-journal= --wait --no-lock --table --csv --sql --places --deleted --all -h --help' ;;
+    diff) options='-v --verbose --json --from --any --large --super-journal= --wait --no-lock --to --table --commits --deleted --sql -h --help' ;;
+    salvage) options='-v --verbose --json --at --any --large --super-journal= --wait --no-lock --places --to -h --help' ;;
+    recover) options='-v --verbose --json --at --any --large --super-journal= --wait --no-lock --to --force -h --help' ;;
+    report) options='-v --verbose --json --at --any --large --super-journal= --wait --no-lock --pointer-maps --changes --to -h --help' ;;
     '') options='-V --version -h --help' ;;
   esac
   if [ -z "$command" ] || [ "$command" = help ]; then
