@@ -39,7 +39,7 @@ unnamed_text name = left_out_text (codes "NUL or CR in its name") name
 abbrev pub count_text : ℕ → List ℕ
 count_text n = if n == 0 then [] else codes "-- texts and tables left out: " ++ (decimal n ++ codes "\n")
 
--- a row of the schema that is that of no object, as one whose root page is NULL
+-- a row of the schema that describes no object, as one whose root page is NULL
 abbrev pub stray_text : (bytes : List ℕ) → List ℕ
 stray_text bytes = left_out_text (codes "a row of the schema that is no object") bytes
 

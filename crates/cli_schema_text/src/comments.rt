@@ -55,7 +55,7 @@ pub fn write_unnamed<W: Write>(out: &mut W, name: &[u8]) -> io::Result<()>
     write_left_out(out, b"NUL or CR in its name", name)
 }
 
-/// A comment of one line for a row of the schema that is that of no object, with the bytes of its text.
+/// A comment of one line for a row of the schema that describes no object, with the bytes of its text.
 fn write_stray<W: Write>(out: &mut W, bytes: &[u8]) -> io::Result<()>
     ensures { OnOk result (Appends (W.contents out.old) (W.contents out.new) (stray_text bytes.now)) }
 {
@@ -84,7 +84,7 @@ pub fn write_count<W: Write>(out: &mut W, count: usize) -> io::Result<()>
     write!(out, "-- texts and tables left out: {count}\n")
 }
 
-/// What a script ends with if it leaves something out: a comment for each row of the schema that is that of no object,
+/// What a script ends with if it leaves something out: a comment for each row of the schema that describes no object,
 /// with the bytes of its text, and a line that counts these rows and the texts and tables that are left out. An error
 /// of the writer.
 pub fn write_left<W: Write>(out: &mut W, strays: &[Vec<u8>], count: usize) -> io::Result<()>

@@ -40,7 +40,7 @@ IsCommon None (Some is) encoding = encoding ≡ is
 IsCommon (Some was) None encoding = encoding ≡ was
 IsCommon (Some was) (Some is) encoding = (encoding ≡ was) × (encoding ≡ is)
 
--- the rows of its schema that are those of no object
+-- the rows of its schema that describe no object
 abbrev pub HasStraysOf : Database → Option Encoding → List (List ℕ) → Type 0
 HasStraysOf d None strays = strays ≡ []
 HasStraysOf d (Some encoding) strays = HasStrays d encoding strays
@@ -125,7 +125,7 @@ pub record AreFramed (d e : Database) (schemas : Schemas) (names : List (List �
   pub last : Appends ended after closing
   pub counted : LeavesOut form names schemas.old.now schemas.new.now left
 
--- They were, and none is left out; beside these rows of both schemas, which are those of no object.
+-- They were, and none is left out; beside these rows of both schemas, which describe no object.
 abbrev pub AreFramedPrinted : Database → Database → Schemas → (names : List (List ℕ)) → ChangeForm → Encoding → (strays : List (List ℕ)) → (before after : Option (List ℕ)) → Type 0
 AreFramedPrinted d e schemas names form encoding strays before after = AreFramed d e schemas names form encoding 0 before after × (strays ≡ [])
 

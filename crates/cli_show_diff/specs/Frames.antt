@@ -94,13 +94,13 @@ IsStopToldIn Lines before after = before ≡ after
 IsStopToldIn (Json commit) before after = before ≡ after
 IsStopToldIn Sql before after = IsFailingWritten before after
 
--- of the rows of a schema that are those of no object a script alone says something
+-- of the rows of a schema that describe no object a script alone says something
 abbrev pub strays_in : {A : Type 0} → ChangeForm → List A → List A
 strays_in Lines strays = []
 strays_in (Json commit) strays = []
 strays_in Sql strays = strays
 
--- behind all else in a script: the rows of both schemas that are those of no object, and how much is left out with them
+-- behind all else in a script: the rows of both schemas that describe no object, and how much is left out with them
 abbrev pub left_text_of : ChangeForm → (strays : List (List ℕ)) → (count : ℕ) → List ℕ
 left_text_of Lines strays count = []
 left_text_of (Json commit) strays count = []

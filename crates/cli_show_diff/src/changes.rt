@@ -218,7 +218,7 @@ pub(crate) struct Asked<'a> {
     pub(crate) form: ChangeForm,
     /// That of the texts of both.
     pub(crate) encoding: Encoding,
-    /// The texts of the rows of both schemas that are those of no object.
+    /// The texts of the rows of both schemas that describe no object.
     pub(crate) strays: (&'a [Vec<u8>], &'a [Vec<u8>]),
 }
 

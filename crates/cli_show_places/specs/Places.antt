@@ -45,7 +45,7 @@ AreObjectsPlaced d frames style objects before after =
     (mid : Option (List ℕ)) × AreTurnsPlaced d frames (form_of style true) false objects before mid
     × AreTurnsPlaced d frames (form_of style true) true objects mid after
 
--- It was printed of each table of a database, beside these rows of its schema, which are those of no object.
+-- It was printed of each table of a database, beside these rows of its schema, which describe no object.
 abbrev pub AreTablesPlacedBeside : Database → (frames : ℕ → Option ℕ) → Style → (strays : List (List ℕ)) → (before after : Option (List ℕ)) → Type 0
 AreTablesPlacedBeside d frames style strays before after =
     (objects : List Object) × HasObjectsRead d objects × HasStrays d (encoding_of d) strays × AreObjectsPlaced d frames style objects before after

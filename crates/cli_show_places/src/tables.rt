@@ -106,7 +106,7 @@ fn refused(strays: usize) -> Result<(), Stop>
 }
 
 /// Prints where the rows of each table stand: of the user's, and behind them of SQLite's own. Refused by `LeftOut`, if
-/// the schema has rows that are those of no object: then all else was printed.
+/// the schema has rows that describe no object: then all else was printed.
 pub(crate) fn print_tables<S: Framed, W: Write>(
     alloc: Global,
     source: &mut S,

@@ -253,14 +253,14 @@ LeavesOutIn Json objects n = n ≡ 0
 LeavesOutIn Csv objects n = n ≡ 0
 LeavesOutIn Sql objects n = HasLeftOut objects n
 
--- behind all else in a script: the rows of the schema that are those of no object, and how much is left out with them
+-- behind all else in a script: the rows of the schema that describe no object, and how much is left out with them
 abbrev pub left_text_in : Notation → (strays : List (List ℕ)) → (count : ℕ) → List ℕ
 left_text_in Json strays count = []
 left_text_in Csv strays count = []
 left_text_in Sql strays count = left_text strays count
 
--- The objects of a database were printed behind what a script begins with, and so much is left out: rows of the schema that are
--- those of no object, and in a script texts and tables.
+-- The objects of a database were printed behind what a script begins with, and so much is left out: rows of the schema that
+-- describe no object, and in a script texts and tables.
 pub record AreAllPrinted (d : Database) (notation : Notation) (strays : List (List ℕ)) (left : ℕ) (before after : Option (List ℕ)) : Type 0 where
   pub objects : List Object
   pub has : HasObjectsRead d objects

@@ -1,4 +1,4 @@
--- The rows of a schema that are those of no object (own).
+-- The rows of a schema that describe no object (own).
 use Rattle.std.specs.Prelude.{◌≡◌, ◌⊎◌, ℕ, List, [], ◌∷◌, codes, map, slice_get, Option, Some, Vec}
 use Rattle.std.specs.declared.alloc.Global.{Global}
 use Rattle.sqval.specs.Database.{Database}
@@ -23,7 +23,7 @@ pub record IsKeyIndex (encoding : Encoding) (values : List Datum) : Type 0 where
   pub typed : slice_get values 0 ≡ Some (text (index_word encoding))
   pub unwritten : slice_get values 4 ≡ Some null
 
--- It is that of no object and of no such index, as one whose root is NULL. SQLite refuses a schema with such a row, or reads it
+-- It describes no object and no such index, as one whose root is NULL. SQLite refuses a schema with such a row, or reads it
 -- otherwise.
 abbrev pub IsStray : Encoding → List Datum → Type 0
 IsStray encoding values = IsNoObject values × ¬ IsKeyIndex encoding values

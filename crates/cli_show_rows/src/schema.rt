@@ -24,7 +24,7 @@ pub struct Schema {
     pub encoding: Encoding,
     /// Their texts are in UTF-8; those that aren't well formed in the encoding are as they stand.
     pub objects: Vec<Object>,
-    /// The texts, as they are stored, of those rows of the schema that are those of no object, nor of an index that a
+    /// The texts, as they are stored, of those rows of the schema that describe neither an object nor an index that a
     /// constraint made. SQLite refuses such a schema, or reads it otherwise.
     pub strays: Vec<Vec<u8>>,
 }

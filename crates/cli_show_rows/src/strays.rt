@@ -1,4 +1,4 @@
-//! The rows of a schema that are those of no object.
+//! The rows of a schema that describe no object.
 ghost use Rattle.std.specs.Prelude.{◌≡◌, ◌≢◌, ◌<◌, ◌^◌, ℕ, List, Some, IfOk, IfErr, IsTrue, MatchOption};
 ghost use Rattle.std.specs.Prelude.{false, pos, slice_get};
 ghost use Rattle.sqval.specs.Datum.{integer, null, text};
@@ -187,7 +187,7 @@ fn take_next<S: PageSource>(
     Ok(true)
 }
 
-/// The texts of those rows of a schema in this encoding that are those of no object, nor of an index that a constraint
+/// The texts of those rows of a schema in this encoding that describe neither an object nor an index that a constraint
 /// made: SQLite refuses such a schema, or reads it otherwise. What has no text counts as an empty one.
 pub(crate) fn strays_of<S: PageSource>(
     alloc: Global,

@@ -28,6 +28,6 @@ abbrev pub AreBegunStopped : Database → Database → Schemas → (names : List
 AreBegunStopped d e schemas names form opening stop before after =
     IsWriteError stop ⊎ ((begun : Option (List ℕ)) × Appends before begun opening × AreAskedStopped d e schemas names form stop begun after)
 
--- the rows of both schemas that are those of no object
+-- the rows of both schemas that describe no object
 abbrev pub strays_of : Asked → List (List ℕ)
 strays_of asked = bytes_of asked.strays.0.now ++ bytes_of asked.strays.1.now
