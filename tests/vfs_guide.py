@@ -1,4 +1,4 @@
-"""Runs the recipe of docs/GUIDE.md for SQL at any commit, as it is printed there."""
+"""Runs the recipe of docs/3-evidence.md for SQL at any commit, as it is printed there."""
 import os, shutil, subprocess, sys
 
 from lib import TOP, path_of
@@ -21,5 +21,5 @@ def guide(folder, extension):
     """Runs it, and compares what is printed."""
     prepare(folder, extension)
     subprocess.run("sha256sum evidence/* >sums", shell=True, cwd=folder, check=True)
-    recipes.run(folder, f"{folder}/bin", recipes.section("GUIDE.md", "### SQL at any commit"),
+    recipes.run(folder, f"{folder}/bin", recipes.section("3-evidence.md", "## SQL at any commit"),
                 {"PYTHONPATH": f"{folder}/site"})

@@ -651,7 +651,7 @@ def extension():
 def uri(path, *, at=None, wait=None, copy=None, flags=()):
     """The URI of a database for a connection that has loaded `extension()`, to open or attach it with SQLite's
     `uri=True`. `at` is the frame that ends a commit, or 0. `wait` is in seconds, `copy` in MiB, and `flags` are words
-    (docs/GUIDE.md, 'SQL at any commit')."""
+    (docs/3-evidence.md, 'SQL at any commit')."""
     path = _path(path)
     if path.startswith(b"/"):
         path = b"///" + path.lstrip(b"/")
