@@ -10,7 +10,7 @@ ghost use Rattle.sqkeys.specs.RowRules.{IsUntyped, AreRulesIn, AreRulesOf, HasNo
 use crate::accepts::{Accepts, accepts_at};
 use crate::column::is_alias;
 use crate::default::default_at;
-use crate::text::rowid_table;
+use crate::text::rows_table;
 use sqlite_ast::{CreateTable, Keyed, Rule};
 use sqlite_value::value::Value;
 use std::alloc::{AllocError, Global};
@@ -119,7 +119,7 @@ pub fn rules_of(alloc: Global, table: &[u8]) -> Result<Option<Vec<ColumnRule>>, 
     ensures { IfOk result (λ found. MatchOption found (HasNoRules table.now)
         (λ rules. AreRulesOf table.now rules.items)) }
 {
-    match rowid_table(alloc, table)? {
+    match rows_table(alloc, table)? {
         Some(made) => rules_in(alloc, &made),
         None => Ok(None),
     }
