@@ -2,7 +2,6 @@
 use Rattle.std.proofs.Common.{◌≡◌, ◌⊎◌, ◌↔◌, inl, inr, ℕ, List, [], Bool, Bor, true, false, length, refl, sym, ap, subst, ◌∙◌, arith}
 use Rattle.std.specs.Prelude.{IsTrue, Option, Some}
 use Rattle.std.specs.Option.{option_map_or}
-use Rattle.std.specs.declared.fs.attrs.Metadata.{Metadata}
 use Rattle.sqval.specs.Bytes.{part}
 use Rattle.sqjournal.specs.Header.{magic}
 use Rattle.sqjournal.specs.Journal.{IsHot}
@@ -11,10 +10,11 @@ use Rattle.cli_words.specs.declared.requests.SuperJournal.TheVariants.{Gone, Loo
 use Rattle.cli_files.specs.Files.{IsMissing, opened_bytes}
 use Rattle.cli_files.specs.Journals.{IsLeftOf, MayBeGone, NamesSuperJournal}
 use Rattle.cli_files.specs.Supers.{FindsNone, IsDecided}
+use Rattle.cli_files.specs.Systems.{Answered}
 use Rattle.cli_files.specs.declared.opened_file.OpenedFile.{OpenedFile}
 use Rattle.cli_files.specs.declared.place.Place.{Place}
 
-pub left_of : {F : Type 0} (answered : List ℕ → Option Metadata → Type 0) (said decided : Option SuperJournal) (bytes : List ℕ) (opened left : OpenedFile F) (names out : Bool)
+pub left_of : {F : Type 0} (answered : Answered) (said decided : Option SuperJournal) (bytes : List ℕ) (opened left : OpenedFile F) (names out : Bool)
     → (IsTrue names ↔ (IsHot bytes × NamesSuperJournal bytes)) → IsDecided answered said names bytes decided
     → (IsTrue out ↔ (IsTrue names × (decided ≡ Some Gone)))
     → (IsTrue out → IsMissing left) → (out ≡ false → left ≡ opened) → IsLeftOf answered said bytes opened left
@@ -41,7 +41,7 @@ not_hot b none hot =
     let long : 0 ≡ 8 = ap length begins in omega (arith, long)
 
 -- a missing one is left as it is
-pub left_missing : {F : Type 0} (bytes : F → List ℕ) (answered : List ℕ → Option Metadata → Type 0) (said : Option SuperJournal) (file : OpenedFile F) → IsMissing file → IsLeftOf answered said (opened_bytes bytes file) file file
+pub left_missing : {F : Type 0} (bytes : F → List ℕ) (answered : Answered) (said : Option SuperJournal) (file : OpenedFile F) → IsMissing file → IsLeftOf answered said (opened_bytes bytes file) file file
 left_missing {F} bytes answered said file missing =
     let none : opened_bytes bytes file ≡ [] = ap (λ (f : Option (F × Bor Place)). option_map_or (λ (o : F × Bor Place). bytes o.0) f []) missing.0 in record {
       decided = said;
@@ -53,7 +53,7 @@ left_missing {F} bytes answered said file missing =
     }
 
 -- a journal is let go only if its super-journal may be gone
-pub may_be_gone : (answered : List ℕ → Option Metadata → Type 0) (said decided : Option SuperJournal)
+pub may_be_gone : (answered : Answered) (said decided : Option SuperJournal)
     → (decided ≡ said) ⊎ ((said ≡ Some Look) × (decided ≡ Some Gone → FindsNone answered)) → decided ≡ Some Gone → MayBeGone answered said
 may_be_gone answered said decided (inl stays) gone = inl (sym stays ∙ gone)
 may_be_gone answered said decided (inr looks) gone = inr (looks.0, looks.1 gone)

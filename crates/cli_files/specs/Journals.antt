@@ -9,6 +9,7 @@ use Rattle.cli_words.specs.declared.requests.SuperJournal.TheVariants.{Present, 
 use Rattle.cli_files.specs.Files.{IsMissing, IsOpenedOf}
 use Rattle.cli_files.specs.declared.opened_file.OpenedFile.{OpenedFile}
 use Rattle.cli_files.specs.Supers.{FindsNone, IsDecided}
+use Rattle.cli_files.specs.Systems.{Answered}
 use Rattle.cli_files.specs.declared.place.Place.{Place}
 
 -- the last 8 bytes of the journal are the magic
@@ -16,7 +17,7 @@ abbrev pub NamesSuperJournal : (journal : List ℕ) → Type 0
 NamesSuperJournal journal = part_or_zeros 8 (length journal - 8) journal ≡ magic
 
 -- a super-journal may be gone: this is said, or the file system decides and found none
-abbrev pub MayBeGone : (answered : List ℕ → Option Metadata → Type 0) → (said : Option SuperJournal) → Type 0
+abbrev pub MayBeGone : (answered : Answered) → (said : Option SuperJournal) → Type 0
 MayBeGone answered said = (said ≡ Some Gone) ⊎ ((said ≡ Some Look) × FindsNone answered)
 
 -- one may exist: this is said, or the file system decides; a journal whose super-journal is gone isn't left
@@ -29,8 +30,7 @@ IsOutOfForce decided journal = IsHot journal × NamesSuperJournal journal × (de
 
 -- Of a journal of these bytes that was opened so this is left: none if it is ignored, as what is said or the file system
 -- decides, and else it.
-pub record IsLeftOf {F : Type 0} (answered : List ℕ → Option Metadata → Type 0) (said : Option SuperJournal) (bytes : List ℕ)
-    (opened left : OpenedFile F) : Type 0 where
+pub record IsLeftOf {F : Type 0} (answered : Answered) (said : Option SuperJournal) (bytes : List ℕ) (opened left : OpenedFile F) : Type 0 where
   pub decided : Option SuperJournal
   pub names : Bool
   pub marked : IsTrue names ↔ (IsHot bytes × NamesSuperJournal bytes)
@@ -39,7 +39,7 @@ pub record IsLeftOf {F : Type 0} (answered : List ℕ → Option Metadata → Ty
   pub counts : ¬ IsOutOfForce decided bytes → left ≡ opened
 
 -- What is left of the journal that was opened as it was found there, if that is steady.
-pub record LeavesJournal {F : Type 0} (bytes : OpenedFile F → List ℕ) (steady : OpenedFile F → Type 0) (answered : List ℕ → Option Metadata → Type 0)
+pub record LeavesJournal {F : Type 0} (bytes : OpenedFile F → List ℕ) (steady : OpenedFile F → Type 0) (answered : Answered)
     (said : Option SuperJournal) (place : Place) (found : Option Metadata) (left : OpenedFile F) : Type 0 where
   pub journal : OpenedFile F
   pub opened : IsOpenedOf journal place 28 found

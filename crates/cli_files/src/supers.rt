@@ -8,7 +8,8 @@ ghost use Rattle.cli_words.specs.declared.requests.SuperJournal.{SuperJournal};
 ghost use Rattle.cli_words.specs.declared.requests.SuperJournal.TheVariants.{Gone, Look};
 ghost use Rattle.cli_files.specs.Journals.{MayBeGone};
 ghost use Rattle.cli_files.specs.Supers.{FindsNone, IsAbsolute, IsAnswered, IsDecided, IsFoundAs};
-ghost use Rattle.cli_files.specs.Supers.{IsThere, LeadsNowhere, LooksFor};
+ghost use Rattle.cli_files.specs.Supers.{IsThere, LooksFor};
+ghost use Rattle.cli_files.specs.Systems.{FindsAt, LeadsNowhere};
 
 use crate::journals::{is_out_of_force, tell_super_journal};
 use crate::opened_file::OpenedFile;
@@ -38,7 +39,7 @@ fn is_nothing(error: &io::Error) -> bool
 /// What the system says of the file that a path leads to, also through symbolic links. None: it leads to nothing. A
 /// call that a signal ends is repeated.
 fn found_at<R: SystemPaths>(rt: &R, path: &str) -> io::Result<Option<Metadata>>
-    ensures { IfOk result (R.answered path.now) }
+    ensures { IfOk result (FindsAt R.answered path.now) }
 {
     for _ in 0..u64::MAX {
         match rt.ask(path) {
