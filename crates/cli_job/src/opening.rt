@@ -6,8 +6,8 @@ ghost use Rattle.cli_job.specs.Opened.{AreOpened, GivesBytes, IsUnchosen, IsUnop
 
 use cli_facts::{Notes, Refusal, SystemFile};
 use cli_files::{
-    Beheld, Beside, OpenedFile, Paths, SystemPaths, counting_log, look_at, open_database, open_logs, tell_alone,
-    tell_length,
+    Beheld, Beside, OpenedFile, Paths, SystemPaths, counting_log, look_at, open_database,
+    open_logs, tell_alone, tell_length,
 };
 use cli_show::Contents;
 use cli_words::SuperJournal;

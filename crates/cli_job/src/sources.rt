@@ -10,8 +10,8 @@ ghost use Rattle.cli_job.specs.internal.Watches.{StandsYet};
 
 use cli_facts::{Front, Notes, Reading, Readings, Refusal, SystemFile, read_or_zeros, unchanged};
 use cli_files::{
-    Paths, SystemPaths, as_before, is_index_live, is_journal_hot, look_at, paths_of, readings_of, time_to_wait,
-    told,
+    Paths, SystemPaths, as_before, is_index_live, is_journal_hot, look_at, paths_of, readings_of,
+    time_to_wait, told,
 };
 use cli_held::{Held, Locks, frames_named};
 use cli_words::Options;

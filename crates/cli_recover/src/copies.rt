@@ -195,7 +195,8 @@ fn found_in<'a, R: SystemPaths + AllocGlobal + Clock, M: Count, E: Write>(
 where
     R::File: SystemFile,
     ensures copied { IfOk result (λ found. IsCopied (opened_bytes R.File.bytes)
-        (GivesBytes R.File.bytes R.File.keeps_word R.File.never_fails) R.answered job.entry.now.source.now found.outcome) }
+        (GivesBytes R.File.bytes R.File.keeps_word R.File.never_fails) R.answered job.entry.now.source.now
+        found.outcome) }
     ensures refused { IfErr result (IsUnmade (opened_bytes R.File.bytes)
         (GivesBytes R.File.bytes R.File.keeps_word R.File.never_fails) R.answered job.entry.now.source.now) }
 {

@@ -21,7 +21,8 @@ use crate::plans::{Recovery, plan_recovery, scan_of};
 use crate::refusals::refusal_of_guard;
 use cli_facts::{Guard, NoteWriter, Notes, Outcome, Refusal, SystemFile, metadata_of};
 use cli_files::{
-    Beheld, Beside, Count, OpenElsewhere, OpenedFile, Paths, Place, Progress, SystemPaths, counting_log, open_database, open_logs, paths_of, tell_dropped, tell_length, tell_unread, told,
+    Beheld, Beside, Count, OpenElsewhere, OpenedFile, Paths, Place, Progress, SystemPaths,
+    counting_log, open_database, open_logs, paths_of, tell_dropped, tell_length, tell_unread, told,
 };
 use cli_job::{Answer, Job, Metered, Source, Watch};
 use cli_show::{Contents, ShowError, limits_of};
@@ -75,8 +76,8 @@ where
     R::File: SystemFile,
     ensures done { IsDoneOr result }
     ensures recovers { RecoversOn (opened_bytes R.File.bytes)
-        (GivesBytes R.File.bytes R.File.keeps_word R.File.never_fails) R.answered D.keeps_word D.state (of.entry.1 ≡ true)
-        of.entry.0.now of.entry.2 result (O.contents out.old) (O.contents out.new) }
+        (GivesBytes R.File.bytes R.File.keeps_word R.File.never_fails) R.answered D.keeps_word D.state
+        (of.entry.1 ≡ true) of.entry.0.now of.entry.2 result (O.contents out.old) (O.contents out.new) }
 {
     let (file, forced, mut options) = of;
     options.front = None;
@@ -148,8 +149,8 @@ where
     R::File: SystemFile,
     ensures recovered { job.entry.now.source.now.options.front ≡ None
         → IfOk result (IsRecoveredOn (opened_bytes R.File.bytes)
-        (GivesBytes R.File.bytes R.File.keeps_word R.File.never_fails) R.answered D.keeps_word D.state (G.lets_change guard)
-        job.entry.now.source.now.paths job.entry.now.source.now.options) }
+        (GivesBytes R.File.bytes R.File.keeps_word R.File.never_fails) R.answered D.keeps_word D.state
+        (G.lets_change guard) job.entry.now.source.now.paths job.entry.now.source.now.options) }
     ensures refused { IfErr result (IsUnrecovered (opened_bytes R.File.bytes)
         (GivesBytes R.File.bytes R.File.keeps_word R.File.never_fails) R.answered
         job.entry.now.source.now.paths job.entry.now.source.now.options) }

@@ -128,7 +128,8 @@ fn changes_now<R: SystemPaths + AllocGlobal, M>(job: &Job<'_, R, M>) -> Result<K
 where
     R::File: SystemFile,
     ensures kept { IfOk result (λ kept. AreChangesOf (opened_bytes R.File.bytes)
-        (GivesBytes R.File.bytes R.File.keeps_word R.File.never_fails) R.answered job.entry.now.source.now true (Some kept)) }
+        (GivesBytes R.File.bytes R.File.keeps_word R.File.never_fails) R.answered job.entry.now.source.now true
+        (Some kept)) }
     ensures refused { IfErr result (IsUnreported (opened_bytes R.File.bytes)
         (GivesBytes R.File.bytes R.File.keeps_word R.File.never_fails) R.answered job.entry.now.source.now) }
 {
@@ -195,7 +196,8 @@ fn shown_now<'a, R: SystemPaths + AllocGlobal + Clock, M: Count, E: Write>(
 where
     R::File: SystemFile,
     ensures shown { IfOk result (IsShownOf (opened_bytes R.File.bytes)
-        (GivesBytes R.File.bytes R.File.keeps_word R.File.never_fails) R.answered job.entry.now.source.now with_changes) }
+        (GivesBytes R.File.bytes R.File.keeps_word R.File.never_fails) R.answered job.entry.now.source.now
+        with_changes) }
     ensures refused { IfErr result (IsUnreported (opened_bytes R.File.bytes)
         (GivesBytes R.File.bytes R.File.keeps_word R.File.never_fails) R.answered job.entry.now.source.now) }
 {
@@ -224,7 +226,8 @@ fn settled<'a, R: SystemPaths + AllocGlobal + Clock, M: Count, E: Write>(
 where
     R::File: SystemFile,
     ensures shown { IfOk result (IsShownOf (opened_bytes R.File.bytes)
-        (GivesBytes R.File.bytes R.File.keeps_word R.File.never_fails) R.answered job.entry.now.source.now with_changes) }
+        (GivesBytes R.File.bytes R.File.keeps_word R.File.never_fails) R.answered job.entry.now.source.now
+        with_changes) }
     ensures refused { IfErr result (IsUnreported (opened_bytes R.File.bytes)
         (GivesBytes R.File.bytes R.File.keeps_word R.File.never_fails) R.answered job.entry.now.source.now) }
 {
@@ -278,8 +281,8 @@ where
     ensures answers { ReportsTo (opened_bytes R.File.bytes)
         (GivesBytes R.File.bytes R.File.keeps_word R.File.never_fails) R.answered job.entry.now.source.now result }
     ensures page { of.entry.0.now ≡ codes "-" → OnOk result (PrintsPage (opened_bytes R.File.bytes)
-        (GivesBytes R.File.bytes R.File.keeps_word R.File.never_fails) R.answered template.entry.now job.entry.now of.entry.1
-        (W.contents out.old) (W.contents out.new)) }
+        (GivesBytes R.File.bytes R.File.keeps_word R.File.never_fails) R.answered template.entry.now
+        job.entry.now of.entry.1 (W.contents out.old) (W.contents out.new)) }
     ensures verdict { of.entry.0.now ≢ codes "-" → OnOk result (PrintsVerdict (opened_bytes R.File.bytes)
         (GivesBytes R.File.bytes R.File.keeps_word R.File.never_fails) R.answered job.entry.now
         (W.contents out.old) (W.contents out.new)) }

@@ -32,7 +32,8 @@ pub fn salvage_to<R: SystemPaths + AllocGlobal + Clock, M: Count, O: Write, E: W
 where
     R::File: SystemFile,
     ensures { SalvagesTo (opened_bytes R.File.bytes)
-        (GivesBytes R.File.bytes R.File.keeps_word R.File.never_fails) R.answered job.entry.now.source.now to.entry.1 result }
+        (GivesBytes R.File.bytes R.File.keeps_word R.File.never_fails) R.answered job.entry.now.source.now
+        to.entry.1 result }
 {
     match script_to(job, to, out, notes) {
         Ok(Salvaged { ended, .. }) => answer_of(job, ended, out, notes),
@@ -86,7 +87,8 @@ fn script_standing<R: SystemPaths + AllocGlobal + Clock, M: Count, W: Write, E: 
 where
     R::File: SystemFile,
     ensures { IfOk result (λ salvaged. Scripts (opened_bytes R.File.bytes)
-        (GivesBytes R.File.bytes R.File.keeps_word R.File.never_fails) R.answered job.entry.now.source.now places salvaged.ended) }
+        (GivesBytes R.File.bytes R.File.keeps_word R.File.never_fails) R.answered job.entry.now.source.now
+        places salvaged.ended) }
 {
     let before = job.before(false, notes)?;
     let salvaged = script_now(job, places, out, notes);
@@ -107,7 +109,8 @@ fn script_now<R: SystemPaths + AllocGlobal + Clock, M: Count, W: Write, E: Write
 where
     R::File: SystemFile,
     ensures { IfOk result (λ salvaged. Scripts (opened_bytes R.File.bytes)
-        (GivesBytes R.File.bytes R.File.keeps_word R.File.never_fails) R.answered job.entry.now.source.now places salvaged.ended) }
+        (GivesBytes R.File.bytes R.File.keeps_word R.File.never_fails) R.answered job.entry.now.source.now
+        places salvaged.ended) }
 {
     let options = job.source.options;
     match job.opened(Wants::UNCOUNTED, notes) {
@@ -126,7 +129,8 @@ fn script_printed<R: SystemPaths + AllocGlobal + Clock, M: Count, O: Write, E: W
 where
     R::File: SystemFile,
     ensures { IfOk result (λ salvaged. Scripts (opened_bytes R.File.bytes)
-        (GivesBytes R.File.bytes R.File.keeps_word R.File.never_fails) R.answered job.entry.now.source.now places salvaged.ended) }
+        (GivesBytes R.File.bytes R.File.keeps_word R.File.never_fails) R.answered job.entry.now.source.now
+        places salvaged.ended) }
 {
     match BufWriter::with_capacity(job.rt.alloc(), WRITTEN, out) {
         Ok(mut lines) => {
@@ -206,7 +210,8 @@ fn script_filled<R: SystemPaths + AllocGlobal + Clock, M: Count, E: Write>(
 where
     R::File: SystemFile,
     ensures { IfOk result (λ salvaged. Scripts (opened_bytes R.File.bytes)
-        (GivesBytes R.File.bytes R.File.keeps_word R.File.never_fails) R.answered job.entry.now.source.now places salvaged.ended) }
+        (GivesBytes R.File.bytes R.File.keeps_word R.File.never_fails) R.answered job.entry.now.source.now
+        places salvaged.ended) }
 {
     let salvaged = script_printed(job, places, made, notes);
     let finished = made.finish();

@@ -32,7 +32,8 @@ pub(crate) fn answered<R: SystemPaths + AllocGlobal + Clock, M: Count, O: Write,
 ) -> Result<Answer, ShowError>
 where
     R::File: SystemFile,
-    ensures { Comes (opened_bytes R.File.bytes) (GivesBytes R.File.bytes R.File.keeps_word R.File.never_fails) R.answered
+    ensures { Comes (opened_bytes R.File.bytes) (GivesBytes R.File.bytes R.File.keeps_word R.File.never_fails)
+        R.answered
         job.entry.now.source.now command.entry.now result }
 {
     let of = (job.rt.alloc(), job.source.options.style);

@@ -7,8 +7,8 @@ ghost use Rattle.sqrescue.specs.Locking.{refusal_of};
 ghost use Rattle.sqrescue.specs.Runs.{EndsLine};
 
 use crate::program::{self, Under};
-use cli_files::SystemPaths;
 use cli_facts::{Refusal, SystemFile};
+use cli_files::SystemPaths;
 use cli_held::{Todo, Why, prepared};
 use std::io::{self, IsTerminal, Write};
 use std::rt::Files;

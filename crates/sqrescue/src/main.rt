@@ -19,8 +19,8 @@ mod readings;
 mod unread;
 
 use crate::output::Output;
-use cli_files::SystemPaths;
 use cli_facts::SystemFile;
+use cli_files::SystemPaths;
 use std::env::{self, Env};
 use std::io::{self, IsTerminal, Write};
 use std::process::ExitCode;

@@ -49,7 +49,8 @@ pub(crate) fn run<R: SystemPaths + AllocGlobal + Clock, O: Write, E: Write + IsT
 ) -> Status
 where
     R::File: SystemFile,
-    ensures { Ends (opened_bytes R.File.bytes) (GivesBytes R.File.bytes R.File.keeps_word R.File.never_fails) R.answered under
+    ensures { Ends (opened_bytes R.File.bytes) (GivesBytes R.File.bytes R.File.keeps_word R.File.never_fails)
+        R.answered under
         (map (λ w. w.now) words.entry.now) result (O.contents out.old) (O.contents out.new) }
 {
     match request(rt.alloc(), words) {
@@ -203,7 +204,8 @@ fn read_by<R: SystemPaths + AllocGlobal + Clock, M: Count, O: Write, E: Write>(
 where
     R::File: SystemFile,
     ensures { ReadsTo (opened_bytes R.File.bytes)
-        (GivesBytes R.File.bytes R.File.keeps_word R.File.never_fails) R.answered reading.entry job.entry.now.source.now result }
+        (GivesBytes R.File.bytes R.File.keeps_word R.File.never_fails) R.answered reading.entry
+        job.entry.now.source.now result }
 {
     match reading {
         Reading::Look(look) => answered(job, &look.command(job.source.options), out, notes),
@@ -225,7 +227,8 @@ fn read_from<R: SystemPaths + AllocGlobal + Clock, O: Write, E: Write>(
 where
     R::File: SystemFile,
     ensures { ReadsTo (opened_bytes R.File.bytes)
-        (GivesBytes R.File.bytes R.File.keeps_word R.File.never_fails) R.answered reading.entry source.entry.now result }
+        (GivesBytes R.File.bytes R.File.keeps_word R.File.never_fails) R.answered reading.entry
+        source.entry.now result }
 {
     let meter = Progress::new(rt, notes.again(), source.options);
     let job = Job {

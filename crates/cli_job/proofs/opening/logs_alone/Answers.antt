@@ -11,7 +11,7 @@ returns-in-Ok g c =
       wanted = (
         c.missing.ensures,
         logs_of file.bytes file.keeps_word file.never_fails g.R.SystemPaths.answered c.args.paths.now c.args.super_journal c.in-Ok.field-0.found
-        c.in-Ok.field-0.wal c.in-Ok.field-0.journal of.wal of.journal of.left,
+            c.in-Ok.field-0.wal c.in-Ok.field-0.journal of.wal of.journal of.left,
         of.left_out.1,
       );
     }
