@@ -10,6 +10,7 @@ mod resized;
 mod store;
 mod table;
 mod torn;
+mod ways;
 
 pub use call::{Action, Call, Trace};
 pub use differing::{Difference, differences};
@@ -18,3 +19,4 @@ pub use image::{Image, draw, present};
 pub use store::Store;
 pub use table::Naming;
 pub use torn::draw_torn;
+pub use ways::Ways;

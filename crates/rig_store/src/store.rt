@@ -14,7 +14,7 @@ use std::alloc::Global;
 pub struct Store {
     alloc: Global,
     sector: usize,
-    tears: bool,
+    pub(crate) tears: bool,
     meta: Meta,
     /// In the order in which they were made.
     pub(crate) files: Vec<Player>,

@@ -15,7 +15,7 @@ pub struct Naming {
 
 impl Naming {
     ghost use Rattle.std.specs.Prelude.{◌≡◌};
-    ghost use Rattle.rig_store.specs.Names.{holder_then};
+    ghost use Rattle.rig_store.specs.Names.{changes, holder_then};
 
     /// The file that a name has behind this change, where it had one or none before.
     fn then(self, name: u32, before: Option<u32>) -> Option<u32>
@@ -27,6 +27,19 @@ impl Naming {
         match self.from {
             Some(gone) if gone == name => None,
             _ => before,
+        }
+    }
+
+    /// Whether it changes what a name has.
+    pub(crate) fn changes(&self, name: u32) -> bool
+        ensures { result ≡ changes name self.now }
+    {
+        if self.name == name {
+            return true;
+        }
+        match self.from {
+            Some(gone) => gone == name,
+            None => false,
         }
     }
 }
