@@ -9,14 +9,15 @@ use Rattle.rig_store.specs.declared.call.Call.{Call}
 use Rattle.sqcrash_store.specs.Judged.{Judged}
 use Rattle.sqcrash_store.specs.Points.{is_point, is_judged}
 use Rattle.sqcrash_store.specs.Refused.{HasRoom, GoesAll, call_count, point_count}
-use Rattle.sqcrash_store.specs.Rigs.{RigState, NotesBy, JudgesAsked, JudgesWhere, PlaysOne, PlaysAll}
+use Rattle.sqcrash_store.specs.Rigs.{RigState, NotesBy, covered, JudgesAsked, JudgesWhere, PlaysOne, PlaysAll}
 use Rattle.sqcrash_store.specs.States.{TakeState, TakesAll, is_call, is_first, is_mark}
-use Rattle.sqcrash_store.specs.Surveys.{Judging, drawn_count}
+use Rattle.sqcrash_store.specs.Surveys.{Judging, drawn_count, with_images}
 use Rattle.sqcrash_store.specs.Tallies.{with_claim_of, with_point}
+use Rattle.sqcrash_store.specs.declared.cover.Cover.{Cover}
 use Rattle.sqcrash_store.specs.declared.plan.Plan.{Plan}
 use Rattle.sqcrash_store.specs.declared.tally.Tally.{Tally}
 use Rattle.sqcrash_store.specs.declared.verdict.Answer.{Answer}
-use Rattle.sqcrash_store.proofs.RoomForImages.{room_fewer, room_point, room_claim, room_images, points_claim, points_images, judged_few}
+use Rattle.sqcrash_store.proofs.RoomForImages.{room_fewer, room_point, room_claim, room_images, points_claim, points_cover, points_images, room_cover, taken_few, judged_few}
 
 -- a point is behind a call, and so are the first record that isn't of what was there, and a mark
 pub point_is_call : (every : Bool) (a : Action) → is_point every a ≡ true → is_call a ≡ true
@@ -122,7 +123,7 @@ record Grows (draws : ℕ) (point : Bool) (old new : Tally) : Type 0 where
 
 module _ (Says : List (Option (List ℕ)) → Answer → Type 0) (j : Judging) where
   grows_asked : (asked : Bool) (c : Call) (rig : RigState) (tally : Tally) (lines : List ℕ) (kept : List Judged) → JudgesAsked Says asked j c rig tally lines kept
-      → Grows (drawn_count j.plan + 1) true rig.tally tally
+      → Grows (drawn_count j.plan + 2) true rig.tally tally
   grows_asked false c rig tally lines kept is = record {
     points = ap (λ (t : Tally). t.points) is.0;
     room = λ m n less room. subst (λ (t : Tally). HasRoom m t) (sym is.0) (room_point m rig.tally (room_fewer m n rig.tally (omega (arith, less)) room));
@@ -133,17 +134,20 @@ module _ (Says : List (Option (List ℕ)) → Answer → Type 0) (j : Judging) w
       let survey = is.3 in
       let pointed = with_point rig.tally in
       let claimed = with_claim_of pointed found in
+      let after : Tally = with_images claimed judged in
+      let cover : Cover = covered j rig claimed judged in
       let few = judged_few j.plan.image survey.drawn judged survey.once in
       record {
-        points = ap (λ (t : Tally). t.points) is.4 ∙ points_images claimed judged ∙ points_claim pointed found;
+        points = ap (λ (t : Tally). t.points) is.4 ∙ points_cover after cover ∙ points_images claimed judged ∙ points_claim pointed found;
         room = λ m n less room.
-            let k = length judged + m in
-            let fits : k + 1 ≤ n = (let e = survey.number in omega (arith, less, few, e)) in
-            subst (λ (t : Tally). HasRoom m t) (sym is.4) (room_images m k claimed judged (fits_itself k) (room_claim k n pointed found fits (room_point n rig.tally room)));
+            let k = length judged + (m + 1) in
+            let fits : k + 1 ≤ n = (let e = survey.number in omega (arith, less, few, e, taken_few j.plan rig.store)) in
+            subst (λ (t : Tally). HasRoom m t) (sym is.4)
+            (room_cover m (m + 1) after cover (fits_itself (m + 1)) (room_images (m + 1) k claimed judged (fits_itself k) (room_claim k n pointed found fits (room_point n rig.tally room))));
       }
 
   grows_where : (point : Bool) (c : Call) (rig : RigState) (tally : Tally) (lines : List ℕ) (kept : List Judged) → JudgesWhere Says point j c rig tally lines kept
-      → Grows (drawn_count j.plan + 1) point rig.tally tally
+      → Grows (drawn_count j.plan + 2) point rig.tally tally
   grows_where false c rig tally lines kept is = record {
     points = (let e = ap (λ (t : Tally). t.points) is.0 in omega (arith, e));
     room = λ m n less room. subst (λ (t : Tally). HasRoom m t) (sym is.0) (room_fewer m n rig.tally (omega (arith, less)) room);
@@ -155,7 +159,7 @@ module _ (Says : List (Option (List ℕ)) → Answer → Type 0) (j : Judging) w
     goes : Goes j.trace c old.store new.store
     played : new.played ≡ old.played + 1
     marks : new.marks ≤ old.marks + 1
-    tally : Grows (drawn_count j.plan + 1) (is_point j.plan.every c.action) old.tally new.tally
+    tally : Grows (drawn_count j.plan + 2) (is_point j.plan.every c.action) old.tally new.tally
 
   counts_one : (c : Call) (old new : RigState) (lines : List ℕ) (kept : List Judged) → PlaysOne Says j c old new lines kept → CountsOne c old new
   counts_one c old new lines kept is =
@@ -169,8 +173,8 @@ module _ (Says : List (Option (List ℕ)) → Answer → Type 0) (j : Judging) w
         goes = subst (λ (s : StoreState). Goes j.trace c old.store s) (sym store) is.goes;
         played = ap (λ (s : RigState). s.played) counts ∙ noted.played;
         marks = (let e = ap (λ (s : RigState). s.marks) counts in omega (arith, e, noted.marks));
-        tally = subst (λ (t : Tally). Grows (drawn_count j.plan + 1) (is_point j.plan.every c.action) old.tally t) (sym tally)
-            (subst (λ (t : Tally). Grows (drawn_count j.plan + 1) (is_point j.plan.every c.action) t is.tally) noted.tally grows);
+        tally = subst (λ (t : Tally). Grows (drawn_count j.plan + 2) (is_point j.plan.every c.action) old.tally t) (sym tally)
+            (subst (λ (t : Tally). Grows (drawn_count j.plan + 2) (is_point j.plan.every c.action) t is.tally) noted.tally grows);
       }
 
   -- and all
@@ -179,7 +183,7 @@ module _ (Says : List (Option (List ℕ)) → Answer → Type 0) (j : Judging) w
     pub played : new.played ≡ old.played + length calls
     pub marks : new.marks ≤ old.marks + length calls
     pub points : new.tally.points ≡ old.tally.points + point_count j.plan calls
-    pub room : (m n : ℕ) → length calls * (drawn_count j.plan + 1) + m ≤ n → HasRoom n old.tally → HasRoom m new.tally
+    pub room : (m n : ℕ) → length calls * (drawn_count j.plan + 2) + m ≤ n → HasRoom n old.tally → HasRoom m new.tally
 
   first_fits : (d k m n : ℕ) → suc k * d + m ≤ n → d + (k * d + m) ≤ n
   first_fits d k m n less = omega (arith, less)
@@ -190,7 +194,7 @@ module _ (Says : List (Option (List ℕ)) → Answer → Type 0) (j : Judging) w
   pub counts_all : (calls : List Call) (old new : RigState) (lines : List ℕ) (kept : List Judged) → PlaysAll Says j calls old new lines kept → CountsAll calls old new
   counts_all [] old new lines kept is =
       let same = is.0 in
-      let d = drawn_count j.plan + 1 in
+      let d = drawn_count j.plan + 2 in
       record {
         goes = ap (λ (s : RigState). s.store) same;
         played = (let e = ap (λ (s : RigState). s.played) same in omega (arith, e));
@@ -202,7 +206,7 @@ module _ (Says : List (Option (List ℕ)) → Answer → Type 0) (j : Judging) w
       let mid = is.0 in
       let one = counts_one c old mid is.1 is.3 is.5 in
       let more = counts_all calls mid new is.2 is.4 is.6 in
-      let d = drawn_count j.plan + 1 in
+      let d = drawn_count j.plan + 2 in
       let k = length calls in
       let p : Call → ℕ = λ x. cond (is_point j.plan.every x.action) 1 0 in
       record {

@@ -75,7 +75,7 @@ module _ (Says : List (Option (List ℕ)) → Answer → Type 0) where
   ]
 
 -- as many draws of each of so many records
-many_records : (d n x : ℕ) → 2 ^ 64 ≤ x → x ≤ n → 2 ^ 64 ≤ n * (d + 1)
+many_records : (d n x : ℕ) → 2 ^ 64 ≤ x → x ≤ n → 2 ^ 64 ≤ n * (d + 2)
 many_records d n x many less = omega (arith, many, less)
 
 fits_behind : (d k n : ℕ) → k + 1 ≤ n → n * d < 2 ^ 64 → k * d + d < 2 ^ 64
@@ -101,29 +101,29 @@ module _ (Says : List (Option (List ℕ)) → Answer → Type 0) (j : Judging) (
     -- a count of records is too many
     many_of : (x : ℕ) → 2 ^ 64 ≤ x + 1 → x ≤ length before → refusal ≡ refusals.TooMany → TraceRefused Says j.plan j.trace refusal
     many_of x many less is =
-        let all : 2 ^ 64 ≤ length t.calls.items * (drawn_count j.plan + 1) = many_records (drawn_count j.plan) (length t.calls.items) (x + 1) many (omega (arith, less, long)) in
+        let all : 2 ^ 64 ≤ length t.calls.items * (drawn_count j.plan + 2) = many_records (drawn_count j.plan) (length t.calls.items) (x + 1) many (omega (arith, less, long)) in
         subst (λ (r : Refusal). TraceRefused Says j.plan j.trace r) (sym is) (t, to.trace, all)
 
     -- or one of images
-    room_behind : length t.calls.items * (drawn_count j.plan + 1) < 2 ^ 64 → HasRoom (drawn_count j.plan + 1) mid.tally
+    room_behind : length t.calls.items * (drawn_count j.plan + 2) < 2 ^ 64 → HasRoom (drawn_count j.plan + 2) mid.tally
     room_behind fits =
-        let d = drawn_count j.plan + 1 in
+        let d = drawn_count j.plan + 2 in
         let k = length before in
         let room : k * d + d < 2 ^ 64 = fits_behind d k (length t.calls.items) long fits in
-        let first : HasRoom (k * d + d) no_tally = record { images = omega (arith, room); wrong = omega (arith, room); lost = omega (arith, room); mixed = omega (arith, room); faults = omega (arith, room); claims = omega (arith, room); unwritten = omega (arith, room) } in
+        let first : HasRoom (k * d + d) no_tally = record { images = omega (arith, room); wrong = omega (arith, room); lost = omega (arith, room); mixed = omega (arith, room); faults = omega (arith, room); claims = omega (arith, room); unwritten = omega (arith, room); whole = omega (arith, room); sampled = omega (arith, room); bounded = omega (arith, room) } in
         counted.room d (k * d + d) (fits_itself (k * d + d)) first
 
-    no_room : ¬ HasRoom (drawn_count j.plan + 1) mid.tally → refusal ≡ refusals.TooMany → TraceRefused Says j.plan j.trace refusal
+    no_room : ¬ HasRoom (drawn_count j.plan + 2) mid.tally → refusal ≡ refusals.TooMany → TraceRefused Says j.plan j.trace refusal
     no_room none is =
         let n = length t.calls.items in
-        let all : 2 ^ 64 ≤ n * (drawn_count j.plan + 1) = elim (cases_lt (n * (drawn_count j.plan + 1)) (2 ^ 64)) [
+        let all : 2 ^ 64 ≤ n * (drawn_count j.plan + 2) = elim (cases_lt (n * (drawn_count j.plan + 2)) (2 ^ 64)) [
           | inl fits ↦ absurd (none (room_behind fits))
           | inr more ↦ more
         ] in
         subst (λ (r : Refusal). TraceRefused Says j.plan j.trace r) (sym is) (t, to.trace, all)
 
     -- what refuses its images
-    of_images : IsTrue (is_point j.plan.every c.action) → ImagesRefused (drawn_count j.plan + 1) j.names mid.tally refusal → TraceRefused Says j.plan j.trace refusal
+    of_images : IsTrue (is_point j.plan.every c.action) → ImagesRefused (drawn_count j.plan + 2) j.names mid.tally refusal → TraceRefused Says j.plan j.trace refusal
     of_images point is = elim is [
       | inl judge ↦ of_judge Says j.plan j.trace t j.names refusal to.trace to.names (some_call t.calls.items before behind c to.split (point_is_call j.plan.every c.action point)) judge
       | inr many ↦ no_room many.1 many.0

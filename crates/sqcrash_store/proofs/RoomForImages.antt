@@ -1,15 +1,22 @@
 -- Counts of images that have room for more.
-use Rattle.std.proofs.Common.{◌≡◌, inl, inr, ℕ, ◌+◌, ◌≤◌, Bool, not, nat_eq, Option, Some, None, List, [], ◌∷◌, length, map, refl, ◌∙◌, ap, arith}
+use Rattle.std.proofs.Common.{◌≡◌, inl, inr, ℕ, ◌+◌, ◌≤◌, Bool, true, false, cond, not, nat_eq, Option, Some, None, List, [], ◌∷◌, length, map, refl, ◌∙◌, ap, arith}
+use Rattle.std.specs.Prelude.{◌&&◌, nat_le}
+use Rattle.std.proofs.lemmas.Bool.{leb-true}
 use Rattle.std.specs.List.{filter}
 use Rattle.std.proofs.lemmas.List.{length-map}
 use Rattle.std.proofs.lemmas.List.Sums.{length-filter, count_by-le-length}
+use Rattle.rig_store.specs.Stores.{StoreState}
+use Rattle.rig_store.specs.Ways.{store_ways}
+use Rattle.sqcrash_store.specs.Covers.{is_bounded, takes_all}
 use Rattle.sqcrash_store.specs.Judged.{Judged}
 use Rattle.sqcrash_store.specs.Keys.{key_of}
 use Rattle.sqcrash_store.specs.Points.{is_asked}
 use Rattle.sqcrash_store.specs.Refused.{ClaimRefused, HasRoom, ImagesRefused}
-use Rattle.sqcrash_store.specs.Surveys.{firsts, numbered, asked_among, with_images, with_number}
-use Rattle.sqcrash_store.specs.Tallies.{with_claim_of, with_image, with_point}
+use Rattle.sqcrash_store.specs.Surveys.{firsts, numbered, asked_among, drawn_count, taken_count, with_images, with_number}
+use Rattle.sqcrash_store.specs.Tallies.{with_claim_of, with_cover, with_image, with_point, with_sampled}
+use Rattle.sqcrash_store.specs.declared.cover.Cover.{Cover}
 use Rattle.sqcrash_store.specs.declared.outcome.Refusal.{Refusal}
+use Rattle.sqcrash_store.specs.declared.plan.Plan.{Plan}
 use Rattle.sqcrash_store.specs.declared.tally.Tally.{Tally}
 use Rattle.sqcrash_store.specs.declared.verdict.Verdict.{Verdict}
 use Rattle.sqcrash_store.specs.declared.verdict.Verdict.TheVariants.{Kept, Lost, Mixed, Fault}
@@ -24,11 +31,14 @@ room_fewer m n t less room = record {
   faults = omega (arith, less, room.faults);
   claims = omega (arith, less, room.claims);
   unwritten = omega (arith, less, room.unwritten);
+  whole = omega (arith, less, room.whole);
+  sampled = omega (arith, less, room.sampled);
+  bounded = omega (arith, less, room.bounded);
 }
 
 -- a point takes none
 pub room_point : (n : ℕ) (t : Tally) → HasRoom n t → HasRoom n (with_point t)
-room_point n t room = record { images = room.images; wrong = room.wrong; lost = room.lost; mixed = room.mixed; faults = room.faults; claims = room.claims; unwritten = room.unwritten }
+room_point n t room = record { images = room.images; wrong = room.wrong; lost = room.lost; mixed = room.mixed; faults = room.faults; claims = room.claims; unwritten = room.unwritten; whole = room.whole; sampled = room.sampled; bounded = room.bounded }
 
 -- a mark takes one at most, and is no point
 pub room_claim : (m n : ℕ) (t : Tally) (found : Option (Option (List ℕ))) → m + 1 ≤ n → HasRoom n t → HasRoom m (with_claim_of t found)
@@ -41,6 +51,9 @@ room_claim m n t (Some None) less room = record {
   faults = omega (arith, less, room.faults);
   claims = omega (arith, less, room.claims);
   unwritten = omega (arith, less, room.unwritten);
+  whole = omega (arith, less, room.whole);
+  sampled = omega (arith, less, room.sampled);
+  bounded = omega (arith, less, room.bounded);
 }
 room_claim m n t (Some (Some shown)) less room = record {
   images = omega (arith, less, room.images);
@@ -50,12 +63,72 @@ room_claim m n t (Some (Some shown)) less room = record {
   faults = omega (arith, less, room.faults);
   claims = omega (arith, less, room.claims);
   unwritten = omega (arith, less, room.unwritten);
+  whole = omega (arith, less, room.whole);
+  sampled = omega (arith, less, room.sampled);
+  bounded = omega (arith, less, room.bounded);
 }
 
 pub points_claim : (t : Tally) (found : Option (Option (List ℕ))) → (with_claim_of t found).points ≡ t.points
 points_claim t None = refl
 points_claim t (Some None) = refl
 points_claim t (Some (Some shown)) = refl
+
+-- and what is told of a point takes one
+room_sampled : (m n : ℕ) (t : Tally) (bounded : Bool) → m + 1 ≤ n → HasRoom n t → HasRoom m (with_sampled t bounded)
+room_sampled m n t true less room = record {
+  images = omega (arith, less, room.images);
+  wrong = omega (arith, less, room.wrong);
+  lost = omega (arith, less, room.lost);
+  mixed = omega (arith, less, room.mixed);
+  faults = omega (arith, less, room.faults);
+  claims = omega (arith, less, room.claims);
+  unwritten = omega (arith, less, room.unwritten);
+  whole = omega (arith, less, room.whole);
+  sampled = omega (arith, less, room.sampled);
+  bounded = omega (arith, less, room.bounded);
+}
+room_sampled m n t false less room = record {
+  images = omega (arith, less, room.images);
+  wrong = omega (arith, less, room.wrong);
+  lost = omega (arith, less, room.lost);
+  mixed = omega (arith, less, room.mixed);
+  faults = omega (arith, less, room.faults);
+  claims = omega (arith, less, room.claims);
+  unwritten = omega (arith, less, room.unwritten);
+  whole = omega (arith, less, room.whole);
+  sampled = omega (arith, less, room.sampled);
+  bounded = omega (arith, less, room.bounded);
+}
+
+room_whole : (m n : ℕ) (t : Tally) (all bounded : Bool) → m + 1 ≤ n → HasRoom n t → HasRoom m (cond all (record t { whole = t.whole + 1 }) (with_sampled t bounded))
+room_whole m n t true bounded less room = record {
+  images = omega (arith, less, room.images);
+  wrong = omega (arith, less, room.wrong);
+  lost = omega (arith, less, room.lost);
+  mixed = omega (arith, less, room.mixed);
+  faults = omega (arith, less, room.faults);
+  claims = omega (arith, less, room.claims);
+  unwritten = omega (arith, less, room.unwritten);
+  whole = omega (arith, less, room.whole);
+  sampled = omega (arith, less, room.sampled);
+  bounded = omega (arith, less, room.bounded);
+}
+room_whole m n t false bounded less room = room_sampled m n t bounded less room
+
+pub room_cover : (m n : ℕ) (t : Tally) (c : Cover) → m + 1 ≤ n → HasRoom n t → HasRoom m (with_cover t c)
+room_cover m n t c less room = room_whole m n t c.is_all (is_bounded c) less room
+
+points_sampled : (t : Tally) (bounded : Bool) → (with_sampled t bounded).points ≡ t.points
+points_sampled t true = refl
+points_sampled t false = refl
+
+points_whole : (t : Tally) (all bounded : Bool) → (cond all (record t { whole = t.whole + 1 }) (with_sampled t bounded)).points ≡ t.points
+points_whole t true bounded = refl
+points_whole t false bounded = points_sampled t bounded
+
+-- which is no point more
+pub points_cover : (t : Tally) (c : Cover) → (with_cover t c).points ≡ t.points
+points_cover t c = points_whole t c.is_all (is_bounded c)
 
 -- an image takes one
 room_image : (m n : ℕ) (t : Tally) (v : Verdict) → m + 1 ≤ n → HasRoom n t → HasRoom m (with_image t v)
@@ -67,6 +140,9 @@ room_image m n t (Kept k) less room = record {
   faults = omega (arith, less, room.faults);
   claims = omega (arith, less, room.claims);
   unwritten = omega (arith, less, room.unwritten);
+  whole = omega (arith, less, room.whole);
+  sampled = omega (arith, less, room.sampled);
+  bounded = omega (arith, less, room.bounded);
 }
 room_image m n t (Lost k) less room = record {
   images = omega (arith, less, room.images);
@@ -76,6 +152,9 @@ room_image m n t (Lost k) less room = record {
   faults = omega (arith, less, room.faults);
   claims = omega (arith, less, room.claims);
   unwritten = omega (arith, less, room.unwritten);
+  whole = omega (arith, less, room.whole);
+  sampled = omega (arith, less, room.sampled);
+  bounded = omega (arith, less, room.bounded);
 }
 room_image m n t Mixed less room = record {
   images = omega (arith, less, room.images);
@@ -85,6 +164,9 @@ room_image m n t Mixed less room = record {
   faults = omega (arith, less, room.faults);
   claims = omega (arith, less, room.claims);
   unwritten = omega (arith, less, room.unwritten);
+  whole = omega (arith, less, room.whole);
+  sampled = omega (arith, less, room.sampled);
+  bounded = omega (arith, less, room.bounded);
 }
 room_image m n t Fault less room = record {
   images = omega (arith, less, room.images);
@@ -94,6 +176,9 @@ room_image m n t Fault less room = record {
   faults = omega (arith, less, room.faults);
   claims = omega (arith, less, room.claims);
   unwritten = omega (arith, less, room.unwritten);
+  whole = omega (arith, less, room.whole);
+  sampled = omega (arith, less, room.sampled);
+  bounded = omega (arith, less, room.bounded);
 }
 
 -- and so each of some
@@ -134,6 +219,27 @@ judged_few asked drawn judged once =
     let d = length-map judged with_number in
     let e = filter_few (λ (x : ℕ × List (Option (List ℕ))). is_asked asked x.0) all in
     omega (arith, a, d, e, numbered_long 0 (firsts drawn), firsts_few drawn)
+
+-- no more images are taken at a point than may be drawn there
+taken_by : (all : Bool) (n drawn images : ℕ) → images ≤ drawn → (all ≡ true → n ≤ images) → cond all n drawn ≤ drawn
+taken_by true n drawn images less few = let few : n ≤ images = few refl in omega (arith, less, few)
+taken_by false n drawn images less few = omega arith
+
+and_true : (a b : Bool) → (a && b) ≡ true → b ≡ true
+and_true true b e = e
+and_true false b e = absurd (cc e)
+
+pub taken_few : (plan : Plan) (s : StoreState) → taken_count plan s ≤ drawn_count plan
+taken_few plan s =
+    taken_by (takes_all plan s) (store_ways s) (drawn_count plan) plan.images (omega arith)
+    (λ all. leb-true (store_ways s) plan.images (and_true (not s.tears) (nat_le (store_ways s) plan.images) all))
+
+-- what refuses fewer images refuses them
+pub images_fewer : (m n : ℕ) (names : List (List ℕ)) (t : Tally) (refusal : Refusal) → m ≤ n → ImagesRefused m names t refusal → ImagesRefused n names t refusal
+images_fewer m n names t refusal less is = elim is [
+  | inl judge ↦ inl judge
+  | inr many ↦ inr (many.0, λ room. many.1 (room_fewer m n t less room))
+]
 
 -- what refuses images behind others refuses them with those
 pub images_behind : (n m : ℕ) (names : List (List ℕ)) (t : Tally) (judged : List Judged) (refusal : Refusal) → length judged + m ≤ n → ImagesRefused m names (with_images t judged) refusal

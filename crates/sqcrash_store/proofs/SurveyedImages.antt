@@ -1,10 +1,10 @@
 -- Images that are drawn one after the other, and judged once.
-use Rattle.std.proofs.Common.{◌≡◌, ℕ, zero, suc, ◌+◌, Bool, true, false, cond, nat_eq, Option, List, [], ◌∷◌, ◌++◌, length, map, drop, ◌≤◌, inl, inr, refl, sym, ◌∙◌, ap, subst, append_assoc, length-append, arith}
+use Rattle.std.proofs.Common.{◌≡◌, ℕ, zero, suc, ◌+◌, Bool, true, false, cond, nat_eq, Option, List, [], ◌∷◌, ◌++◌, length, map, drop, get_or, ◌<◌, ◌≤◌, inl, inr, refl, sym, ◌∙◌, ap, subst, append_assoc, length-append, arith}
 use Rattle.std.specs.Prelude.{not, ◌||◌}
 use Rattle.std.specs.List.{All, filter}
 use Rattle.std.proofs.lemmas.Bool.{cases_lt}
 use Rattle.std.proofs.lemmas.Bool.Decides.{nat_tests}
-use Rattle.std.proofs.lemmas.List.{map-append, append-nil, drop-append-le, drop_all}
+use Rattle.std.proofs.lemmas.List.{map-append, append-nil, drop-append-le, drop_all, get_or_append_left, get_or_at}
 use Rattle.std.proofs.lemmas.List.Elements.{All-append, filter-append}
 use Rattle.std.proofs.lemmas.List.Folds.{list_any-append}
 use Rattle.std.proofs.lemmas.Grind.{flat_map-append}
@@ -12,6 +12,8 @@ use Rattle.std.proofs.lemmas.List.Sums.{fold-append}
 use Rattle.rig_store.specs.Left.{MayLeave}
 use Rattle.rig_store.specs.Stores.{StoreState}
 use Rattle.rig_store.specs.Torn.{IsTornIfAny}
+use Rattle.rig_store.specs.Ways.{IsWay}
+use Rattle.sqcrash_store.specs.Covers.{takes_all}
 use Rattle.sqcrash_store.specs.Keys.{key_of}
 use Rattle.sqcrash_store.specs.Judged.{Judged, kept_of, kept_among}
 use Rattle.sqcrash_store.specs.Points.{is_asked}
@@ -152,11 +154,24 @@ module _ (Says : List (Option (List ℕ)) → Answer → Type 0) (j : Judging) (
     once = refl;
     each = all_none (IsJudged Says j.states s crash);
     keyed = none;
+    ways = λ all i less. absurd (omega (arith, less));
   }
+
+  -- where all are taken, one more is that of its number
+  ways_more : {next : ℕ} {has : ℕ → Bool} {judged : List Judged} (n : ℕ) (image : List (Option (List ℕ))) (so_far : IsSurveyed Says j s crash n next has judged)
+      → (takes_all j.plan s ≡ true → IsWay s n image)
+      → takes_all j.plan s ≡ true → (i : ℕ) → i < length (so_far.drawn ++ image ∷ []) → IsWay s i (get_or (so_far.drawn ++ image ∷ []) i [])
+  ways_more n image so_far way all i less = elim (cases_lt i (length so_far.drawn)) [
+    | inl before ↦ subst (λ (x : List (Option (List ℕ))). IsWay s i x) (sym (get_or_append_left so_far.drawn (image ∷ []) [] i before)) (so_far.ways all i before)
+    | inr behind ↦
+        let last : i ≡ length so_far.drawn = omega (arith, behind, less, length-append so_far.drawn (image ∷ [])) in
+        let at : i ≡ n = last ∙ so_far.number in
+        subst (λ (x : List (Option (List ℕ))). IsWay s i x) (sym (get_or_at so_far.drawn image [] [] i (sym last))) (subst (λ (k : ℕ). IsWay s k image) (sym at) (way all))
+  ]
 
   -- one more is drawn, whose key wasn't there, and judged where it is asked for
   module _ (n next : ℕ) (has has_then : ℕ → Bool) (judged : List Judged) (image : List (Option (List ℕ))) (so_far : IsSurveyed Says j s crash n next has judged)
-      (left : MayLeave s image) (torn : j.plan.images ≤ n → IsTornIfAny s image) (new : has (key_of image) ≡ false)
+      (left : MayLeave s image) (torn : j.plan.images ≤ n → IsTornIfAny s image) (way : takes_all j.plan s ≡ true → IsWay s n image) (new : has (key_of image) ≡ false)
       (adds : (q : ℕ) → has_then q ≡ cond (nat_eq (key_of image) q) true (has q)) where
     more : firsts (so_far.drawn ++ image ∷ []) ≡ firsts so_far.drawn ++ image ∷ []
     more =
@@ -193,6 +208,7 @@ module _ (Says : List (Option (List ℕ)) → Answer → Type 0) (j : Judging) (
               ∙ key_more q (nat_eq (key_of image) q) (same_key (key_of image) q) (has q) (has_key q (firsts drawn)) (so_far.keyed q)
               ∙ sym (list_any-append (λ (y : List (Option (List ℕ))). nat_eq q (key_of y)) (firsts drawn) (image ∷ []))
               ∙ ap (λ (l : List (List (Option (List ℕ)))). has_key q l) (sym more);
+          ways = ways_more n image so_far way;
         }
 
     pub surveyed_new : (x : Judged) → is_asked j.plan.image next ≡ true → x.image ≡ image → x.found.number ≡ next → IsJudged Says j.states s crash x
@@ -213,8 +229,8 @@ module _ (Says : List (Option (List ℕ)) → Answer → Type 0) (j : Judging) (
 
   -- one of a key that was there is drawn
   pub surveyed_same : (n next : ℕ) (has has_then : ℕ → Bool) (judged : List Judged) (image : List (Option (List ℕ))) → IsSurveyed Says j s crash n next has judged → MayLeave s image → (j.plan.images ≤ n → IsTornIfAny s image)
-      → has (key_of image) ≡ true → ((q : ℕ) → has_then q ≡ has q) → IsSurveyed Says j s crash (n + 1) next has_then judged
-  surveyed_same n next has has_then judged image so_far left torn seen same =
+      → (takes_all j.plan s ≡ true → IsWay s n image) → has (key_of image) ≡ true → ((q : ℕ) → has_then q ≡ has q) → IsSurveyed Says j s crash (n + 1) next has_then judged
+  surveyed_same n next has has_then judged image so_far left torn way seen same =
       let drawn = so_far.drawn in
       let there : has_key (key_of image) (firsts drawn) ≡ true = sym (so_far.keyed (key_of image)) ∙ seen in
       let more : firsts (drawn ++ image ∷ []) ≡ firsts drawn = firsts_more drawn image ∙ ap (λ (b : Bool). firsts drawn ++ if_new b image) there ∙ append-nil (firsts drawn) in
@@ -227,4 +243,5 @@ module _ (Says : List (Option (List ℕ)) → Answer → Type 0) (j : Judging) (
         once = so_far.once ∙ ap (λ (l : List (List (Option (List ℕ)))). asked_among j.plan.image (numbered 0 l)) (sym more);
         each = so_far.each;
         keyed = λ q. same q ∙ so_far.keyed q ∙ ap (λ (l : List (List (Option (List ℕ)))). has_key q l) (sym more);
+        ways = ways_more n image so_far way;
       }

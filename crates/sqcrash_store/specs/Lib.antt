@@ -1,5 +1,7 @@
 pub mod Verdicts
 pub mod Calls
+pub mod Covers
+pub mod Told
 pub mod Lines
 pub mod Objects
 pub mod Printed

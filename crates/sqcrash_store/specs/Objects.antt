@@ -5,6 +5,8 @@ use Rattle.std.specs.List.{flat_map}
 use Rattle.std.specs.String.{string_bytes}
 use Rattle.rig_store.specs.declared.differing.Difference.{Difference}
 use Rattle.sqcrash_store.specs.Calls.{call_text, name_of}
+use Rattle.sqcrash_store.specs.Covers.{bound_of}
+use Rattle.sqcrash_store.specs.Told.{share}
 use Rattle.sqcrash_store.specs.declared.crash.Crash.{Crash}
 use Rattle.sqcrash_store.specs.declared.found.Found.{Found}
 use Rattle.sqcrash_store.specs.declared.tally.Tally.{Tally}
@@ -99,9 +101,9 @@ abbrev pub unwritten_object : (point mark : ℕ) → (shown : List ℕ) → List
 unwritten_object point mark shown = mark_object point mark ++ (string shown ++ (codes "}" ++ 10 ∷ []))
 
 -- the last line, without its end
-abbrev pub tally_object : Tally → List ℕ
-tally_object t =
-    codes "{\"points\":" ++ (decimal t.points ++ (codes ",\"images\":" ++ (decimal t.images ++ (codes ",\"lost\":" ++ (decimal t.lost ++ (codes ",\"mixed\":" ++ (decimal t.mixed ++ (codes ",\"faults\":" ++ (decimal t.faults ++ (codes ",\"claims\":" ++ (decimal t.claims ++ (codes ",\"unwritten\":" ++ (decimal t.unwritten ++ codes "}")))))))))))))
+abbrev pub tally_object : (images : ℕ) → Tally → List ℕ
+tally_object images t =
+    codes "{\"points\":" ++ (decimal t.points ++ (codes ",\"images\":" ++ (decimal t.images ++ (codes ",\"lost\":" ++ (decimal t.lost ++ (codes ",\"mixed\":" ++ (decimal t.mixed ++ (codes ",\"faults\":" ++ (decimal t.faults ++ (codes ",\"claims\":" ++ (decimal t.claims ++ (codes ",\"unwritten\":" ++ (decimal t.unwritten ++ (codes ",\"whole\":" ++ (decimal t.whole ++ (codes ",\"sampled\":" ++ (decimal t.sampled ++ (codes ",\"bounded\":" ++ (decimal t.bounded ++ (codes ",\"bound\":" ++ (share (bound_of images) ++ codes "}")))))))))))))))))))))
 
 -- how many images more have something wrong, without the line's end
 abbrev pub more_object : ℕ → List ℕ

@@ -2,7 +2,9 @@
 use Rattle.std.specs.Prelude.{ℕ, ◌-◌, Bool, true, ◌&&◌, nat_eq, nat_lt, cond, List, [], ◌∷◌, ◌++◌, Option, Some, None}
 use Rattle.sqcrash_store.specs.Lines.{found_text, more_text, tally_text, unwritten_text}
 use Rattle.sqcrash_store.specs.Objects.{found_object, more_object, tally_object, unwritten_object}
+use Rattle.sqcrash_store.specs.Told.{cover_object, cover_text, covered_text}
 use Rattle.sqcrash_store.specs.Verdicts.{is_wrong}
+use Rattle.sqcrash_store.specs.declared.cover.Cover.{Cover}
 use Rattle.sqcrash_store.specs.declared.found.Found.{Found}
 use Rattle.sqcrash_store.specs.declared.plan.Plan.{Plan}
 use Rattle.sqcrash_store.specs.declared.tally.Tally.{Tally}
@@ -39,6 +41,14 @@ left_out (Some most) wrong = wrong - most
 abbrev pub left_lines : (json : Bool) → ℕ → List ℕ
 left_lines json n = cond (nat_eq n 0) [] (cond json (more_object n) (more_text n) ++ 10 ∷ [])
 
+-- how much was judged at a point, if that is asked for
+abbrev pub cover_lines : Plan → Cover → List ℕ
+cover_lines plan c = cond plan.points (cond plan.json (cover_object c) (cover_text c) ++ 10 ∷ []) []
+
+-- what was counted, and how much of what a crash may leave was judged
+abbrev pub tally_lines : Plan → Tally → List ℕ
+tally_lines plan t = cond plan.json (tally_object plan.images t) (tally_text t ++ covered_text plan.images t) ++ 10 ∷ []
+
 -- the lines at the end
 abbrev pub last_lines : Plan → Tally → List ℕ
-last_lines plan t = left_lines plan.json (left_out plan.lines t.wrong) ++ (cond plan.json (tally_object t) (tally_text t) ++ 10 ∷ [])
+last_lines plan t = left_lines plan.json (left_out plan.lines t.wrong) ++ tally_lines plan t

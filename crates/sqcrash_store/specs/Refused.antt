@@ -110,6 +110,9 @@ pub record HasRoom (n : ℕ) (t : Tally) : Type 0 where
   pub faults : t.faults + n < 2 ^ 64
   pub claims : t.claims + n < 2 ^ 64
   pub unwritten : t.unwritten + n < 2 ^ 64
+  pub whole : t.whole + n < 2 ^ 64
+  pub sampled : t.sampled + n < 2 ^ 64
+  pub bounded : t.bounded + n < 2 ^ 64
 
 -- what refuses so many images more, at most
 abbrev pub ImagesRefused : (n : ℕ) → (names : List (List ℕ)) → Tally → Refusal → Type 0
@@ -121,7 +124,7 @@ ClaimRefused t refusal = IsOfWriter refusal ⊎ ((refusal ≡ refusals.TooMany) 
 
 -- what refuses one point more with its mark, and what refuses one record more
 abbrev pub PointRefused : Judging → Tally → Refusal → Type 0
-PointRefused j t refusal = IsTooMany t.points refusal ⊎ ImagesRefused (drawn_count j.plan + 1) j.names t refusal
+PointRefused j t refusal = IsTooMany t.points refusal ⊎ ImagesRefused (drawn_count j.plan + 2) j.names t refusal
 
 abbrev pub RigRefused : Judging → Call → RigState → Refusal → Type 0
 RigRefused j c rig refusal =
@@ -158,7 +161,7 @@ TraceRefused Says plan b refusals.Name = IsTraceOf b (λ calls. HasNoFileName (n
 TraceRefused Says plan b refusals.Alike = IsTraceOf b (λ calls. NamesAlike Says plan b calls)
 TraceRefused Says plan b refusals.NoPoints = IsTraceOf b (λ calls. point_count plan calls ≡ 0)
 TraceRefused Says plan b refusals.NoImages = IsTraceOf b (λ calls. JudgesNone Says plan b calls)
-TraceRefused Says plan b refusals.TooMany = IsTraceOf b (λ calls. 2 ^ 64 ≤ length calls * (drawn_count plan + 1))
+TraceRefused Says plan b refusals.TooMany = IsTraceOf b (λ calls. 2 ^ 64 ≤ length calls * (drawn_count plan + 2))
 TraceRefused Says plan b refusals.FileFailed = IsTraceOf b (λ calls. 0 < call_count calls)
 TraceRefused Says plan b refusals.NoAnswer = IsTraceOf b (λ calls. 0 < call_count calls)
 TraceRefused Says plan b refusals.Unwritten = IsTraceOf b (λ calls. 0 < call_count calls)

@@ -9,11 +9,13 @@ use Rattle.rig_store.specs.declared.call.Trace.{Trace}
 use Rattle.sqcrash_store.specs.Judged.{Judged, kept_among}
 use Rattle.sqcrash_store.specs.Claims.{IsClaimOf}
 use Rattle.sqcrash_store.specs.Points.{is_point, is_judged, IsKnown}
-use Rattle.sqcrash_store.specs.Printed.{claim_lines, last_lines}
+use Rattle.sqcrash_store.specs.Covers.{cover_of}
+use Rattle.sqcrash_store.specs.Printed.{claim_lines, cover_lines, last_lines}
 use Rattle.sqcrash_store.specs.States.{AreStates, is_mark, names_told}
 use Rattle.sqcrash_store.specs.Surveys.{Judging, IsSurvey, lines_from, seen, with_images}
-use Rattle.sqcrash_store.specs.Tallies.{no_tally, with_claim_of, with_point}
+use Rattle.sqcrash_store.specs.Tallies.{no_tally, with_claim_of, with_cover, with_point}
 use Rattle.sqcrash_store.specs.Verdicts.{AreAlike}
+use Rattle.sqcrash_store.specs.declared.cover.Cover.{Cover}
 use Rattle.sqcrash_store.specs.declared.crash.Crash.{Crash}
 use Rattle.sqcrash_store.specs.declared.plan.Plan.{Plan}
 use Rattle.sqcrash_store.specs.declared.rig.Rig.{Rig}
@@ -46,14 +48,22 @@ NotesBy _ plan line old new = new ≡ old
 abbrev pub crash_of : RigState → Call → Crash
 crash_of rig c = record { point = rig.tally.points + 1; known = rig.known; played = rig.played; call = c }
 
+-- the next point is counted, and what its mark claims
+abbrev pub claimed_at : RigState → (found : Option (Option (List ℕ))) → Tally
+claimed_at rig found = with_claim_of (with_point rig.tally) found
+
+-- and how much was judged there, behind these counts
+abbrev pub covered : Judging → RigState → Tally → List Judged → Cover
+covered j rig before judged = cover_of j.plan rig.store before (with_images before judged)
+
 -- The next point is counted. Where it is asked for, what its mark claims is judged and counted, and told if it is false; and then its
--- images are judged by the states that it may show, counted, told and kept.
+-- images are judged by the states that it may show, counted, told and kept; and it is told how much was judged.
 abbrev pub JudgesAsked : (Says : List (Option (List ℕ)) → Answer → Type 0) → (asked : Bool) → Judging → Call → RigState → Tally → (lines : List ℕ) (kept : List Judged) → Type 0
 JudgesAsked Says false j c rig tally lines kept = (tally ≡ with_point rig.tally) × (lines ≡ []) × (kept ≡ [])
 JudgesAsked Says true j c rig tally lines kept =
     (found : Option (Option (List ℕ))) × IsClaimOf j c rig.marks found × (judged : List Judged) × IsSurvey Says (seen j (is_mark c.action) rig.marks) rig.store (crash_of rig c) judged
-    × (tally ≡ with_images (with_claim_of (with_point rig.tally) found) judged)
-    × (lines ≡ claim_lines j.plan (with_point rig.tally) rig.marks found ++ lines_from (seen j (is_mark c.action) rig.marks) (with_claim_of (with_point rig.tally) found) judged)
+    × (tally ≡ with_cover (with_images (claimed_at rig found) judged) (covered j rig (claimed_at rig found) judged))
+    × (lines ≡ claim_lines j.plan (with_point rig.tally) rig.marks found ++ (lines_from (seen j (is_mark c.action) rig.marks) (claimed_at rig found) judged ++ cover_lines j.plan (covered j rig (claimed_at rig found) judged)))
     × (kept ≡ kept_among j.plan judged)
 
 -- the same where a crash may come; otherwise nothing is counted, told or kept

@@ -1,11 +1,14 @@
 -- The images of a point are judged, counted and told (own).
-use Rattle.std.specs.Prelude.{◌≡◌, ℕ, ◌+◌, ◌/◌, Bool, cond, not, nat_eq, List, [], ◌∷◌, ◌++◌, length, map, take, drop, fold, Option}
+use Rattle.std.specs.Prelude.{◌≡◌, ◌⊎◌, ℕ, ◌+◌, ◌/◌, ◌^◌, ◌<◌, ◌≤◌, Bool, true, false, cond, not, nat_eq, List, [], ◌∷◌, ◌++◌, length, map, take, drop, get_or, fold, Option, Some, None}
 use Rattle.std.specs.List.{All, filter}
 use Rattle.std.specs.String.{string_bytes}
 use Rattle.rig_store.specs.Differing.{AreDifferences}
 use Rattle.rig_store.specs.Left.{MayLeave, IsPresent}
 use Rattle.rig_store.specs.Stores.{StoreState}
 use Rattle.rig_store.specs.Torn.{IsTornIfAny}
+use Rattle.rig_store.specs.Ways.{AreWays, IsWay, store_ways}
+use Rattle.rig_store.specs.declared.ways.Ways.{Ways}
+use Rattle.sqcrash_store.specs.Covers.{takes_all}
 use Rattle.rig_store.specs.declared.differing.Difference.{Difference}
 use Rattle.sqcrash_store.specs.Judged.{Judged}
 use Rattle.sqcrash_store.specs.Keys.{key_of}
@@ -88,12 +91,23 @@ third_of n = (n + 2) / 3
 abbrev pub drawn_count : Plan → ℕ
 drawn_count plan = plan.images + cond plan.tears (third_of plan.images) 0
 
--- The images of a point: so many are drawn of those that a crash may leave; those that are more than asked for have a torn sector,
--- where one may tear. Of these the images that differ have numbers, from 0 on, and each that is asked for is judged, once.
+-- the ways in which a crash may leave the files were counted, unless sectors tear or there are too many
+abbrev pub AreCounted : StoreState → Option Ways → Type 0
+AreCounted s None = (s.tears ≡ true) ⊎ (2 ^ 64 ≤ store_ways s)
+AreCounted s (Some ways) = (s.tears ≡ false) × AreWays s ways × (ways.images < 2 ^ 64)
+
+-- how many images are taken at a point: all, or as many as are drawn
+abbrev pub taken_count : Plan → StoreState → ℕ
+taken_count plan s = cond (takes_all plan s) (store_ways s) (drawn_count plan)
+
+-- The images of a point: all that a crash may leave, by their numbers, where these are no more than may be judged; otherwise some are
+-- drawn, and those that are more than asked for have a torn sector, where one may tear. Of these the images that differ have numbers,
+-- from 0 on, and each that is asked for is judged, once.
 pub record IsSurvey (Says : List (Option (List ℕ)) → Answer → Type 0) (j : Judging) (s : StoreState) (crash : Crash) (judged : List Judged) : Type 0 where
   pub drawn : List (List (Option (List ℕ)))
-  pub number : length drawn ≡ drawn_count j.plan
+  pub number : length drawn ≡ taken_count j.plan s
   pub left : All (MayLeave s) drawn
   pub torn : All (IsTornIfAny s) (drop j.plan.images drawn)
   pub once : map with_number judged ≡ asked_among j.plan.image (numbered 0 (firsts drawn))
   pub each : All (IsJudged Says j.states s crash) judged
+  pub ways : takes_all j.plan s ≡ true → (n : ℕ) → n < length drawn → IsWay s n (get_or drawn n [])

@@ -1,11 +1,13 @@
 -- What is counted of images (own).
-use Rattle.std.specs.Prelude.{◌≡◌, ℕ, ◌+◌, Bool, true, false, List, Option, Some, None}
+use Rattle.std.specs.Prelude.{◌≡◌, ℕ, ◌+◌, Bool, true, false, cond, List, Option, Some, None}
+use Rattle.sqcrash_store.specs.Covers.{is_bounded}
+use Rattle.sqcrash_store.specs.declared.cover.Cover.{Cover}
 use Rattle.sqcrash_store.specs.declared.tally.Tally.{Tally}
 use Rattle.sqcrash_store.specs.declared.verdict.Verdict.{Verdict}
 use Rattle.sqcrash_store.specs.declared.verdict.Verdict.TheVariants.{Kept, Lost, Mixed, Fault}
 
 abbrev pub no_tally : Tally
-no_tally = record { points = 0; images = 0; wrong = 0; lost = 0; mixed = 0; faults = 0; claims = 0; unwritten = 0 }
+no_tally = record { points = 0; images = 0; wrong = 0; lost = 0; mixed = 0; faults = 0; claims = 0; unwritten = 0; whole = 0; sampled = 0; bounded = 0 }
 
 -- nothing is wrong
 pub record IsClean (t : Tally) : Type 0 where
@@ -34,3 +36,11 @@ abbrev pub with_claim_of : Tally → (found : Option (Option (List ℕ))) → Ta
 with_claim_of t None = t
 with_claim_of t (Some None) = with_claim t false
 with_claim_of t (Some (Some shown)) = with_claim t true
+
+-- with one more point of which all was judged, or some of which nothing is wrong with what was drawn, or something
+abbrev pub with_sampled : Tally → (bounded : Bool) → Tally
+with_sampled t true = record t { sampled = t.sampled + 1; bounded = t.bounded + 1 }
+with_sampled t false = record t { sampled = t.sampled + 1 }
+
+abbrev pub with_cover : Tally → Cover → Tally
+with_cover t c = cond c.is_all (record t { whole = t.whole + 1 }) (with_sampled t (is_bounded c))

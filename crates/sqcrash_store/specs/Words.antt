@@ -56,7 +56,7 @@ abbrev pub with_chosen : App → App
 with_chosen a = with_rule (with_rule (with_rule a (text (codes "part"))) (number (codes "point"))) (number (codes "image"))
 
 abbrev pub with_told : App → App
-with_told a = with_rule (with_rule (with_rule (with_rule a (flag (codes "why"))) (flag (codes "json"))) (number (codes "lines"))) (text (codes "keep"))
+with_told a = with_rule (with_rule (with_rule (with_rule (with_rule a (flag (codes "why"))) (flag (codes "json"))) (flag (codes "points"))) (number (codes "lines"))) (text (codes "keep"))
 
 -- the command line, with the values that options take
 abbrev pub line : (sectors metas promises : ValueParser) → App
@@ -128,6 +128,7 @@ pub record IsPlan (rows : List Row) (plan : Plan) : Type 0 where
   pub promised : plan.is_promised ≡ not (gives (codes "promise") (codes "none") rows)
   pub why : plan.why ≡ gives (codes "why") (codes "true") rows
   pub json : plan.json ≡ gives (codes "json") (codes "true") rows
+  pub points : plan.points ≡ gives (codes "points") (codes "true") rows
   pub lines : GivesNumber (first_of (codes "lines") rows) plan.lines
   pub part : GivesPart (first_of (codes "part") rows) plan.part
   pub point : GivesNumber (first_of (codes "point") rows) plan.point

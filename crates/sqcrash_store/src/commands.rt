@@ -256,6 +256,11 @@ fn with_told<'a>(alloc: Global, command: Command<'a>) -> Result<Command<'a>, All
         "Tells of each image with a line behind which record the crash came, and what isn't down",
     );
     let json = flag(alloc, "json", "Writes an object of JSON a line");
+    let points = flag(
+        alloc,
+        "points",
+        "Writes for each point whether all of its images were judged, or how many, and a bound for the others",
+    );
     let lines = number_option(
         alloc,
         "lines",
@@ -270,6 +275,7 @@ fn with_told<'a>(alloc: Global, command: Command<'a>) -> Result<Command<'a>, All
     );
     let command = with(command, why)?;
     let command = with(command, json)?;
+    let command = with(command, points)?;
     let command = with(command, lines)?;
     with(command, keep)
 }
@@ -407,6 +413,7 @@ fn plan_of(matches: &ArgMatches<'_>, part: Option<Part>) -> Plan
         is_promised: !gives(matches, "promise", "none"),
         why: gives(matches, "why", "true"),
         json: gives(matches, "json", "true"),
+        points: gives(matches, "points", "true"),
         lines: number(matches, "lines"),
         part,
         point: number(matches, "point"),

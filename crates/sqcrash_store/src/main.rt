@@ -9,6 +9,7 @@ mod asking;
 mod calls;
 mod claim;
 mod commands;
+mod cover;
 mod crash;
 mod found;
 mod judging;
@@ -22,6 +23,7 @@ mod rig;
 mod states;
 mod survey;
 mod tally;
+mod told;
 mod verdict;
 
 use std::env::{self, Env};

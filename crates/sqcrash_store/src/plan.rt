@@ -35,6 +35,8 @@ pub struct Plan {
     pub why: bool,
     /// Whether lines are objects of JSON.
     pub json: bool,
+    /// Whether a line tells of each point how much was judged there.
+    pub points: bool,
     /// The most images of which lines are written; all where there is none.
     pub lines: Option<u64>,
     /// The part whose points are judged; all points where there is none.

@@ -2,15 +2,15 @@
 ghost use Rattle.std.specs.Prelude.{◌≡◌, ◌&&◌, ◌++◌, ◌∷◌, [], Some, OnOk, cond, map};
 ghost use Rattle.std.specs.Io.KnownBytes.{Appends};
 ghost use Rattle.std.specs.String.{string_bytes};
-ghost use Rattle.sqcrash_store.specs.Lines.{tally_text};
-ghost use Rattle.sqcrash_store.specs.Objects.{tally_object};
-ghost use Rattle.sqcrash_store.specs.Printed.{claim_line, claim_lines, found_lines, is_within, last_lines};
-ghost use Rattle.sqcrash_store.specs.Printed.{left_lines, left_out, lines_of};
+ghost use Rattle.sqcrash_store.specs.Printed.{claim_line, claim_lines, cover_lines, found_lines, is_within, last_lines};
+ghost use Rattle.sqcrash_store.specs.Printed.{left_lines, left_out, lines_of, tally_lines};
 ghost use Rattle.sqcrash_store.specs.Verdicts.{is_wrong};
 
+use crate::cover::{Cover, bound_of};
 use crate::found::Found;
 use crate::plan::Plan;
 use crate::tally::Tally;
+use crate::told::{CoverObject, CoverText, CoveredText, ShareObject};
 use crate::verdict::{Verdict, is_wrong};
 use crate::{lines, objects};
 use std::alloc::Global;
@@ -143,15 +143,18 @@ impl fmt::Display for MoreObject {
     }
 }
 
-/// What was counted, as an object.
+/// What was counted, as an object, where so many images are drawn.
 #[derive(Clone, Copy)]
-struct TallyObject(Tally);
+struct TallyObject {
+    tally: Tally,
+    images: u64,
+}
 
 impl fmt::Display for TallyObject {
     ghost use Rattle.std.specs.Prelude.{Some};
     ghost use Rattle.sqcrash_store.specs.Objects.{tally_object};
 
-    ghost output = { λ x. Some (tally_object x.0) };
+    ghost output = { λ x. Some (tally_object x.images x.tally) };
 
     fn fmt<W: fmt::Write>(&self, f: &mut fmt::Formatter<W>) -> fmt::Result {
         let Tally {
@@ -162,12 +165,17 @@ impl fmt::Display for TallyObject {
             faults,
             claims,
             unwritten,
+            whole,
+            sampled,
+            bounded,
             ..
-        } = self.0;
+        } = self.tally;
+        let bound = ShareObject(bound_of(self.images));
         write!(
             f,
             "{{\"points\":{points},\"images\":{images},\"lost\":{lost},\"mixed\":{mixed},\"faults\":{faults},\
-             \"claims\":{claims},\"unwritten\":{unwritten}}}"
+             \"claims\":{claims},\"unwritten\":{unwritten},\"whole\":{whole},\"sampled\":{sampled},\
+             \"bounded\":{bounded},\"bound\":{bound}}}"
         )
     }
 }
@@ -186,14 +194,27 @@ fn write_left<O: Write>(out: &mut O, json: bool, count: u64) -> io::Result<()>
 }
 
 /// Writes what was counted.
-fn write_tally<O: Write>(out: &mut O, json: bool, tally: Tally) -> io::Result<()>
-    ensures { OnOk result (Appends (O.contents out.old) (O.contents out.new)
-        (cond json (tally_object tally) (tally_text tally) ++ 10 ∷ [])) }
+fn write_tally<O: Write>(out: &mut O, plan: Plan, tally: Tally) -> io::Result<()>
+    ensures { OnOk result (Appends (O.contents out.old) (O.contents out.new) (tally_lines plan tally)) }
 {
-    if json {
-        return writeln!(out, "{}", TallyObject(tally));
+    let images = plan.images;
+    if plan.json {
+        return writeln!(out, "{}", TallyObject { tally, images });
     }
-    writeln!(out, "{tally}")
+    writeln!(out, "{tally}{}", CoveredText { tally, images })
+}
+
+/// Writes how much was judged at a point, if that is asked for.
+pub fn write_cover<O: Write>(out: &mut O, plan: Plan, cover: Cover) -> io::Result<()>
+    ensures { OnOk result (Appends (O.contents out.old) (O.contents out.new) (cover_lines plan cover)) }
+{
+    if !plan.points {
+        return Ok(());
+    }
+    if plan.json {
+        return writeln!(out, "{}", CoverObject(cover));
+    }
+    writeln!(out, "{}", CoverText(cover))
 }
 
 /// Writes the lines at the end.
@@ -201,5 +222,5 @@ pub fn write_last<O: Write>(out: &mut O, plan: Plan, tally: Tally) -> io::Result
     ensures { OnOk result (Appends (O.contents out.old) (O.contents out.new) (last_lines plan tally)) }
 {
     write_left(out, plan.json, left_out(plan.lines, tally.wrong))?;
-    write_tally(out, plan.json, tally)
+    write_tally(out, plan, tally)
 }

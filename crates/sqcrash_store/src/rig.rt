@@ -5,13 +5,15 @@ ghost use Rattle.sqcrash_store.specs.Points.{is_point, is_judged, IsKnown};
 use crate::asked::{is_asked, is_of_part};
 use crate::asking::Judge;
 use crate::claim::judge_claim;
+use crate::cover::cover_of;
 use crate::crash::Crash;
 use crate::outcome::{Refusal, more};
 use crate::plan::Plan;
+use crate::printed::write_cover;
 use crate::states::{is_mark, play};
 use crate::survey::{Bench, Point, survey};
 use crate::tally::Tally;
-use rig_store::{Action, Call, Store};
+use rig_store::{Action, Call, Store, Ways};
 use std::io::Write;
 
 /// A run that is being played and judged.
@@ -126,8 +128,10 @@ impl Rig {
             self.tally = tally;
             return Ok(());
         }
+        let ways = Ways::of(bench.alloc, &self.store, u64::MAX)?;
         let point = Point {
             store: &self.store,
+            ways: &ways,
             crash: Crash {
                 point: tally.points,
                 known: self.known,
@@ -137,7 +141,10 @@ impl Rig {
         };
         let claimed = judge_claim(bench, call, self.marks, tally, out)?;
         let seen = bench.seen(is_mark(call), self.marks);
-        self.tally = survey(judge, &seen, &point, claimed, out)?;
+        let judged = survey(judge, &seen, &point, claimed, out)?;
+        let cover = cover_of(bench.plan, &point, claimed, judged);
+        write_cover(out, bench.plan, cover)?;
+        self.tally = judged.with_cover(cover)?;
         Ok(())
     }
 

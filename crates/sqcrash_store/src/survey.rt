@@ -1,5 +1,5 @@
 //! The images of a point are judged, counted, told and kept (own).
-ghost use Rattle.std.specs.Prelude.{◌≡◌, ◌≤◌, ◌^◌, ◌||◌, ◌+◌, ◌++◌, List, [], ◌∷◌, OnOk, IfOk, IfErr, MatchResult};
+ghost use Rattle.std.specs.Prelude.{◌≡◌, ◌<◌, ◌≤◌, ◌^◌, true, ◌||◌, ◌+◌, ◌++◌, List, [], ◌∷◌, OnOk, IfOk, IfErr, MatchResult};
 ghost use Rattle.std.specs.Prelude.{map, take};
 ghost use Rattle.std.specs.Io.KnownBytes.{Appends};
 ghost use Rattle.std.specs.String.{string_bytes};
@@ -8,11 +8,13 @@ ghost use Rattle.rand_pcg.specs.Pcg.{multiplier_64};
 ghost use Rattle.rig_store.specs.Left.{image_of, MayLeave};
 ghost use Rattle.rig_store.specs.Stores.{store_of};
 ghost use Rattle.rig_store.specs.Torn.{IsTornIfAny};
+ghost use Rattle.rig_store.specs.Ways.{IsWay};
+ghost use Rattle.sqcrash_store.specs.Covers.{takes_all};
 ghost use Rattle.sqcrash_store.specs.Judged.{Judged, Keeps, is_some, kept_among, kept_of};
 ghost use Rattle.sqcrash_store.specs.Keys.{key_of};
 ghost use Rattle.sqcrash_store.specs.Printed.{lines_of};
 ghost use Rattle.sqcrash_store.specs.Refused.{ImagesRefused, IsOfMemory, JudgeRefused, PutRefused};
-ghost use Rattle.sqcrash_store.specs.Surveys.{IsJudged, IsSurvey, drawn_count, judging_of, lines_from};
+ghost use Rattle.sqcrash_store.specs.Surveys.{AreCounted, IsJudged, IsSurvey, drawn_count, judging_of, lines_from, taken_count};
 ghost use Rattle.sqcrash_store.specs.Surveys.{seen_count, third_of, with_images};
 ghost use Rattle.sqcrash_store.specs.Tallies.{with_image};
 ghost use Rattle.sqcrash_store.specs.Verdicts.{is_wrong};
@@ -29,7 +31,7 @@ use crate::tally::Tally;
 use crate::verdict::{Answer, Verdict, is_wrong, verdict_of};
 use rand_core::Rng;
 use rand_pcg::Pcg32;
-use rig_store::{Image, Store, differences, draw, draw_torn};
+use rig_store::{Image, Store, Ways, differences, draw, draw_torn};
 use std::alloc::Global;
 use std::collections::HashSet;
 use std::hash::{FoldHasher, Hasher};
@@ -97,8 +99,11 @@ impl<'a> Bench<'a> {
 pub struct Point<'a> {
     /// What a crash may leave there.
     pub store: &'a Store,
+    /// In how many ways, if that was counted.
+    pub ways: &'a Option<Ways>,
     /// The crash.
     pub crash: Crash,
+    ghost are: { AreCounted (store_of store.now) ways.now },
 }
 
 /// An image that is drawn, and its number at its point, counted from 0.
@@ -246,6 +251,40 @@ fn draw_one<R: Rng>(
     Ok(draw_torn(bench.alloc, rng, store)?)
 }
 
+/// How many images are taken at a point: all, if they are no more than may be judged, and otherwise drawn ones.
+fn taken_count(plan: Plan, point: &Point<'_>) -> Result<u64, Refusal>
+    ensures { MatchResult result (λ n. n ≡ taken_count plan (store_of point.now.store.now))
+        (λ refusal. (refusal ≡ TooMany) × (2 ^ 64 ≤ drawn_count plan)) }
+{
+    match point.ways {
+        Some(ways) if ways.images() <= plan.images => Ok(ways.images()),
+        _ => drawn_count(plan),
+    }
+}
+
+/// The image of a number, if all are taken, or one that is drawn.
+fn take_one<R: Rng>(
+    bench: &Bench<'_>,
+    rng: &mut R,
+    point: &Point<'_>,
+    number: u64,
+) -> Result<Image, Refusal>
+    requires { number < taken_count bench.now.plan (store_of point.now.store.now) }
+    ensures left { IfOk result (λ image. MayLeave (store_of point.now.store.now) (image_of image)) }
+    ensures torn { IfOk result (λ image. bench.now.plan.images ≤ number
+        → IsTornIfAny (store_of point.now.store.now) (image_of image)) }
+    ensures way { IfOk result (λ image. takes_all bench.now.plan (store_of point.now.store.now) ≡ true
+        → IsWay (store_of point.now.store.now) number (image_of image)) }
+    ensures memory { IfErr result IsOfMemory }
+{
+    match point.ways {
+        Some(ways) if ways.images() <= bench.plan.images => {
+            Ok(ways.image(bench.alloc, point.store, number)?)
+        }
+        _ => draw_one(bench, rng, point.store, number),
+    }
+}
+
 /// The draws of a point, which begin with the seed and the point's number, and so are the same whatever else is judged.
 fn draws_of(plan: Plan, point: u64) -> Pcg32
     ensures { result ≡ started 64 multiplier_64 plan.seed (increment_of 64 point) }
@@ -253,7 +292,8 @@ fn draws_of(plan: Plan, point: u64) -> Pcg32
     Pcg32::new(plan.seed, point)
 }
 
-/// Judges images that are drawn of those that a crash may leave at a point, each once. Refused by TooMany, and by what
+/// Judges images of those that a crash may leave at a point, each once: all, if they are no more than may be judged, and
+/// otherwise drawn ones. Refused by TooMany, and by what
 /// refuses to ask of an image or to keep it.
 pub fn survey<J: Judge, O: Write>(
     judge: &mut J,
@@ -274,9 +314,9 @@ pub fn survey<J: Judge, O: Write>(
     let mut keys = HashSet::new(bench.alloc);
     let mut tally = before;
     let mut next = 0;
-    let count = drawn_count(bench.plan)?;
+    let count = taken_count(bench.plan, point)?;
     for n in 0..count {
-        let image = draw_one(bench, &mut rng, point.store, n)?;
+        let image = take_one(bench, &mut rng, point, n)?;
         if !keys.insert(key_of(&image))? {
             continue;
         }

@@ -1,4 +1,5 @@
 //! What was judged is counted (own).
+use crate::cover::{Cover, is_bounded};
 use crate::outcome::{Refusal, more};
 use crate::verdict::Verdict;
 use std::fmt;
@@ -20,12 +21,18 @@ pub struct Tally {
     pub claims: u64,
     /// Those of them whose commit the files don't show.
     pub unwritten: u64,
+    /// Points of which all images were judged.
+    pub whole: u64,
+    /// Others of which some were.
+    pub sampled: u64,
+    /// Those of them at which nothing is wrong with what was drawn.
+    pub bounded: u64,
 }
 
 impl Tally {
     ghost use Rattle.std.specs.Prelude.{◌≡◌, ◌↔◌, IsTrue, MatchResult};
     ghost use Rattle.sqcrash_store.specs.Refused.{HasRoom, IsTooMany};
-    ghost use Rattle.sqcrash_store.specs.Tallies.{no_tally, with_point, with_image, with_claim, IsClean};
+    ghost use Rattle.sqcrash_store.specs.Tallies.{no_tally, with_point, with_image, with_claim, with_cover, IsClean};
     ghost use Rattle.sqcrash_store.specs.declared.outcome.Refusal.TheVariants.{TooMany};
 
     /// None.
@@ -41,6 +48,9 @@ impl Tally {
             faults: 0,
             claims: 0,
             unwritten: 0,
+            whole: 0,
+            sampled: 0,
+            bounded: 0,
         }
     }
 
@@ -94,6 +104,23 @@ impl Tally {
         }
         self.unwritten = more(self.unwritten)?;
         self.wrong = more(self.wrong)?;
+        Ok(self)
+    }
+
+    /// With one more point of which this was judged. TooMany where a count has no next number.
+    pub fn with_cover(mut self, cover: Cover) -> Result<Tally, Refusal>
+        ensures { MatchResult result (λ t. t ≡ with_cover self cover)
+            (λ refusal. (refusal ≡ TooMany) × ¬ HasRoom 1 self) }
+    {
+        if cover.is_all {
+            self.whole = more(self.whole)?;
+            return Ok(self);
+        }
+        self.sampled = more(self.sampled)?;
+        if !is_bounded(cover) {
+            return Ok(self);
+        }
+        self.bounded = more(self.bounded)?;
         Ok(self)
     }
 }
