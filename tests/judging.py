@@ -9,7 +9,8 @@ from lib import TOP, holds, path_of, recorder
 JUDGE, RECORD = os.path.join(TOP, 'rig', 'judge'), recorder('record-files')
 os.environ['SQCRASH_STORE'] = path_of('sqcrash_store')  # which rig/judge runs
 COUNTS = re.compile(r'(\d+) points, (\d+) images, (\d+) lost, (\d+) mixed, (\d+) faults, '
-                    r'(\d+) unwritten of (\d+) claims')
+                    r'(\d+) unwritten of (\d+) claims'
+                    r'; all images at \d+ points, \d+ sampled(?:, under \d+\.\d\d % wrong at \d+)?')
 
 
 def recorded(folder, name, *words, options=(), program=sys.executable, before=None):
