@@ -5,3 +5,5 @@ pub mod NamesShown
 pub mod NamesWithTornFiles
 pub mod RangesOfSectors
 pub mod SectorsOfFiles
+pub mod WaysOfFiles
+pub mod WaysOfStores
