@@ -18,7 +18,7 @@ use Rattle.cli_row_text.specs.declared.form.Form.{Form}
 use Rattle.cli_row_text.specs.declared.print.Style.{Style}
 use Rattle.cli_row_text.specs.declared.print.PrintError.{PrintError}
 use Rattle.cli_row_text.specs.declared.print.PrintError.TheVariants.{Tree, Row as RowError, Record, NoMemory, Default, Behind, Write}
-use Rattle.cli_row_text.specs.Printed.{IsRowLine, AreLines, IsPrinted, Lacks, HasMore, PrintRefused, WrittenUntil, IsPrintedUntil}
+use Rattle.cli_row_text.specs.Printed.{IsRowLine, AreLines, IsPrinted, Lacks, HasMore, PrintRefused, WrittenUntil, IsPrintedUntil, IsUnreadPrint}
 use Rattle.cli_row_text.specs.internal.Printing.{PrintsNext, LineRefused, NextRefused, IsKept, AreWritten}
 
 lines_snoc : (form : Form) (insert : List ℕ) (columns : Columns) (leads : Bool) (rows : List Row) (row : Row) (t own : List ℕ) → AreLines form insert columns leads rows t → IsRowLine form insert columns leads row own → AreLines form insert columns leads (rows ++ row ∷ []) (t ++ own)
@@ -69,6 +69,16 @@ line_refused d style old new row NoMemory passes h = tt
 line_refused d style old new row Default passes h = λ xs left. let n = passes xs left in (n.0, n.1, n.2, (row, n.3, h))
 line_refused d style old new row Behind passes h = (h.0, λ xs left. let n = passes xs left in (n.0, n.1, n.2, (row, n.3, h.1)))
 line_refused d style old new row (Write e) passes h = tt
+
+-- and isn't that a page couldn't be read
+pub line_read : (style : Style) (row : Row) (e : PrintError) → LineRefused style row e → ¬ IsUnreadPrint e
+line_read style row (Tree e) h = absurd h
+line_read style row (RowError e) h = absurd h
+line_read style row (Record e) h = absurd h
+line_read style row NoMemory h = λ none. none
+line_read style row Default h = λ none. none
+line_read style row Behind h = λ none. none
+line_read style row (Write e) h = λ none. none
 
 -- why the next row isn't printed is why row k isn't
 print_refused : (d : Database) (root : ℕ) (style : Style) (cursor : Rows) (rows : List Row) (e : PrintError) → cursor.limit ≡ most_bytes → ArePassed d root cursor rows → NextRefused d style cursor e

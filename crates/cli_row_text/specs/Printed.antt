@@ -3,6 +3,8 @@ use Rattle.std.specs.Prelude.{◌≡◌, ◌<◌, ℕ, ℤ, Bool, true, false, L
 use Rattle.std.specs.Io.KnownBytes.{Appends}
 use Rattle.sqval.specs.Database.{Database}
 use Rattle.sqval.specs.Record.{most_bytes}
+use Rattle.sqpage.specs.declared.fault.Fault.TheVariants as faults
+use Rattle.sqrows.specs.RowCursor.{IsUnreadRow}
 use Rattle.sqrows.specs.Rows.{Row, IsRowIn, HasRows}
 use Rattle.sqrows.specs.Trees.{Entry}
 use Rattle.sqrows.specs.Stops.{ComeFirst, HoldsAt, IsNoRecord, TreeRefused, RowRefused}
@@ -41,7 +43,7 @@ Lacks d columns e = (row : Row) × IsRowIn d e row × (length row.values < colum
 abbrev pub HasMore : Database → Columns → Entry → Type 0
 HasMore d columns e = (row : Row) × IsRowIn d e row × (length columns.names.items < length row.values)
 
--- Why row k isn't printed: the tree isn't sound there, the row isn't read or is no record, it lacks a column whose default
+-- Why row k isn't printed: a page couldn't be read, the tree isn't sound there, the row isn't read or is no record, it lacks a column whose default
 -- isn't known, or has one that an INSERT can't name; or memory ran out, or the writer failed.
 abbrev pub PrintRefused : Database → (root : ℕ) → Form → Columns → (k : ℕ) → PrintError → Type 0
 PrintRefused d root form columns k (Tree e) = TreeRefused d root e
@@ -51,6 +53,12 @@ PrintRefused d root form columns k NoMemory = Unit {0}
 PrintRefused d root form columns k Default = HoldsAt d root k (Lacks d columns)
 PrintRefused d root form columns k Behind = (form.notation ≡ Sql) × HoldsAt d root k (HasMore d columns)
 PrintRefused d root form columns k (Write e) = Unit {0}
+
+-- A page of the table couldn't be read.
+abbrev pub IsUnreadPrint : PrintError → Type 0
+IsUnreadPrint (Tree e) = e.fault ≡ faults.Source
+IsUnreadPrint (RowError e) = IsUnreadRow e
+IsUnreadPrint _ = ⊥
 
 -- This text was written and no more, unless it was the writer that failed.
 abbrev pub WrittenUntil : PrintError → (before after : Option (List ℕ)) → List ℕ → Type 0

@@ -2,7 +2,7 @@
 ghost use Rattle.std.specs.Prelude.{◌≡◌, ◌≤◌, ℕ, List, OnOk, IfOk, IfErr, length};
 ghost use Rattle.std.specs.Io.KnownBytes.{Appends};
 ghost use Rattle.sqpage.specs.Source.{KeepsPages};
-ghost use Rattle.cli_row_text.specs.Printed.{IsRowLine, IsPrinted, IsPrintedUntil, led_by};
+ghost use Rattle.cli_row_text.specs.Printed.{IsRowLine, IsPrinted, IsPrintedUntil, IsUnreadPrint, led_by};
 ghost use Rattle.cli_row_text.specs.declared.form.Notation.{Notation};
 ghost use Rattle.cli_row_text.specs.internal.Printing.{PrintsNext, LineRefused, NextRefused, IsKept};
 ghost use Rattle.sqrows.specs.Cursor.{IsOver};
@@ -124,10 +124,11 @@ fn print_next<S: PageSource, W: Write>(
     out: &mut W,
 ) -> Result<bool, PrintError>
     requires sized { S.size source.old ≡ rows.old.cells.size }
-    ensures ok { S.gives_pages source.old → IsOver (S.pages source.old) rows.old.cells → IfOk result (λ found.
+    ensures ok { S.reads_right source.old → IsOver (S.pages source.old) rows.old.cells → IfOk result (λ found.
         PrintsNext (S.pages source.old) found style.entry rows.old rows.new (W.contents out.old) (W.contents out.new)) }
-    ensures err { S.gives_pages source.old → IsOver (S.pages source.old) rows.old.cells
+    ensures err { S.reads_right source.old → IsOver (S.pages source.old) rows.old.cells
         → IfErr result (NextRefused (S.pages source.old) style.entry rows.old) }
+    ensures unread { IfErr result (λ e. IsUnreadPrint e → ¬ S.gives_pages source.old) }
     ensures kept { IfErr result (λ e. IsKept e (W.contents out.old) (W.contents out.new)) }
     ensures size { (rows.new.cells.size ≡ rows.old.cells.size) × (rows.new.cells.usable ≡ rows.old.cells.usable)
         × (rows.new.limit ≡ rows.old.limit) }
@@ -157,13 +158,15 @@ pub fn print_rows<S: PageSource, W: Write>(
     style: Style<'_>,
     out: &mut W,
 ) -> Result<(), PrintError>
-    ensures ok { S.gives_pages source.old → OnOk result ((t : List ℕ) × IsPrinted (S.pages source.old) root
+    ensures ok { S.reads_right source.old → OnOk result ((t : List ℕ) × IsPrinted (S.pages source.old) root
         style.entry.form style.entry.insert.now style.entry.columns.now style.entry.leads t
         × Appends (W.contents out.old) (W.contents out.new) t) }
     // The lines of the first rows were written, and this is why the next one's isn't.
-    ensures err { S.gives_pages source.old → IfErr result (λ e. IsPrintedUntil (S.pages source.old) root
+    ensures err { S.reads_right source.old → IfErr result (λ e. IsPrintedUntil (S.pages source.old) root
         style.entry.form style.entry.insert.now style.entry.columns.now style.entry.leads e
         (W.contents out.old) (W.contents out.new)) }
+    // That a page couldn't be read is told only where a read failed.
+    ensures unread { IfErr result (λ e. IsUnreadPrint e → ¬ S.gives_pages source.old) }
     ensures keeps { KeepsPages S.pages S.size S.reads_right S.gives_pages source.old source.new }
 {
     let mut rows = match Rows::new(alloc, source, root, MOST_BYTES as u64) {

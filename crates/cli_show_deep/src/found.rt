@@ -7,7 +7,7 @@ ghost use Rattle.cli_show.specs.Views.{AreAskedCounts, IsNotFound};
 ghost use Rattle.cli_show_deep.specs.Found.{IsFoundAs, IsFoundDeep, IsHeadlessDeep, IsMissingFound};
 ghost use Rattle.cli_show_deep.specs.internal.Plain.{IsPlain};
 ghost use Rattle.sqview.specs.LogView.{pages_of};
-ghost use Rattle.sqview.specs.Verdicts.{IsUnjudgedWith};
+ghost use Rattle.sqview.specs.Verdicts.{IsUnjudgedWith, UnlessFailed};
 
 use cli_facts::{Front, Refusal};
 use cli_show::{Asked, Used, used_view_of};
@@ -117,8 +117,9 @@ fn judge_plain<F: FileBytes>(
 ) -> Result<DeepVerdict, JudgeError>
     ensures found { F.reads_right view.old.db × F.reads_right view.old.log
         → IfOk result (IsPlain maps.pointer_maps (pages_of F.bytes view.old) view.old.page_size) }
-    ensures refused { F.gives_bytes view.old.db × F.gives_bytes view.old.log
-        → IfErr result (IsUnjudgedWith maps.pointer_maps (pages_of F.bytes view.old)) }
+    ensures refused { F.reads_right view.old.db × F.reads_right view.old.log → IfErr result
+        (λ e. UnlessFailed (F.gives_bytes view.old.db × F.gives_bytes view.old.log) e
+        (IsUnjudgedWith maps.pointer_maps (pages_of F.bytes view.old) e)) }
 {
     match judge_view_with(alloc, view, maps) {
         Ok(verdict) => Ok(DeepVerdict::of(verdict)),

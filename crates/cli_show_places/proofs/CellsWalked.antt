@@ -60,7 +60,7 @@ all_walked d frames style root old new before mid after w next =
 
 tree_stop : (d : Database) (frames : ℕ → Option ℕ) (style : Style) (root : ℕ) (cells : Cells) (stop : Stop) (before after : Option (List ℕ)) → AreWalked d frames style root cells before after
     → NextRefused d cells stop → IsTreeStop d root stop
-tree_stop d frames style root cells (Fault e) before after w h = (h.0, λ other xs tree. let o = (w.others xs).0 tree in h.1 other o.0 o.2)
+tree_stop d frames style root cells (Fault e) before after w h = λ read other xs tree. let o = (w.others xs).0 tree in h read other o.0 o.2
 tree_stop d frames style root cells (Record e) before after w h = absurd h
 tree_stop d frames style root cells TooLong before after w h = absurd h
 tree_stop d frames style root cells NotUnderstood before after w h = absurd h

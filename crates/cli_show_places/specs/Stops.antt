@@ -20,7 +20,7 @@ use Rattle.cli_show_places.specs.Places.{AreTablesPlacedBeside, AreTurnsPlaced, 
 abbrev pub AreFirst : Database → (root : ℕ) → List Entry → Type 0
 AreFirst d root firsts = (xs : List Entry) → IsTree d root xs → (more : List Entry) × (xs ≡ firsts ++ more)
 
--- The tree isn't sound, or memory ran out.
+-- The tree isn't sound, or a page couldn't be read, or memory ran out.
 abbrev pub IsTreeStop : Database → (root : ℕ) → Stop → Type 0
 IsTreeStop d root (Fault e) = TreeRefused d root e
 IsTreeStop d root NoMemory = Unit {0}

@@ -4,7 +4,7 @@ ghost use Rattle.std.specs.Io.KnownBytes.{Appends};
 ghost use Rattle.sqpage.specs.Source.{KeepsPages};
 ghost use Rattle.sqrows.specs.Cursor.{IsOver};
 ghost use Rattle.sqrows.specs.Trees.{Entry, IsTree};
-ghost use Rattle.cli_show_rows.specs.Stops.{IsWriteError};
+ghost use Rattle.cli_show_rows.specs.Stops.{IsUnreadStop, IsWriteError};
 ghost use Rattle.cli_show_places.specs.Lines.{places_text};
 ghost use Rattle.cli_show_places.specs.Stops.{AreCellsStopped};
 ghost use Rattle.cli_show_places.specs.internal.Walks.{NextRefused, PlacesNext};
@@ -25,13 +25,14 @@ fn print_next<S: Framed, W: Write>(
     out: &mut W,
 ) -> Result<bool, Stop>
     requires sized { S.size source.old ≡ cells.old.size }
-    ensures ok { S.gives_pages source.old → S.tells_right → IsOver (S.pages source.old) cells.old → IfOk result
+    ensures ok { S.reads_right source.old → S.tells_right → IsOver (S.pages source.old) cells.old → IfOk result
         (λ found. PlacesNext (S.pages source.old) S.frames style found cells.old cells.new
         (W.contents out.old) (W.contents out.new)) }
-    ensures err { S.gives_pages source.old → IsOver (S.pages source.old) cells.old → IfErr result (λ stop.
+    ensures err { S.reads_right source.old → IsOver (S.pages source.old) cells.old → IfErr result (λ stop.
         IsWriteError stop ⊎ (NextRefused (S.pages source.old) cells.old stop
         × (W.contents out.old ≡ W.contents out.new))) }
     ensures size { (cells.new.size ≡ cells.old.size) × (cells.new.usable ≡ cells.old.usable) }
+    ensures unread { IfErr result (λ stop. IsUnreadStop stop → ¬ S.gives_pages source.old) }
     ensures keeps { KeepsPages S.pages S.size S.reads_right S.gives_pages source.old source.new }
 {
     match cells.advance(source) {
@@ -64,12 +65,13 @@ pub(crate) fn print_cells<S: Framed, W: Write>(
     style: Style,
     out: &mut W,
 ) -> Result<(), Stop>
-    ensures ok { S.gives_pages source.old → S.tells_right → OnOk result ((xs : List Entry)
+    ensures ok { S.reads_right source.old → S.tells_right → OnOk result ((xs : List Entry)
         × IsTree (S.pages source.old) root xs
         × Appends (W.contents out.old) (W.contents out.new) (places_text S.frames style xs)) }
     // The first ones are printed, and this is why the next one isn't.
-    ensures err { S.gives_pages source.old → S.tells_right → IfErr result (λ stop. AreCellsStopped
+    ensures err { S.reads_right source.old → S.tells_right → IfErr result (λ stop. AreCellsStopped
         (S.pages source.old) S.frames style root stop (W.contents out.old) (W.contents out.new)) }
+    ensures unread { IfErr result (λ stop. IsUnreadStop stop → ¬ S.gives_pages source.old) }
     ensures keeps { KeepsPages S.pages S.size S.reads_right S.gives_pages source.old source.new }
 {
     let mut cells = match Cells::new(alloc, source, root) {

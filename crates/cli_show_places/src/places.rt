@@ -7,6 +7,7 @@ ghost use Rattle.cli_show_places.specs.Frames.{ArePlacesFramed, IsFramed};
 ghost use Rattle.cli_show_places.specs.Places.{ArePlacesPrinted, name_of};
 ghost use Rattle.cli_show_places.specs.Stops.{ArePlacesStopped};
 ghost use Rattle.cli_show_places.specs.internal.Seen.{IsKnown, frames_in};
+ghost use Rattle.cli_show_rows.specs.Stops.{IsUnreadStop};
 
 use crate::framed::Framed;
 use crate::held::{Held, Seen};
@@ -26,10 +27,11 @@ fn print_one<S: Framed, W: Write>(
     style: Style,
     out: &mut W,
 ) -> Result<(), Stop>
-    ensures ok { S.gives_pages source.old → S.tells_right → OnOk result (ArePlacesPrinted (S.pages source.old)
+    ensures ok { S.reads_right source.old → S.tells_right → OnOk result (ArePlacesPrinted (S.pages source.old)
         S.frames style (Some name.now) (W.contents out.old) (W.contents out.new)) }
-    ensures err { S.gives_pages source.old → S.tells_right → IfErr result (λ stop. ArePlacesStopped
+    ensures err { S.reads_right source.old → S.tells_right → IfErr result (λ stop. ArePlacesStopped
         (S.pages source.old) S.frames style (Some name.now) stop (W.contents out.old) (W.contents out.new)) }
+    ensures unread { IfErr result (λ stop. IsUnreadStop stop → ¬ S.gives_pages source.old) }
 {
     if source.count() == 0 {
         return Err(Stop::NoSuchTable);
@@ -44,10 +46,11 @@ fn print_each<S: Framed, W: Write>(
     style: Style,
     out: &mut W,
 ) -> Result<(), Stop>
-    ensures ok { S.gives_pages source.old → S.tells_right → OnOk result (ArePlacesPrinted (S.pages source.old)
+    ensures ok { S.reads_right source.old → S.tells_right → OnOk result (ArePlacesPrinted (S.pages source.old)
         S.frames style None (W.contents out.old) (W.contents out.new)) }
-    ensures err { S.gives_pages source.old → S.tells_right → IfErr result (λ stop. ArePlacesStopped
+    ensures err { S.reads_right source.old → S.tells_right → IfErr result (λ stop. ArePlacesStopped
         (S.pages source.old) S.frames style None stop (W.contents out.old) (W.contents out.new)) }
+    ensures unread { IfErr result (λ stop. IsUnreadStop stop → ¬ S.gives_pages source.old) }
 {
     if source.count() == 0 {
         return Ok(());
@@ -63,10 +66,11 @@ fn print_wanted<S: Framed, W: Write>(
     style: Style,
     out: &mut W,
 ) -> Result<(), Stop>
-    ensures ok { S.gives_pages source.old → S.tells_right → OnOk result (ArePlacesPrinted (S.pages source.old)
+    ensures ok { S.reads_right source.old → S.tells_right → OnOk result (ArePlacesPrinted (S.pages source.old)
         S.frames style (name_of table.entry) (W.contents out.old) (W.contents out.new)) }
-    ensures err { S.gives_pages source.old → S.tells_right → IfErr result (λ stop. ArePlacesStopped
+    ensures err { S.reads_right source.old → S.tells_right → IfErr result (λ stop. ArePlacesStopped
         (S.pages source.old) S.frames style (name_of table.entry) stop (W.contents out.old) (W.contents out.new)) }
+    ensures unread { IfErr result (λ stop. IsUnreadStop stop → ¬ S.gives_pages source.old) }
 {
     match table {
         Some(name) => print_one(alloc, source, name, style, out),
@@ -83,12 +87,14 @@ fn print_seen<V: Seen, F: FileBytes + Drop, W: Write>(
     out: &mut W,
 ) -> Result<(), Stop>
     requires { shape_of F.bytes view ≡ V.shape }
-    ensures ok { F.gives_bytes view.db × F.gives_bytes view.log → IsKnown V.shape → OnOk result
+    ensures ok { F.reads_right view.db × F.reads_right view.log → IsKnown V.shape → OnOk result
         (ArePlacesPrinted (pages_of F.bytes view) (frames_in V.shape) style (name_of table.entry)
         (W.contents out.old) (W.contents out.new)) }
-    ensures err { F.gives_bytes view.db × F.gives_bytes view.log → IsKnown V.shape → IfErr result (λ stop.
+    ensures err { F.reads_right view.db × F.reads_right view.log → IsKnown V.shape → IfErr result (λ stop.
         ArePlacesStopped (pages_of F.bytes view) (frames_in V.shape) style (name_of table.entry) stop
         (W.contents out.old) (W.contents out.new)) }
+    ensures unread { IfErr result
+        (λ stop. IsUnreadStop stop → ¬ (F.gives_bytes view.db × F.gives_bytes view.log)) }
 {
     let mut held: Held<V, F> = Held {
         view,
@@ -110,13 +116,16 @@ pub fn print_places<F: FileBytes + Drop, W: Write>(
 ) -> Result<(), Stop>
     // What is printed are the places of the cells of the tables' trees, each once and in order, with the frames in
     // which their pages stand.
-    ensures ok { F.gives_bytes view.db × F.gives_bytes view.log → (wal : List ℕ) → IsFramed wal view
+    ensures ok { F.reads_right view.db × F.reads_right view.log → (wal : List ℕ) → IsFramed wal view
         → OnOk result (ArePlacesFramed wal view (λ frames. ArePlacesPrinted (pages_of F.bytes view) frames style
         (name_of table.entry) (W.contents out.old) (W.contents out.new))) }
     // The places of the first cells were printed, and this is why those of the next one aren't.
-    ensures err { F.gives_bytes view.db × F.gives_bytes view.log → (wal : List ℕ) → IsFramed wal view
+    ensures err { F.reads_right view.db × F.reads_right view.log → (wal : List ℕ) → IsFramed wal view
         → IfErr result (λ stop. ArePlacesFramed wal view (λ frames. ArePlacesStopped (pages_of F.bytes view) frames
         style (name_of table.entry) stop (W.contents out.old) (W.contents out.new))) }
+    // That a page couldn't be read is told only where a read failed.
+    ensures unread { IfErr result
+        (λ stop. IsUnreadStop stop → ¬ (F.gives_bytes view.db × F.gives_bytes view.log)) }
 {
     print_seen::<Brand, F, W>(alloc, view, table, style, out)
 }

@@ -6,6 +6,7 @@ ghost use Rattle.cli_show_rows.specs.Dumps.{title_text};
 ghost use Rattle.cli_show_places.specs.Lines.{columns_text, head_text, name_text, object_text};
 ghost use Rattle.cli_show_places.specs.Places.{IsTablePlaced};
 ghost use Rattle.cli_show_places.specs.Stops.{IsTableStopped};
+ghost use Rattle.cli_show_rows.specs.Stops.{IsUnreadStop};
 
 use crate::cells::print_cells;
 use crate::framed::Framed;
@@ -85,10 +86,11 @@ pub(crate) fn print_table<S: Framed, W: Write>(
     form: Form,
     out: &mut W,
 ) -> Result<(), Stop>
-    ensures ok { S.gives_pages source.old → S.tells_right → OnOk result (IsTablePlaced (S.pages source.old) S.frames
+    ensures ok { S.reads_right source.old → S.tells_right → OnOk result (IsTablePlaced (S.pages source.old) S.frames
         form table.now (W.contents out.old) (W.contents out.new)) }
-    ensures err { S.gives_pages source.old → S.tells_right → IfErr result (λ stop. IsTableStopped
+    ensures err { S.reads_right source.old → S.tells_right → IfErr result (λ stop. IsTableStopped
         (S.pages source.old) S.frames form table.now stop (W.contents out.old) (W.contents out.new)) }
+    ensures unread { IfErr result (λ stop. IsUnreadStop stop → ¬ S.gives_pages source.old) }
     ensures keeps { KeepsPages S.pages S.size S.reads_right S.gives_pages source.old source.new }
 {
     match write_head(out, form, &table.name) {

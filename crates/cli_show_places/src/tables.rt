@@ -6,6 +6,7 @@ ghost use Rattle.cli_show_places.specs.Places.{AreObjectsPlaced, AreTablesPlaced
 ghost use Rattle.cli_show_places.specs.Places.{IsTableOf, IsTurnPlaced};
 ghost use Rattle.cli_show_places.specs.Stops.{AreObjectsStopped, AreTablesStopped, IsNamedStopped, IsTableStopped};
 ghost use Rattle.cli_show_places.specs.Stops.{IsTurnStopped};
+ghost use Rattle.cli_show_rows.specs.Stops.{IsUnreadStop};
 
 use crate::framed::Framed;
 use crate::table::{Form, print_table};
@@ -32,11 +33,12 @@ fn print_object<S: Framed, W: Write>(
     form: Form,
     out: &mut W,
 ) -> Result<(), Stop>
-    ensures ok { S.gives_pages source.old → S.tells_right → OnOk result (IsTurnPlaced (S.pages source.old) S.frames
+    ensures ok { S.reads_right source.old → S.tells_right → OnOk result (IsTurnPlaced (S.pages source.old) S.frames
         form own object.now (W.contents out.old) (W.contents out.new)) }
-    ensures err { S.gives_pages source.old → S.tells_right → IfErr result (λ stop. IsTableOf own object.now
+    ensures err { S.reads_right source.old → S.tells_right → IfErr result (λ stop. IsTableOf own object.now
         × IsTableStopped (S.pages source.old) S.frames form object.now stop
         (W.contents out.old) (W.contents out.new)) }
+    ensures unread { IfErr result (λ stop. IsUnreadStop stop → ¬ S.gives_pages source.old) }
     ensures keeps { KeepsPages S.pages S.size S.reads_right S.gives_pages source.old source.new }
 {
     if is_table_of(own, object) {
@@ -55,10 +57,11 @@ fn print_turn<S: Framed, W: Write>(
     form: Form,
     out: &mut W,
 ) -> Result<(), Stop>
-    ensures ok { S.gives_pages source.old → S.tells_right → OnOk result (AreTurnsPlaced (S.pages source.old) S.frames
+    ensures ok { S.reads_right source.old → S.tells_right → OnOk result (AreTurnsPlaced (S.pages source.old) S.frames
         form own objects.now (W.contents out.old) (W.contents out.new)) }
-    ensures err { S.gives_pages source.old → S.tells_right → IfErr result (λ stop. IsTurnStopped
+    ensures err { S.reads_right source.old → S.tells_right → IfErr result (λ stop. IsTurnStopped
         (S.pages source.old) S.frames form own objects.now stop (W.contents out.old) (W.contents out.new)) }
+    ensures unread { IfErr result (λ stop. IsUnreadStop stop → ¬ S.gives_pages source.old) }
     ensures keeps { KeepsPages S.pages S.size S.reads_right S.gives_pages source.old source.new }
 {
     for object in objects {
@@ -78,10 +81,11 @@ fn print_objects<S: Framed, W: Write>(
     style: Style,
     out: &mut W,
 ) -> Result<(), Stop>
-    ensures ok { S.gives_pages source.old → S.tells_right → OnOk result (AreObjectsPlaced (S.pages source.old) S.frames
+    ensures ok { S.reads_right source.old → S.tells_right → OnOk result (AreObjectsPlaced (S.pages source.old) S.frames
         style objects.now (W.contents out.old) (W.contents out.new)) }
-    ensures err { S.gives_pages source.old → S.tells_right → IfErr result (λ stop. AreObjectsStopped
+    ensures err { S.reads_right source.old → S.tells_right → IfErr result (λ stop. AreObjectsStopped
         (S.pages source.old) S.frames style objects.now stop (W.contents out.old) (W.contents out.new)) }
+    ensures unread { IfErr result (λ stop. IsUnreadStop stop → ¬ S.gives_pages source.old) }
     ensures keeps { KeepsPages S.pages S.size S.reads_right S.gives_pages source.old source.new }
 {
     let form = Form {
@@ -113,10 +117,11 @@ pub(crate) fn print_tables<S: Framed, W: Write>(
     style: Style,
     out: &mut W,
 ) -> Result<(), Stop>
-    ensures ok { S.gives_pages source.old → S.tells_right → OnOk result (AreTablesPlaced (S.pages source.old) S.frames
+    ensures ok { S.reads_right source.old → S.tells_right → OnOk result (AreTablesPlaced (S.pages source.old) S.frames
         style (W.contents out.old) (W.contents out.new)) }
-    ensures err { S.gives_pages source.old → S.tells_right → IfErr result (λ stop. AreTablesStopped
+    ensures err { S.reads_right source.old → S.tells_right → IfErr result (λ stop. AreTablesStopped
         (S.pages source.old) S.frames style stop (W.contents out.old) (W.contents out.new)) }
+    ensures unread { IfErr result (λ stop. IsUnreadStop stop → ¬ S.gives_pages source.old) }
     ensures keeps { KeepsPages S.pages S.size S.reads_right S.gives_pages source.old source.new }
 {
     let schema = match listed(alloc, source) {
@@ -137,10 +142,11 @@ pub(crate) fn print_named<S: Framed, W: Write>(
     style: Style,
     out: &mut W,
 ) -> Result<(), Stop>
-    ensures ok { S.gives_pages source.old → S.tells_right → OnOk result (IsNamedPlaced (S.pages source.old) S.frames
+    ensures ok { S.reads_right source.old → S.tells_right → OnOk result (IsNamedPlaced (S.pages source.old) S.frames
         style name.now (W.contents out.old) (W.contents out.new)) }
-    ensures err { S.gives_pages source.old → S.tells_right → IfErr result (λ stop. IsNamedStopped
+    ensures err { S.reads_right source.old → S.tells_right → IfErr result (λ stop. IsNamedStopped
         (S.pages source.old) S.frames style name.now stop (W.contents out.old) (W.contents out.new)) }
+    ensures unread { IfErr result (λ stop. IsUnreadStop stop → ¬ S.gives_pages source.old) }
     ensures keeps { KeepsPages S.pages S.size S.reads_right S.gives_pages source.old source.new }
 {
     let form = Form {

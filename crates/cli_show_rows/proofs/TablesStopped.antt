@@ -9,23 +9,25 @@ use Rattle.sqval.specs.Record.{most_bytes}
 use Rattle.sqrows.specs.declared.rows.RowsError.{RowsError}
 use Rattle.sqrows.specs.declared.rows.RowsError.TheVariants as row_errors
 use Rattle.sqrows.specs.declared.payload.PayloadError.TheVariants as payload_errors
+use Rattle.sqrows.specs.RowCursor.{IsUnreadRow}
 use Rattle.sqrows.specs.Stops.{RowRefused}
 use Rattle.sqrows.proofs.PassedRows.{tree_fault}
 use Rattle.sqtables.specs.declared.columns.Columns.{Columns}
 use Rattle.sqtables.specs.declared.list.ListError.{ListError}
 use Rattle.sqtables.specs.declared.list.ListError.TheVariants as list_errors
 use Rattle.sqtables.specs.declared.list.Object.{Object}
-use Rattle.sqtables.specs.Objects.{IsTableNamed, ListRefused}
+use Rattle.sqtables.specs.Objects.{IsTableNamed, IsUnreadList, ListRefused}
 use Rattle.cli_row_text.specs.declared.form.Form.{Form}
 use Rattle.cli_row_text.specs.declared.form.Notation.{Notation}
 use Rattle.cli_row_text.specs.declared.print.PrintError.{PrintError}
 use Rattle.cli_row_text.specs.declared.print.PrintError.TheVariants as print_errors
-use Rattle.cli_row_text.specs.Printed.{IsPrintedUntil, PrintRefused, WrittenUntil}
+use Rattle.cli_row_text.specs.Printed.{IsPrintedUntil, IsUnreadPrint, PrintRefused, WrittenUntil}
 use Rattle.cli_show_rows.specs.declared.stop.Stop.{Stop}
+use Rattle.cli_show_rows.specs.declared.stop.Stop.TheVariants as stops
 use Rattle.cli_show_rows.specs.Dumps.{AreCounting, first_text, form_in, settings_text}
 use Rattle.cli_show_rows.specs.Schemas.{AreColumnsIn, HasObjectsRead}
 use Rattle.cli_show_rows.specs.Tables.{IsInsert, IsNameFor, leads_in}
-use Rattle.cli_show_rows.specs.Stops.{AreObjectsStopped, AreTablesStopped, IsBegun, IsEnded, IsHeadedStopped, IsNamedStopped, IsStopTold, StopsAt, SchemaRefused}
+use Rattle.cli_show_rows.specs.Stops.{AreObjectsStopped, AreTablesStopped, IsBegun, IsEnded, IsHeadedStopped, IsNamedStopped, IsStopTold, IsUnreadStop, IsWriteError, StopsAt, SchemaRefused}
 use Rattle.cli_show_rows.specs.Stops.{WrittenUntil as StoppedUntil}
 use Rattle.cli_show_rows.specs.internal.Stopping.{stop_of_row, stop_of_print, stop_of_list}
 
@@ -65,6 +67,46 @@ print_written print_errors.NoMemory before after t h = h
 print_written print_errors.Default before after t h = h
 print_written print_errors.Behind before after t h = h
 print_written (print_errors.Write e) before after t h = tt
+
+-- that a page couldn't be read, as it is told
+unread_row : (e : RowsError) → IsUnreadStop (stop_of_row e) → IsUnreadRow e
+unread_row (row_errors.Tree e) is = is
+unread_row (row_errors.Payload (payload_errors.Chain e)) is = is
+unread_row (row_errors.Payload payload_errors.TooLong) none = none
+
+pub unread_print : (e : PrintError) → IsUnreadStop (stop_of_print e) → IsUnreadPrint e
+unread_print (print_errors.Tree e) is = is
+unread_print (print_errors.Row e) is = unread_row e is
+unread_print (print_errors.Record e) none = none
+unread_print print_errors.NoMemory none = none
+unread_print print_errors.Default none = none
+unread_print print_errors.Behind none = none
+unread_print (print_errors.Write e) none = none
+
+pub unread_list : (e : ListError) → IsUnreadStop (stop_of_list e) → IsUnreadList e
+unread_list (list_errors.Tree e) is = is
+unread_list (list_errors.Row e) is = unread_row e is
+unread_list (list_errors.Record e) none = none
+unread_list list_errors.NoMemory none = none
+
+-- The writer's failure isn't that.
+write_read : (stop : Stop) → IsWriteError stop → ¬ IsUnreadStop stop
+write_read (stops.Fault e) w = absurd w
+write_read (stops.Record e) w = absurd w
+write_read stops.TooLong w = absurd w
+write_read stops.NotUnderstood w = absurd w
+write_read stops.Default w = absurd w
+write_read stops.Behind w = absurd w
+write_read stops.Encoding w = absurd w
+write_read stops.NotNamed w = absurd w
+write_read (stops.LeftOut n) w = absurd w
+write_read stops.NoSuchTable w = absurd w
+write_read stops.NoMemory w = absurd w
+write_read (stops.Write e) w = λ none. none
+
+pub ended_unread : (told : Option (List ℕ) → Option (List ℕ) → Type 0) (stop ended : Stop) (before after : Option (List ℕ)) → IsEnded told stop ended before after → IsUnreadStop ended → IsUnreadStop stop
+ended_unread told stop ended before after (inl w) is = absurd (write_read ended w is)
+ended_unread told stop ended before after (inr w) is = subst IsUnreadStop w.0 is
 
 -- the rows of a table, printed until the stop
 pub begun : (d : Database) (table : Object) (form : Form) (columns : Columns) (rowid : Option (List ℕ)) (insert : List ℕ) (leads : Bool) (e : PrintError) (stop : Stop) (before after : Option (List ℕ))

@@ -6,6 +6,7 @@ use Rattle.std.specs.Prelude.{All}
 use Rattle.sqval.specs.Bytes.{word}
 use Rattle.sqval.specs.Database.{Database, page}
 use Rattle.sqval.specs.Record.{most_bytes}
+use Rattle.sqpage.specs.declared.fault.Fault.TheVariants as faults
 use Rattle.sqrows.specs.Rows.{Row}
 use Rattle.sqrows.specs.RowCursor.{IsAbove}
 use Rattle.sqrows.specs.Stops.{ComeFirst, HoldsAt, IsNoRecord, FaultAt}
@@ -31,7 +32,7 @@ abbrev pub WrittenUntil : Stop → (before after : Option (List ℕ)) → List �
 WrittenUntil (Write e) before after t = Unit {0}
 WrittenUntil _ before after t = Appends before after t
 
--- Why row k of a table with these columns isn't printed: the tree isn't sound there, the row has no payload, a longer one than
+-- Why row k of a table with these columns isn't printed: a page couldn't be read, the tree isn't sound there, the row has no payload, a longer one than
 -- 1 GiB or no record, it lacks a column whose default isn't known, or has one that an INSERT can't name; or memory ran out, or
 -- the writer failed.
 abbrev pub StopsAt : Database → (root : ℕ) → Form → Columns → (k : ℕ) → Stop → Type 0
@@ -43,6 +44,11 @@ StopsAt d root form columns k Behind = (form.notation ≡ Sql) × HoldsAt d root
 StopsAt d root form columns k NoMemory = Unit {0}
 StopsAt d root form columns k (Write e) = Unit {0}
 StopsAt d root form columns k _ = ⊥
+
+-- A page couldn't be read.
+abbrev pub IsUnreadStop : Stop → Type 0
+IsUnreadStop (Fault e) = e.fault ≡ faults.Source
+IsUnreadStop _ = ⊥
 
 -- The lines of the first rows of a table were written, under the names of its columns, and why not those of the others.
 pub record IsBegun (d : Database) (table : Object) (form : Form) (stop : Stop) (before after : Option (List ℕ)) : Type 0 where
@@ -101,7 +107,7 @@ IsHeadedStopped d table form stop before after =
     ⊎ ((columns : Columns) × (mid : Option (List ℕ)) × AreColumnsIn form.encoding table.sql.items columns
     × Appends before mid (heading_text form.notation table.name.items (map (λ n. n.items) columns.names.items)) × IsTableStopped d table form stop mid after)
 
--- Why the objects of a database aren't listed: the schema's tree isn't sound, a row of it has no payload, a longer one than
+-- Why the objects of a database aren't listed: a page couldn't be read, the schema's tree isn't sound, a row of it has no payload, a longer one than
 -- 1 GiB or no record, or the encoding of its texts isn't known; or memory ran out.
 abbrev pub SchemaRefused : Database → Stop → Type 0
 SchemaRefused d (Fault e) = (k : ℕ) × FaultAt d 1 k e

@@ -11,7 +11,7 @@ ghost use Rattle.cli_show_rows.specs.Dumps.{encoding_text, first_text, is_intern
 ghost use Rattle.cli_show_rows.specs.Dumps.{is_sequence as is_counter, settings, settings_text, start_text, title_text};
 ghost use Rattle.cli_show_rows.specs.declared.dump.Turn.{Turn};
 ghost use Rattle.cli_show_rows.specs.Stops.{AreLateStopped, AreObjectsStopped, AreRowsStopped, AreTablesStopped};
-ghost use Rattle.cli_show_rows.specs.Stops.{IsMadeStopped, IsNamedStopped};
+ghost use Rattle.cli_show_rows.specs.Stops.{IsMadeStopped, IsNamedStopped, IsUnreadStop};
 ghost use Rattle.cli_show_rows.specs.Stops.{IsEnded, IsObjectStopped, IsStopTold, IsTurnStopped, IsUnheaded};
 ghost use Rattle.cli_show_rows.specs.internal.Stopping.{IsCounted};
 ghost use Rattle.cli_show_rows.specs.Strays.{bytes_of};
@@ -198,10 +198,11 @@ fn print_rows_of<S: PageSource, W: Write>(
     form: Form,
     out: &mut W,
 ) -> Result<(), Stop>
-    ensures ok { S.gives_pages source.old → OnOk result (AreRowsPrinted (S.pages source.old) form table.now
+    ensures ok { S.reads_right source.old → OnOk result (AreRowsPrinted (S.pages source.old) form table.now
         (W.contents out.old) (W.contents out.new)) }
-    ensures err { S.gives_pages source.old → IfErr result (λ stop. AreRowsStopped (S.pages source.old) form
+    ensures err { S.reads_right source.old → IfErr result (λ stop. AreRowsStopped (S.pages source.old) form
         table.now stop (W.contents out.old) (W.contents out.new)) }
+    ensures unread { IfErr result (λ stop. IsUnreadStop stop → ¬ S.gives_pages source.old) }
     ensures keeps { KeepsPages S.pages S.size S.reads_right S.gives_pages source.old source.new }
 {
     let Ok(unread) = is_unread_in(alloc, form.notation, table) else {
@@ -225,10 +226,11 @@ fn print_made<S: PageSource, W: Write>(
     form: Form,
     out: &mut W,
 ) -> Result<(), Stop>
-    ensures ok { S.gives_pages source.old → OnOk result (IsMadePrinted (S.pages source.old) form made table.now
+    ensures ok { S.reads_right source.old → OnOk result (IsMadePrinted (S.pages source.old) form made table.now
         (W.contents out.old) (W.contents out.new)) }
-    ensures err { S.gives_pages source.old → IfErr result (λ stop. IsMadeStopped (S.pages source.old) form made
+    ensures err { S.reads_right source.old → IfErr result (λ stop. IsMadeStopped (S.pages source.old) form made
         table.now stop (W.contents out.old) (W.contents out.new)) }
+    ensures unread { IfErr result (λ stop. IsUnreadStop stop → ¬ S.gives_pages source.old) }
     ensures keeps { KeepsPages S.pages S.size S.reads_right S.gives_pages source.old source.new }
 {
     match print_before(alloc, form, made, table, out) {
@@ -284,10 +286,11 @@ fn print_taken<S: PageSource, W: Write>(
     form: Form,
     out: &mut W,
 ) -> Result<(), Stop>
-    ensures ok { S.gives_pages source.old → OnOk result (IsObjectPrinted (S.pages source.old) form turn object.now
+    ensures ok { S.reads_right source.old → OnOk result (IsObjectPrinted (S.pages source.old) form turn object.now
         (W.contents out.old) (W.contents out.new)) }
-    ensures err { S.gives_pages source.old → IfErr result (λ stop. IsObjectStopped (S.pages source.old) form turn
+    ensures err { S.reads_right source.old → IfErr result (λ stop. IsObjectStopped (S.pages source.old) form turn
         object.now stop (W.contents out.old) (W.contents out.new)) }
+    ensures unread { IfErr result (λ stop. IsUnreadStop stop → ¬ S.gives_pages source.old) }
     ensures keeps { KeepsPages S.pages S.size S.reads_right S.gives_pages source.old source.new }
 {
     match turn {
@@ -307,10 +310,11 @@ fn print_object<S: PageSource, W: Write>(
     form: Form,
     out: &mut W,
 ) -> Result<(), Stop>
-    ensures ok { S.gives_pages source.old → OnOk result (IsTurnTaken (S.pages source.old) form turn object.now
+    ensures ok { S.reads_right source.old → OnOk result (IsTurnTaken (S.pages source.old) form turn object.now
         (W.contents out.old) (W.contents out.new)) }
-    ensures err { S.gives_pages source.old → IfErr result (λ stop. IsInTurn turn object.now × IsObjectStopped
+    ensures err { S.reads_right source.old → IfErr result (λ stop. IsInTurn turn object.now × IsObjectStopped
         (S.pages source.old) form turn object.now stop (W.contents out.old) (W.contents out.new)) }
+    ensures unread { IfErr result (λ stop. IsUnreadStop stop → ¬ S.gives_pages source.old) }
     ensures keeps { KeepsPages S.pages S.size S.reads_right S.gives_pages source.old source.new }
 {
     if is_in_turn(object, turn) {
@@ -329,10 +333,11 @@ fn print_turn<S: PageSource, W: Write>(
     form: Form,
     out: &mut W,
 ) -> Result<(), Stop>
-    ensures ok { S.gives_pages source.old → OnOk result (AreTurnsTaken (S.pages source.old) form turn objects.now
+    ensures ok { S.reads_right source.old → OnOk result (AreTurnsTaken (S.pages source.old) form turn objects.now
         (W.contents out.old) (W.contents out.new)) }
-    ensures err { S.gives_pages source.old → IfErr result (λ stop. IsTurnStopped (S.pages source.old) form turn
+    ensures err { S.reads_right source.old → IfErr result (λ stop. IsTurnStopped (S.pages source.old) form turn
         objects.now stop (W.contents out.old) (W.contents out.new)) }
+    ensures unread { IfErr result (λ stop. IsUnreadStop stop → ¬ S.gives_pages source.old) }
     ensures keeps { KeepsPages S.pages S.size S.reads_right S.gives_pages source.old source.new }
 {
     for object in objects {
@@ -352,10 +357,11 @@ fn print_committed<S: PageSource, W: Write>(
     form: Form,
     out: &mut W,
 ) -> Result<(), Stop>
-    ensures ok { S.gives_pages source.old → OnOk result (AreRowsCommitted (S.pages source.old) form of.entry.1
+    ensures ok { S.reads_right source.old → OnOk result (AreRowsCommitted (S.pages source.old) form of.entry.1
         of.entry.0.now (W.contents out.old) (W.contents out.new)) }
-    ensures err { S.gives_pages source.old → IfErr result (λ stop. AreObjectsStopped (S.pages source.old) form
+    ensures err { S.reads_right source.old → IfErr result (λ stop. AreObjectsStopped (S.pages source.old) form
         of.entry.1 of.entry.0.now stop (W.contents out.old) (W.contents out.new)) }
+    ensures unread { IfErr result (λ stop. IsUnreadStop stop → ¬ S.gives_pages source.old) }
     ensures keeps { KeepsPages S.pages S.size S.reads_right S.gives_pages source.old source.new }
 {
     let (objects, counting) = of;
@@ -381,10 +387,11 @@ fn print_late<S: PageSource, W: Write>(
     form: Form,
     out: &mut W,
 ) -> Result<(), Stop>
-    ensures ok { S.gives_pages source.old → OnOk result (AreLatePrinted (S.pages source.old) form objects.now
+    ensures ok { S.reads_right source.old → OnOk result (AreLatePrinted (S.pages source.old) form objects.now
         (W.contents out.old) (W.contents out.new)) }
-    ensures err { S.gives_pages source.old → IfErr result (λ stop. AreLateStopped (S.pages source.old) form
+    ensures err { S.reads_right source.old → IfErr result (λ stop. AreLateStopped (S.pages source.old) form
         objects.now stop (W.contents out.old) (W.contents out.new)) }
+    ensures unread { IfErr result (λ stop. IsUnreadStop stop → ¬ S.gives_pages source.old) }
     ensures keeps { KeepsPages S.pages S.size S.reads_right S.gives_pages source.old source.new }
 {
     match print_turn(alloc, source, objects, Turn::Indexes, form, out) {
@@ -410,10 +417,11 @@ fn print_objects<S: PageSource, W: Write>(
     form: Form,
     out: &mut W,
 ) -> Result<(), Stop>
-    ensures ok { S.gives_pages source.old → OnOk result (AreObjectsPrinted (S.pages source.old) form of.entry.1
+    ensures ok { S.reads_right source.old → OnOk result (AreObjectsPrinted (S.pages source.old) form of.entry.1
         of.entry.0.now (W.contents out.old) (W.contents out.new)) }
-    ensures err { S.gives_pages source.old → IfErr result (λ stop. AreObjectsStopped (S.pages source.old) form
+    ensures err { S.reads_right source.old → IfErr result (λ stop. AreObjectsStopped (S.pages source.old) form
         of.entry.1 of.entry.0.now stop (W.contents out.old) (W.contents out.new)) }
+    ensures unread { IfErr result (λ stop. IsUnreadStop stop → ¬ S.gives_pages source.old) }
     ensures keeps { KeepsPages S.pages S.size S.reads_right S.gives_pages source.old source.new }
 {
     match print_committed(alloc, source, of, form, out) {
@@ -482,11 +490,13 @@ pub fn print_tables<S: PageSource, W: Write>(
     notation: Notation,
     out: &mut W,
 ) -> Result<(), Stop>
-    ensures ok { S.gives_pages source.old → OnOk result (AreTablesPrinted (S.pages source.old) notation
+    ensures ok { S.reads_right source.old → OnOk result (AreTablesPrinted (S.pages source.old) notation
         (W.contents out.old) (W.contents out.new)) }
     // What was printed is what comes first, and this is why what comes next isn't.
-    ensures err { S.gives_pages source.old → IfErr result (λ stop. AreTablesStopped (S.pages source.old) notation stop
+    ensures err { S.reads_right source.old → IfErr result (λ stop. AreTablesStopped (S.pages source.old) notation stop
         (W.contents out.old) (W.contents out.new)) }
+    // That a page couldn't be read is told only where a read failed.
+    ensures unread { IfErr result (λ stop. IsUnreadStop stop → ¬ S.gives_pages source.old) }
     ensures keeps { KeepsPages S.pages S.size S.reads_right S.gives_pages source.old source.new }
 {
     let schema = match listed(alloc, source) {
@@ -525,10 +535,12 @@ pub fn print_named<S: PageSource, W: Write>(
     notation: Notation,
     out: &mut W,
 ) -> Result<(), Stop>
-    ensures ok { S.gives_pages source.old → OnOk result (IsNamedPrinted (S.pages source.old) name.now notation
+    ensures ok { S.reads_right source.old → OnOk result (IsNamedPrinted (S.pages source.old) name.now notation
         (W.contents out.old) (W.contents out.new)) }
-    ensures err { S.gives_pages source.old → IfErr result (λ stop. IsNamedStopped (S.pages source.old) name.now notation
+    ensures err { S.reads_right source.old → IfErr result (λ stop. IsNamedStopped (S.pages source.old) name.now notation
         stop (W.contents out.old) (W.contents out.new)) }
+    // That a page couldn't be read is told only where a read failed.
+    ensures unread { IfErr result (λ stop. IsUnreadStop stop → ¬ S.gives_pages source.old) }
     ensures keeps { KeepsPages S.pages S.size S.reads_right S.gives_pages source.old source.new }
 {
     let schema = match listed(alloc, source) {

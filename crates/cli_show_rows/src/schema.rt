@@ -5,7 +5,7 @@ ghost use Rattle.sqval.specs.Database.{page};
 ghost use Rattle.sqpage.specs.Source.{KeepsPages};
 ghost use Rattle.sqdeep.specs.Records.{encoding_of};
 ghost use Rattle.cli_show_rows.specs.Schemas.{AreObjectsRead, HasObjectsRead, IsObjectRead};
-ghost use Rattle.cli_show_rows.specs.Stops.{SchemaRefused};
+ghost use Rattle.cli_show_rows.specs.Stops.{IsUnreadStop, SchemaRefused};
 ghost use Rattle.cli_show_rows.specs.Strays.{HasStrays, bytes_of};
 
 use crate::stop::Stop;
@@ -39,8 +39,9 @@ fn number_in(bytes: &[u8]) -> u32
 
 /// The number of the encoding of a database.
 fn number_of<S: PageSource>(alloc: Global, source: &mut S) -> Result<u32, Stop>
-    ensures ok { S.gives_pages source.old → IfOk result (λ n. n ≡ word (page (S.pages source.old) 1) 56) }
-    ensures err { S.gives_pages source.old → IfErr result (SchemaRefused (S.pages source.old)) }
+    ensures ok { S.reads_right source.old → IfOk result (λ n. n ≡ word (page (S.pages source.old) 1) 56) }
+    ensures err { S.reads_right source.old → IfErr result (SchemaRefused (S.pages source.old)) }
+    ensures unread { IfErr result (λ stop. IsUnreadStop stop → ¬ S.gives_pages source.old) }
     ensures keeps { KeepsPages S.pages S.size S.reads_right S.gives_pages source.old source.new }
 {
     if source.count() == 0 {
@@ -64,9 +65,10 @@ fn number_of<S: PageSource>(alloc: Global, source: &mut S) -> Result<u32, Stop>
 
 /// The encoding of a database. Refused by `Encoding` where it isn't known.
 fn encoding_of<S: PageSource>(alloc: Global, source: &mut S) -> Result<Encoding, Stop>
-    ensures ok { S.gives_pages source.old → IfOk result (λ encoding. (encoding ≡ encoding_of (S.pages source.old))
+    ensures ok { S.reads_right source.old → IfOk result (λ encoding. (encoding ≡ encoding_of (S.pages source.old))
         × (word (page (S.pages source.old) 1) 56 ≤ 3)) }
-    ensures err { S.gives_pages source.old → IfErr result (SchemaRefused (S.pages source.old)) }
+    ensures err { S.reads_right source.old → IfErr result (SchemaRefused (S.pages source.old)) }
+    ensures unread { IfErr result (λ stop. IsUnreadStop stop → ¬ S.gives_pages source.old) }
     ensures keeps { KeepsPages S.pages S.size S.reads_right S.gives_pages source.old source.new }
 {
     let number = match number_of(alloc, source) {
@@ -111,12 +113,14 @@ fn read_objects(
 /// The objects of a database. Refused by the faults of the schema, and by `Encoding` where the encoding of its texts
 /// isn't known.
 pub fn listed<S: PageSource>(alloc: Global, source: &mut S) -> Result<Schema, Stop>
-    ensures ok { S.gives_pages source.old → IfOk result (λ schema.
+    ensures ok { S.reads_right source.old → IfOk result (λ schema.
         HasObjectsRead (S.pages source.old) schema.objects.items
         × (schema.encoding ≡ encoding_of (S.pages source.old)) × (word (page (S.pages source.old) 1) 56 ≤ 3)) }
-    ensures strays { S.gives_pages source.old → IfOk result (λ schema.
+    ensures strays { S.reads_right source.old → IfOk result (λ schema.
         HasStrays (S.pages source.old) (encoding_of (S.pages source.old)) (bytes_of schema.strays.items)) }
-    ensures err { S.gives_pages source.old → IfErr result (SchemaRefused (S.pages source.old)) }
+    ensures err { S.reads_right source.old → IfErr result (SchemaRefused (S.pages source.old)) }
+    // That a page couldn't be read is told only where a read failed.
+    ensures unread { IfErr result (λ stop. IsUnreadStop stop → ¬ S.gives_pages source.old) }
     ensures keeps { KeepsPages S.pages S.size S.reads_right S.gives_pages source.old source.new }
 {
     let encoding = match encoding_of(alloc, source) {

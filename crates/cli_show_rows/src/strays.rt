@@ -4,7 +4,7 @@ ghost use Rattle.std.specs.Prelude.{false, pos, slice_get};
 ghost use Rattle.sqval.specs.Datum.{integer, null, text};
 ghost use Rattle.sqpage.specs.Source.{KeepsPages};
 ghost use Rattle.sqrows.specs.Cursor.{IsOver};
-ghost use Rattle.sqtables.specs.Objects.{IsNoObject, ListRefused};
+ghost use Rattle.sqtables.specs.Objects.{IsNoObject, IsUnreadList, ListRefused};
 ghost use Rattle.sqtables.specs.Schema.{IsObjectRow};
 ghost use Rattle.sqtables.specs.internal.Listing.{NextRefused};
 ghost use Rattle.cli_show_rows.specs.Strays.{HasStrays, IsKeyIndex, IsStray, bytes_of, index_word, stray_bytes};
@@ -165,13 +165,14 @@ fn take_next<S: PageSource>(
     strays: &mut Vec<Vec<u8>>,
 ) -> Result<bool, ListError>
     requires sized { S.size source.old ≡ rows.old.cells.size }
-    ensures ok { S.gives_pages source.old → IsOver (S.pages source.old) rows.old.cells → IfOk result (λ found.
+    ensures ok { S.reads_right source.old → IsOver (S.pages source.old) rows.old.cells → IfOk result (λ found.
         TakesStray (S.pages source.old) encoding found rows.old rows.new (bytes_of strays.old.items)
         (bytes_of strays.new.items)) }
-    ensures err { S.gives_pages source.old → IsOver (S.pages source.old) rows.old.cells
+    ensures err { S.reads_right source.old → IsOver (S.pages source.old) rows.old.cells
         → IfErr result (NextRefused (S.pages source.old) rows.old) }
     ensures size { (rows.new.cells.size ≡ rows.old.cells.size) × (rows.new.cells.usable ≡ rows.old.cells.usable)
         × (rows.new.limit ≡ rows.old.limit) }
+    ensures unread { IfErr result (λ e. IsUnreadList e → ¬ S.gives_pages source.old) }
     ensures keeps { KeepsPages S.pages S.size S.reads_right S.gives_pages source.old source.new }
 {
     match rows.advance(source) {
@@ -194,9 +195,10 @@ pub(crate) fn strays_of<S: PageSource>(
     source: &mut S,
     encoding: Encoding,
 ) -> Result<Vec<Vec<u8>>, ListError>
-    ensures ok { S.gives_pages source.old
+    ensures ok { S.reads_right source.old
         → IfOk result (λ strays. HasStrays (S.pages source.old) encoding (bytes_of strays.items)) }
-    ensures err { S.gives_pages source.old → IfErr result (ListRefused (S.pages source.old)) }
+    ensures err { S.reads_right source.old → IfErr result (ListRefused (S.pages source.old)) }
+    ensures unread { IfErr result (λ e. IsUnreadList e → ¬ S.gives_pages source.old) }
     ensures keeps { KeepsPages S.pages S.size S.reads_right S.gives_pages source.old source.new }
 {
     let mut strays = Vec::new(alloc);

@@ -7,7 +7,7 @@ ghost use Rattle.cli_row_text.specs.Inserts.{rowid_name as rowid_named};
 ghost use Rattle.cli_show_rows.specs.Tables.{IsInsert, IsNameFor, IsTablePrinted, has_column as has_named};
 ghost use Rattle.cli_show_rows.specs.Tables.{are_unnamed, has_rowids, is_named_in, leads_in};
 ghost use Rattle.cli_row_text.specs.declared.form.Notation.{Notation};
-ghost use Rattle.cli_show_rows.specs.Stops.{IsTableStopped};
+ghost use Rattle.cli_show_rows.specs.Stops.{IsUnreadStop, IsTableStopped};
 ghost use Rattle.cli_show_rows.specs.declared.stop.Stop.{Stop};
 
 use crate::columns::known_columns;
@@ -141,11 +141,13 @@ pub fn print_table<S: PageSource, W: Write>(
     out: &mut W,
 ) -> Result<(), Stop>
     // What is written are the lines of the table's rows in the database, each once and in order.
-    ensures ok { S.gives_pages source.old → OnOk result (IsTablePrinted (S.pages source.old) table.now form
+    ensures ok { S.reads_right source.old → OnOk result (IsTablePrinted (S.pages source.old) table.now form
         (W.contents out.old) (W.contents out.new)) }
     // The lines of the first rows were written, and this is why the next one's isn't; or why nothing was written.
-    ensures err { S.gives_pages source.old → IfErr result (λ stop. IsTableStopped (S.pages source.old) table.now form
+    ensures err { S.reads_right source.old → IfErr result (λ stop. IsTableStopped (S.pages source.old) table.now form
         stop (W.contents out.old) (W.contents out.new)) }
+    // That a page couldn't be read is told only where a read failed.
+    ensures unread { IfErr result (λ stop. IsUnreadStop stop → ¬ S.gives_pages source.old) }
     ensures keeps { KeepsPages S.pages S.size S.reads_right S.gives_pages source.old source.new }
 {
     let columns = match known_columns(alloc, table, form.encoding) {

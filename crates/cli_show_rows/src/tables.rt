@@ -2,7 +2,7 @@
 ghost use Rattle.std.specs.Prelude.{OnOk, IfErr};
 ghost use Rattle.sqpage.specs.Source.{KeepsPages};
 ghost use Rattle.cli_show_rows.specs.Tables.{IsHeadedPrinted};
-ghost use Rattle.cli_show_rows.specs.Stops.{IsHeadedStopped};
+ghost use Rattle.cli_show_rows.specs.Stops.{IsUnreadStop, IsHeadedStopped};
 
 use crate::columns::known_columns;
 use crate::stop::Stop;
@@ -22,10 +22,12 @@ pub fn print_headed<S: PageSource, W: Write>(
     form: Form,
     out: &mut W,
 ) -> Result<(), Stop>
-    ensures ok { S.gives_pages source.old → OnOk result (IsHeadedPrinted (S.pages source.old) table.now form
+    ensures ok { S.reads_right source.old → OnOk result (IsHeadedPrinted (S.pages source.old) table.now form
         (W.contents out.old) (W.contents out.new)) }
-    ensures err { S.gives_pages source.old → IfErr result (λ stop. IsHeadedStopped (S.pages source.old) table.now form
+    ensures err { S.reads_right source.old → IfErr result (λ stop. IsHeadedStopped (S.pages source.old) table.now form
         stop (W.contents out.old) (W.contents out.new)) }
+    // That a page couldn't be read is told only where a read failed.
+    ensures unread { IfErr result (λ stop. IsUnreadStop stop → ¬ S.gives_pages source.old) }
     ensures keeps { KeepsPages S.pages S.size S.reads_right S.gives_pages source.old source.new }
 {
     let columns = match known_columns(alloc, table, form.encoding) {

@@ -12,7 +12,7 @@ use Rattle.sqindex.specs.declared.error.ReadError.{ReadError}
 use Rattle.sqindex.specs.declared.error.ReadError.TheVariants.{Tree, TooLong, OtherKind, RowidOrder, NoMemory}
 use Rattle.sqindex.specs.declared.error.IndexError.{IndexError}
 use Rattle.sqindex.specs.declared.error.IndexError.TheVariants as indexes
-use Rattle.sqindex.specs.Indexes.{ReadRefused, NoEntries, HasLongCell}
+use Rattle.sqindex.specs.Indexes.{ReadRefused, NoEntries, HasLongCell, IsUnreadTree, IsUnreadIndex}
 use Rattle.sqindex.specs.declared.error.EntryError.{EntryError}
 use Rattle.sqcontents.specs.declared.error.ContentsError.{ContentsError}
 use Rattle.sqcontents.specs.declared.error.ContentsError.TheVariants as contents
@@ -39,7 +39,7 @@ index_with d xs x y numbers key table index are of two three keyed rooted placed
 
 -- a table that isn't read, by no lack of memory, has no rows in order, or one that is too long
 pub unread_table : (d : Database) (table limit : ℕ) (none : Type 0) (e : ReadError) → ReadRefused d table limit none e → IsUnsound e → none ⊎ HasLongCell d table limit
-unread_table d table limit none (Tree e) refused unsound = inl (refused.1 unsound.1)
+unread_table d table limit none (Tree e) refused unsound = inl (refused unsound.0 unsound.1)
 unread_table d table limit none TooLong refused unsound = inr refused
 unread_table d table limit none OtherKind refused unsound = inl refused
 unread_table d table limit none RowidOrder refused unsound = inl refused
@@ -86,7 +86,7 @@ unjudged_by d xs limit x y (Entries entry) table index indexes.TooLarge with ref
 unjudged_by d xs limit x y key table index (indexes.Entry e) with refused by = absurd by
 
 pub unread_error : (d : Database) (xs : List Item) (root limit : ℕ) (none : Type 0) (e : ReadError) (error : ContentsError) → ReadRefused d root limit none e → IsRefusedBy e error → ContentsRefused d xs error
-unread_error d xs root limit none (Tree e) contents.Source refused by = absurd (refused.0 by)
+unread_error d xs root limit none (Tree e) contents.Source refused by = tt
 unread_error d xs root limit none TooLong contents.Source refused by = absurd by
 unread_error d xs root limit none OtherKind contents.Source refused by = absurd by
 unread_error d xs root limit none RowidOrder contents.Source refused by = absurd by
@@ -102,6 +102,27 @@ unread_error d xs root limit none TooLong (contents.Content f) refused by = absu
 unread_error d xs root limit none OtherKind (contents.Content f) refused by = absurd by
 unread_error d xs root limit none RowidOrder (contents.Content f) refused by = absurd by
 unread_error d xs root limit none NoMemory (contents.Content f) refused by = absurd by
+
+-- That a page couldn't be read is answered of a tree of which one couldn't.
+source_by : (e : ReadError) → IsRefusedBy e contents.Source → IsUnreadTree e
+source_by (Tree e) by = by
+source_by TooLong by = by
+source_by OtherKind by = by
+source_by RowidOrder by = by
+source_by NoMemory by = by
+
+pub unread_by : (e : ReadError) (error : ContentsError) → IsRefusedBy e error → error ≡ contents.Source → IsUnreadTree e
+unread_by e error by is = source_by e (subst (IsRefusedBy e) is by)
+
+index_unread : (e : IndexError) (row : ℕ) (error : ContentsError) → IsErrorBy e row error → error ≡ contents.Source → IsUnreadIndex e
+index_unread (indexes.Table e) row error by is = unread_by e error by is
+index_unread (indexes.Index e) row error by is = unread_by e error by is
+index_unread (indexes.Entry e) row error by is = (let both : contents.Content (record { error = e; row = row }) ≡ contents.Source = sym by ∙ is in cc)
+index_unread indexes.TooLarge row error by is = absurd by
+
+pub judged_unread : {g : Type 0} (row : ℕ) (e : IndexError) (r : Result Bool ContentsError) → IfErr r (IsErrorBy e row) → (IsUnreadIndex e → ¬ g) → IfErr r (λ error. error ≡ contents.Source → ¬ g)
+judged_unread row e (Ok judged) by none = tt
+judged_unread row e (Err error) by none = λ is. none (index_unread e row error by is)
 
 pub error_by : (d : Database) (xs : List Item) (limit row : ℕ) (x y : Item) (key : ItemKey) (table index : ℕ) (e : IndexError) (error : ContentsError)
     → slice_get xs row ≡ Some x → is_index x ≡ true → IsIndexWith d xs x y key table index → ItemRefused d table index key limit e → RefutesItem d table index key e

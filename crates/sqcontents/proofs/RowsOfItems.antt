@@ -9,15 +9,17 @@ use Rattle.sqcontents.specs.declared.table_rules.TableRules.TheVariants.{Columns
 use Rattle.sqindex.specs.declared.error.TableError.{TableError}
 use Rattle.sqindex.specs.declared.error.TableError.TheVariants as tables
 use Rattle.sqindex.specs.Indexes.{ReadRefused}
+use Rattle.sqindex.specs.RowsKept.{IsUnreadTable}
 use Rattle.sqindex.specs.declared.error.ReadError.{ReadError}
 use Rattle.sqindex.specs.declared.error.RowError.{RowError}
 use Rattle.sqcontents.specs.declared.error.ContentsError.{ContentsError}
+use Rattle.sqcontents.specs.declared.error.ContentsError.TheVariants as contents
 use Rattle.sqschema.specs.Items.{Item}
 use Rattle.sqcontents.specs.declared.first.Numbers.{Numbers}
 use Rattle.sqcontents.specs.Contents.{IsRooted, IsTableWith, HasRules, AreItemRows, StandsInRows, HasNoRows, IsSoundTable, IsTableUnjudged, ContentsRefused}
 use Rattle.sqcontents.specs.internal.Judging.{AreNumbersOf, JudgesTable, IsUnknownBy, IsTableErrorBy, RowsRefused, RefutesRows}
 use Rattle.sqcontents.proofs.ItemsJudged.{of_item}
-use Rattle.sqcontents.proofs.IndexesOfItems.{utf8_named, unread_table, unread_error}
+use Rattle.sqcontents.proofs.IndexesOfItems.{utf8_named, unread_table, unread_error, unread_by}
 
 -- its root and its rules are known
 pub table_with : (d : Database) (x : Item) (numbers : Numbers) (rules : TableRules) (table : ℕ)
@@ -61,6 +63,14 @@ error_by : (d : Database) (xs : List Item) (row : ℕ) (x : Item) (rules : Table
     → slice_get xs row ≡ Some x → IsRooted x → IsTableWith d x rules table → RowsRefused d table rules e → RefutesRows d table rules e → IsTableErrorBy e row error → ContentsRefused d xs error
 error_by d xs row x rules table (tables.Unread e) error at own with refused refutes by = unread_error d xs table most_bytes (HasNoRows d table rules) e error (of_unread d table rules e refused) by
 error_by d xs row x rules table (tables.Row e) error at own with refused refutes by = subst (ContentsRefused d xs) (sym by) (x, rules, table, at, own, with, of_row d table rules e refused, of_refutes d table rules e refutes)
+
+table_unread : (e : TableError) (row : ℕ) (error : ContentsError) → IsTableErrorBy e row error → error ≡ contents.Source → IsUnreadTable e
+table_unread (tables.Unread e) row error by is = unread_by e error by is
+table_unread (tables.Row e) row error by is = (let both : contents.Row (record { error = e; row = row }) ≡ contents.Source = sym by ∙ is in cc)
+
+pub rows_unread : {g : Type 0} (row : ℕ) (e : TableError) (r : Result Bool ContentsError) → IfErr r (IsTableErrorBy e row) → (IsUnreadTable e → ¬ g) → IfErr r (λ error. error ≡ contents.Source → ¬ g)
+rows_unread row e (Ok judged) by none = tt
+rows_unread row e (Err error) by none = λ is. none (table_unread e row error by is)
 
 pub table_err : (d : Database) (xs : List Item) (row : ℕ) (x : Item) (rules : TableRules) (table : ℕ) (e : TableError) (r : Result Bool ContentsError)
     → slice_get xs row ≡ Some x → IsRooted x → IsTableWith d x rules table → RowsRefused d table rules e → RefutesRows d table rules e

@@ -203,10 +203,10 @@ IsTableUnjudged d x = (encoding_of d ≢ Utf8) ⊎ (HasNoRoot d x ⊎ (HasNoRule
 abbrev pub AreTablesJudged : Database → List Item → (asides : List ℕ) → Type 0
 AreTablesJudged d xs asides = AreJudged IsRooted (IsSoundTable d) (IsTableUnjudged d) xs asides
 
--- Why the contents of a schema aren't found sound: memory ran out; or a fault stands in an index, which isn't sound by its key;
--- or at a row of a table, whose rows don't keep to its columns. That a page couldn't be read is none.
+-- Why the contents of a schema aren't found sound: a page couldn't be read, or memory ran out; or a fault stands in an index, which
+-- isn't sound by its key; or at a row of a table, whose rows don't keep to its columns.
 abbrev pub ContentsRefused : Database → List Item → ContentsError → Type 0
-ContentsRefused d xs Source = ⊥
+ContentsRefused d xs Source = Unit {0}
 ContentsRefused d xs NoMemory = Unit {0}
 ContentsRefused d xs (Content e) =
     (x y : Item) × (key : ItemKey) × (table index : ℕ) × (slice_get xs e.row ≡ Some x) × (is_index x ≡ true)

@@ -74,10 +74,11 @@ fn judge_item<S: PageSource>(
     limit: u64,
 ) -> Result<bool, ContentsError>
     requires { row < length items.now }
-    ensures ok { S.gives_pages source.old → AreNumbersOf (S.pages source.old) numbers
+    ensures ok { S.reads_right source.old → AreNumbersOf (S.pages source.old) numbers
         → IfOk result (JudgesIndex (S.pages source.old) (map seen items.now) limit row) }
-    ensures err { S.gives_pages source.old → AreNumbersOf (S.pages source.old) numbers
+    ensures err { S.reads_right source.old → AreNumbersOf (S.pages source.old) numbers
         → IfErr result (ContentsRefused (S.pages source.old) (map seen items.now)) }
+    ensures unread { IfErr result (λ e. e ≡ ContentsError.Source → ¬ S.gives_pages source.old) }
     ensures keeps { KeepsPages S.pages S.size S.reads_right S.gives_pages source.old source.new }
 {
     let index = item_at(items, row);
@@ -132,11 +133,13 @@ pub fn check_contents<S: PageSource>(
     limit: u64,
 ) -> Result<Vec<usize>, ContentsError>
     // Each index that isn't named is sound, and it is said why the others aren't judged.
-    ensures ok { S.gives_pages source.old
+    ensures ok { S.reads_right source.old
         → IfOk result (λ asides. AreIndexesJudged (S.pages source.old) (map seen items.now) limit asides.items) }
     // The fault stands in the index that it names, which isn't sound.
-    ensures err { S.gives_pages source.old
+    ensures err { S.reads_right source.old
         → IfErr result (ContentsRefused (S.pages source.old) (map seen items.now)) }
+    // That a page couldn't be read is told only where a read failed.
+    ensures unread { IfErr result (λ e. e ≡ ContentsError.Source → ¬ S.gives_pages source.old) }
     ensures keeps { KeepsPages S.pages S.size S.reads_right S.gives_pages source.old source.new }
 {
     let numbers = numbers_of(alloc, source)?;

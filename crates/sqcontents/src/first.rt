@@ -4,6 +4,7 @@ ghost use Rattle.sqval.specs.Bytes.{word};
 ghost use Rattle.sqval.specs.Database.{page};
 ghost use Rattle.sqpage.specs.Freelist.{IsPage};
 ghost use Rattle.sqpage.specs.Source.{KeepsPages};
+ghost use Rattle.sqrows.specs.Payloads.{Unless};
 ghost use Rattle.sqcontents.specs.internal.Judging.{AreNumbersOf};
 
 use crate::error::ContentsError;
@@ -40,9 +41,10 @@ fn numbers_in(bytes: &[u8]) -> Numbers
 /// The bytes of page 1. Refused by Source where it could not be read, and by NoMemory.
 fn first_page<S: PageSource>(alloc: Global, source: &mut S) -> Result<Vec<u8>, ContentsError>
     requires { IsPage (S.pages source.old) 1 }
-    ensures ok { S.gives_pages source.old → IfOk result (λ bytes. bytes.items ≡ page (S.pages source.old) 1) }
+    ensures ok { S.reads_right source.old → IfOk result (λ bytes. bytes.items ≡ page (S.pages source.old) 1) }
     ensures size { IfOk result (λ bytes. 512 ≤ length bytes.items) }
-    ensures err { S.gives_pages source.old → IfErr result (λ e. e ≡ ContentsError.NoMemory) }
+    ensures err { IfErr result
+        (λ e. Unless (e ≡ ContentsError.Source) (S.gives_pages source.old) (e ≡ ContentsError.NoMemory)) }
     ensures keeps { KeepsPages S.pages S.size S.reads_right S.gives_pages source.old source.new }
 {
     let size = source.page_size().get() as usize;
@@ -61,8 +63,9 @@ pub(crate) fn numbers_of<S: PageSource>(
     alloc: Global,
     source: &mut S,
 ) -> Result<Numbers, ContentsError>
-    ensures ok { S.gives_pages source.old → IfOk result (AreNumbersOf (S.pages source.old)) }
-    ensures err { S.gives_pages source.old → IfErr result (λ e. e ≡ ContentsError.NoMemory) }
+    ensures ok { S.reads_right source.old → IfOk result (AreNumbersOf (S.pages source.old)) }
+    ensures err { IfErr result
+        (λ e. Unless (e ≡ ContentsError.Source) (S.gives_pages source.old) (e ≡ ContentsError.NoMemory)) }
     ensures keeps { KeepsPages S.pages S.size S.reads_right S.gives_pages source.old source.new }
 {
     if source.count() == 0 {

@@ -1,6 +1,7 @@
 //! The key of an index of a schema, or the columns of its entries, and the check by it (fileformat2, 1.6 and 2.5).
 ghost use Rattle.std.specs.Prelude.{◌≡◌, IfOk, IfErr, MatchOption, Some, None};
 ghost use Rattle.sqpage.specs.Source.{KeepsPages};
+ghost use Rattle.sqindex.specs.Indexes.{IsUnreadIndex};
 ghost use Rattle.sqschema.specs.Items.{seen};
 ghost use Rattle.sqcontents.specs.Contents.{HasEntryKey, HasNoEntryKey, HasItemKey, HasNoItemKey, IsItemIndex};
 ghost use Rattle.sqcontents.specs.internal.Judging.{ItemRefused, RefutesItem};
@@ -109,12 +110,13 @@ pub(crate) fn judge_by_key<S: PageSource>(
     key: &ItemKey,
     limit: u64,
 ) -> Result<u64, IndexError>
-    ensures ok { S.gives_pages source.old
+    ensures ok { S.reads_right source.old
         → IfOk result (λ n. IsItemIndex (S.pages source.old) table index key.now n) }
-    ensures err { S.gives_pages source.old
+    ensures err { S.reads_right source.old
         → IfErr result (λ e. ItemRefused (S.pages source.old) table index key.now limit e) }
-    ensures none { S.gives_pages source.old
+    ensures none { S.reads_right source.old
         → IfErr result (λ e. RefutesItem (S.pages source.old) table index key.now e) }
+    ensures unread { IfErr result (λ e. IsUnreadIndex e → ¬ S.gives_pages source.old) }
     ensures keeps { KeepsPages S.pages S.size S.reads_right S.gives_pages source.old source.new }
 {
     match key {

@@ -1,6 +1,7 @@
 //! What the rows of a table of a schema keep to, and the check by it (fileformat2, 1.6 and 2.4).
 ghost use Rattle.std.specs.Prelude.{◌≡◌, IfOk, IfErr, MatchOption, Some};
 ghost use Rattle.sqpage.specs.Source.{KeepsPages};
+ghost use Rattle.sqindex.specs.RowsKept.{IsUnreadTable};
 ghost use Rattle.sqschema.specs.Items.{seen};
 ghost use Rattle.sqcontents.specs.Contents.{HasRules, HasNoRules, AreItemRows};
 ghost use Rattle.sqcontents.specs.internal.Judging.{RowsRefused, RefutesRows};
@@ -61,12 +62,13 @@ pub(crate) fn judge_by_rules<S: PageSource>(
     table: u32,
     rules: &TableRules,
 ) -> Result<bool, TableError>
-    ensures ok { S.gives_pages source.old
+    ensures ok { S.reads_right source.old
         → IfOk result (AreItemRows (S.pages source.old) table rules.now) }
-    ensures err { S.gives_pages source.old
+    ensures err { S.reads_right source.old
         → IfErr result (RowsRefused (S.pages source.old) table rules.now) }
-    ensures none { S.gives_pages source.old
+    ensures none { S.reads_right source.old
         → IfErr result (RefutesRows (S.pages source.old) table rules.now) }
+    ensures unread { IfErr result (λ e. IsUnreadTable e → ¬ S.gives_pages source.old) }
     ensures keeps { KeepsPages S.pages S.size S.reads_right S.gives_pages source.old source.new }
 {
     match rules {

@@ -38,10 +38,11 @@ fn judge_table<S: PageSource>(
     numbers: Numbers,
 ) -> Result<bool, ContentsError>
     requires { row < length items.now }
-    ensures ok { S.gives_pages source.old → AreNumbersOf (S.pages source.old) numbers
+    ensures ok { S.reads_right source.old → AreNumbersOf (S.pages source.old) numbers
         → IfOk result (JudgesTable (S.pages source.old) (map seen items.now) row) }
-    ensures err { S.gives_pages source.old → AreNumbersOf (S.pages source.old) numbers
+    ensures err { S.reads_right source.old → AreNumbersOf (S.pages source.old) numbers
         → IfErr result (ContentsRefused (S.pages source.old) (map seen items.now)) }
+    ensures unread { IfErr result (λ e. e ≡ ContentsError.Source → ¬ S.gives_pages source.old) }
     ensures keeps { KeepsPages S.pages S.size S.reads_right S.gives_pages source.old source.new }
 {
     let table = item_at(items, row);
@@ -73,11 +74,13 @@ pub fn check_tables<S: PageSource>(
     items: &[Item],
 ) -> Result<Vec<usize>, ContentsError>
     // Each table that isn't named is sound, and it is said why the others aren't judged.
-    ensures ok { S.gives_pages source.old
+    ensures ok { S.reads_right source.old
         → IfOk result (λ asides. AreTablesJudged (S.pages source.old) (map seen items.now) asides.items) }
     // The fault stands at the row of the table that it names, which isn't sound.
-    ensures err { S.gives_pages source.old
+    ensures err { S.reads_right source.old
         → IfErr result (ContentsRefused (S.pages source.old) (map seen items.now)) }
+    // That a page couldn't be read is told only where a read failed.
+    ensures unread { IfErr result (λ e. e ≡ ContentsError.Source → ¬ S.gives_pages source.old) }
     ensures keeps { KeepsPages S.pages S.size S.reads_right S.gives_pages source.old source.new }
 {
     let numbers = numbers_of(alloc, source)?;

@@ -1,5 +1,5 @@
 -- What is found of a schema behind a check that finds the database sound inside.
-use Rattle.std.proofs.Common.{◌≡◌, ◌≤◌, ◌⊎◌, ⊎_elim, ℕ, Bool, refl, sym, subst}
+use Rattle.std.proofs.Common.{◌≡◌, ◌∙◌, ◌≤◌, ◌⊎◌, ⊎_elim, ℕ, Bool, refl, sym, subst}
 use Rattle.std.specs.Prelude.{None, Result, Ok, Err, IfOk, IfErr, map}
 use Rattle.sqval.specs.Database.{Database}
 use Rattle.sqcheck.specs.WellFormed.{WellFormedWith}
@@ -7,10 +7,12 @@ use Rattle.sqcheck.specs.declared.report.Report.{Report}
 use Rattle.sqdeep.specs.Forms.{AreIllFormed}
 use Rattle.sqdeep.specs.Inside.{IsSoundInside}
 use Rattle.sqdeep.specs.declared.deep.Inside.{Inside}
-use Rattle.sqschema.specs.Schema.{IsLimit, SchemaRefused}
+use Rattle.sqrows.specs.Payloads.{Unless}
+use Rattle.sqrows.proofs.UnreadPages.{given}
+use Rattle.sqschema.specs.Schema.{IsLimit, IsUnreadRows, SchemaRefused}
 use Rattle.sqschema.specs.declared.error.ReadError.{ReadError}
 use Rattle.sqschema.specs.declared.error.SchemaError.TheVariants.{Unread}
-use Rattle.sqview.specs.Verdicts.{FindsWith, IsUnjudgedWith}
+use Rattle.sqview.specs.Verdicts.{FindsWith, IsUnjudgedWith, UnlessFailed}
 use Rattle.sqview.specs.declared.judge_error.JudgeError.{JudgeError}
 use Rattle.sqview.specs.declared.judge_error.JudgeError.TheVariants as judgments
 use Rattle.sqview.specs.declared.verdict.Verdict.TheVariants as plain
@@ -69,20 +71,22 @@ excess_of_none counts r (Ok (deep.Damaged (Content e))) le h = le
 excess_of_none counts r (Ok (deep.Damaged (Row e))) le h = le
 excess_of_none counts r (Err e) le h = tt
 
-pub memory_of : (maps : Bool) (d : Database) (q : Result DeepVerdict JudgeError) → IfErr q (λ e. e ≡ judgments.NoMemory) → IfErr q (IsUnjudgedWith maps d)
-memory_of maps d (Ok verdict) h = tt
-memory_of maps d (Err e) h = subst (IsUnjudgedWith maps d) (sym h) tt
+pub memory_of : (maps : Bool) (d : Database) (e : JudgeError) → e ≡ judgments.NoMemory → IsUnjudgedWith maps d e
+memory_of maps d e is = subst (IsUnjudgedWith maps d) (sym is) tt
 
 -- why a database isn't judged whose schema can't be read
 abbrev pub TellsUnread : ReadError → JudgeError → Type 0
 TellsUnread e told = (IsLimit e × (told ≡ judgments.NoMemory)) ⊎ ((¬ IsLimit e) × (told ≡ judgments.Unread))
 
--- Only a limit keeps the rows from being read.
-pub only_limit : (maps : Bool) (d : Database) (size : ℕ) (e : ReadError) (told : JudgeError) → WellFormedWith maps d size → IsSoundInside d → SchemaRefused d (Unread e)
-    → TellsUnread e told → told ≡ judgments.NoMemory
-only_limit maps d size e told w sound refused said = ⊎_elim
-    (λ limit. limit.1)
-    (λ other. let rows = schema_rows maps d size w sound in absurd (refused other.0 rows.0 rows.1)) said
+-- Only a limit, or a page that couldn't be read, keeps the rows from being read.
+pub only_limit : {g : Type 0} (maps : Bool) (d : Database) (size : ℕ) (e : ReadError) (told : JudgeError) → WellFormedWith maps d size → IsSoundInside d
+    → Unless (IsUnreadRows e) g (SchemaRefused d (Unread e)) → TellsUnread e told → UnlessFailed g told (told ≡ judgments.NoMemory)
+only_limit maps d size e told w sound refused said = (
+  λ is gives. ⊎_elim
+      (λ limit. let both : judgments.NoMemory ≡ judgments.Unread = sym limit.1 ∙ is in cc)
+      (λ other. let rows = schema_rows maps d size w sound in given gives refused other.0 rows.0 rows.1) said,
+  λ no. ⊎_elim (λ limit. limit.1) (λ other. absurd (no other.1)) said,
+)
 
 -- what is found of the contents of a schema that aren't sound
 pub contents_found : (d : Database) (schema : OwnSchema) (e : ContentsError) → IsSchemaOf d schema → ContentsRefused d (map seen schema.items.items) e → IfOk (contents_verdict e) (FindsSchema d)
@@ -97,11 +101,11 @@ contents_behind r (contents.Row e) = tt
 contents_behind r contents.NoMemory = tt
 contents_behind r contents.Source = tt
 
-pub contents_unjudged : (d : Database) (schema : OwnSchema) (e : ContentsError) → ContentsRefused d (map seen schema.items.items) e → IfErr (contents_verdict e) (λ told. told ≡ judgments.NoMemory)
-contents_unjudged d schema (contents.Content e) refused = tt
-contents_unjudged d schema (contents.Row e) refused = tt
-contents_unjudged d schema contents.NoMemory refused = refl
-contents_unjudged d schema contents.Source refused = absurd refused
+pub contents_unjudged : {g : Type 0} (e : ContentsError) → (e ≡ contents.Source → ¬ g) → IfErr (contents_verdict e) (λ told. UnlessFailed g told (told ≡ judgments.NoMemory))
+contents_unjudged (contents.Content e) unread = tt
+contents_unjudged (contents.Row e) unread = tt
+contents_unjudged contents.NoMemory unread = (λ is gives. cc, λ no. refl)
+contents_unjudged contents.Source unread = (λ is. unread refl, λ no. absurd (no refl))
 
 -- both parts of what is found
 pub both_parts : (maps : Bool) (d : Database) (size : ℕ) (q : Result DeepVerdict JudgeError) → IfOk q (FindsInside maps d size) → IfOk q (FindsSchema d) → IfOk q (FindsDeep maps d size)

@@ -6,7 +6,7 @@ ghost use Rattle.sqschema.specs.Schema.{IsLimit, IsSchemaOf};
 ghost use Rattle.sqschema.specs.Items.{seen};
 ghost use Rattle.sqcontents.specs.Contents.{AreIndexesJudged};
 ghost use Rattle.sqview.specs.LogView.{pages_of};
-ghost use Rattle.sqview.specs.Verdicts.{IsUnjudgedWith};
+ghost use Rattle.sqview.specs.Verdicts.{IsUnjudgedWith, UnlessFailed};
 ghost use Rattle.sqview.specs.declared.judge_error.JudgeError.{JudgeError};
 ghost use Rattle.sqdeepjudge.specs.Verdicts.{FindsInside, FindsSchema, is_damaged, is_in_part, most_bytes};
 ghost use Rattle.sqdeepjudge.specs.Verdicts.{verdict_as};
@@ -195,13 +195,13 @@ fn judge_tables<F: FileBytes>(
     schema: Schema,
     indexes: Vec<usize>,
 ) -> Result<DeepVerdict, JudgeError>
-    ensures contents { F.gives_bytes view.old.db × F.gives_bytes view.old.log
+    ensures contents { F.reads_right view.old.db × F.reads_right view.old.log
         → IsSchemaOf (pages_of F.bytes view.old) schema
         → AreIndexesJudged (pages_of F.bytes view.old) (map seen schema.items.items) most_bytes indexes.items
         → IfOk result (FindsSchema (pages_of F.bytes view.old)) }
     ensures behind { IfOk result (IsBehind inside) }
-    ensures refused { F.gives_bytes view.old.db × F.gives_bytes view.old.log
-        → IfErr result (λ e. e ≡ JudgeError.NoMemory) }
+    ensures refused { F.reads_right view.old.db × F.reads_right view.old.log → IfErr result
+        (λ e. UnlessFailed (F.gives_bytes view.old.db × F.gives_bytes view.old.log) e (e ≡ JudgeError.NoMemory)) }
 {
     match check_tables(alloc, view, &schema.items) {
         Ok(tables) => match not_judged(alloc, &schema, &indexes, &tables) {
@@ -228,11 +228,11 @@ fn judge_contents<F: FileBytes>(
     inside: Inside,
     schema: Schema,
 ) -> Result<DeepVerdict, JudgeError>
-    ensures contents { F.gives_bytes view.old.db × F.gives_bytes view.old.log
+    ensures contents { F.reads_right view.old.db × F.reads_right view.old.log
         → IsSchemaOf (pages_of F.bytes view.old) schema → IfOk result (FindsSchema (pages_of F.bytes view.old)) }
     ensures behind { IfOk result (IsBehind inside) }
-    ensures refused { F.gives_bytes view.old.db × F.gives_bytes view.old.log
-        → IfErr result (λ e. e ≡ JudgeError.NoMemory) }
+    ensures refused { F.reads_right view.old.db × F.reads_right view.old.log → IfErr result
+        (λ e. UnlessFailed (F.gives_bytes view.old.db × F.gives_bytes view.old.log) e (e ≡ JudgeError.NoMemory)) }
 {
     match check_contents(alloc, view, &schema.items, MOST_BYTES) {
         Ok(indexes) => judge_tables(alloc, view, inside, schema, indexes),
@@ -246,12 +246,13 @@ fn judge_schema<F: FileBytes>(
     view: &mut View<F>,
     inside: Inside,
 ) -> Result<DeepVerdict, JudgeError>
-    ensures schema { F.gives_bytes view.old.db × F.gives_bytes view.old.log
+    ensures schema { F.reads_right view.old.db × F.reads_right view.old.log
         → IfOk result (FindsSchema (pages_of F.bytes view.old)) }
     ensures behind { IfOk result (IsBehind inside) }
-    ensures refused { F.gives_bytes view.old.db × F.gives_bytes view.old.log → (maps : Bool)
+    ensures refused { F.reads_right view.old.db × F.reads_right view.old.log → (maps : Bool)
         → WellFormedWith maps (pages_of F.bytes view.old) view.old.page_size
-        → IsSoundInside (pages_of F.bytes view.old) → IfErr result (λ e. e ≡ JudgeError.NoMemory) }
+        → IsSoundInside (pages_of F.bytes view.old) → IfErr result
+        (λ e. UnlessFailed (F.gives_bytes view.old.db × F.gives_bytes view.old.log) e (e ≡ JudgeError.NoMemory)) }
 {
     match check_schema(alloc, view) {
         Ok(schema) => judge_contents(alloc, view, inside, schema),
@@ -274,10 +275,11 @@ pub fn judge_deep<F: FileBytes>(
     ensures counts { IfOk result (FindsExcess lengths.counts) }
     ensures found { F.reads_right view.old.db × F.reads_right view.old.log
         → IfOk result (FindsInside maps.pointer_maps (pages_of F.bytes view.old) view.old.page_size) }
-    ensures schema { F.gives_bytes view.old.db × F.gives_bytes view.old.log
+    ensures schema { F.reads_right view.old.db × F.reads_right view.old.log
         → IfOk result (FindsSchema (pages_of F.bytes view.old)) }
-    ensures refused { F.gives_bytes view.old.db × F.gives_bytes view.old.log
-        → IfErr result (IsUnjudgedWith maps.pointer_maps (pages_of F.bytes view.old)) }
+    ensures refused { F.reads_right view.old.db × F.reads_right view.old.log → IfErr result
+        (λ e. UnlessFailed (F.gives_bytes view.old.db × F.gives_bytes view.old.log) e
+        (IsUnjudgedWith maps.pointer_maps (pages_of F.bytes view.old) e)) }
 {
     let Lengths { long, counts } = lengths;
     if let Some(page) = first_missing(view, long) {

@@ -22,7 +22,7 @@ use Rattle.sqdiff.specs.declared.error.DiffError.{DiffError}
 use Rattle.sqdiff.specs.declared.error.DiffError.TheVariants.{Old, New}
 use Rattle.sqdiff.specs.declared.diff.Diff.{Diff}
 use Rattle.sqdiff.specs.Changes.{rowids, IsAbove, Rise}
-use Rattle.sqdiff.specs.DiffCursor.{LeftFrom, SideLeft, Stands, AreRefused, SideRefused, DiffRefused}
+use Rattle.sqdiff.specs.DiffCursor.{LeftFrom, SideLeft, Stands, AreRefused, SideRefused, DiffRefused, UnlessDiff}
 use Rattle.sqdiff.specs.internal.Turns.{Looks, IsNoRecord}
 
 -- why the next row of a cursor isn't read
@@ -100,3 +100,17 @@ no_record_of_both d e diff id (Old (Unread error)) is too refused = absurd refus
 no_record_of_both d e diff id (New (Unread error)) is too refused = absurd refused
 no_record_of_both d e diff id (Old Unordered) is too refused = absurd refused
 no_record_of_both d e diff id (New Unordered) is too refused = absurd refused
+
+-- ---- Where a page couldn't be read.
+
+pub unless : {P Q g h g' h' : Type 0} (error : DiffError) → UnlessDiff g' h' error P → (g → g') → (h → h') → (P → Q) → UnlessDiff g h error Q
+unless (Old error) was old new then = (λ unread gives. was.0 unread (old gives), λ read. then (was.1 read))
+unless (New error) was old new then = (λ unread gives. was.0 unread (new gives), λ read. then (was.1 read))
+
+pub read_rows : {P : Type 0} (diff : Diff) (error : DiffError) → IsNoRecord diff error → P → UnlessDiff (Unit {0}) (Unit {0}) error P
+read_rows diff (Old (Record error)) no cause = (λ none. absurd none, λ _. cause)
+read_rows diff (New (Record error)) no cause = (λ none. absurd none, λ _. cause)
+read_rows diff (Old (Unread error)) no cause = absurd no
+read_rows diff (New (Unread error)) no cause = absurd no
+read_rows diff (Old Unordered) no cause = absurd no
+read_rows diff (New Unordered) no cause = absurd no

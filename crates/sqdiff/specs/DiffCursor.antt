@@ -11,7 +11,8 @@ use Rattle.sqrows.specs.declared.rows.RowsError.TheVariants.{Tree, Payload}
 use Rattle.sqrows.specs.Trees.{Entry}
 use Rattle.sqrows.specs.Cursor.{IsOver}
 use Rattle.sqrows.specs.Rows.{Row, IsRowIn, HasRows}
-use Rattle.sqrows.specs.RowCursor.{RowsLeft, RowsMove, IsAtRow}
+use Rattle.sqrows.specs.Payloads.{Unless}
+use Rattle.sqrows.specs.RowCursor.{RowsLeft, RowsMove, IsAtRow, IsUnreadRow}
 use Rattle.sqdiff.specs.declared.side.Place.{Place}
 use Rattle.sqdiff.specs.declared.side.Place.TheVariants.{Between, At, End}
 use Rattle.sqdiff.specs.declared.side.Side.{Side}
@@ -80,6 +81,16 @@ SideRefused d side error = (rows : List Row) → SideLeft d side rows → AreRef
 abbrev pub DiffRefused : Database → Database → Diff → DiffError → Type 0
 DiffRefused d e diff (Old error) = SideRefused d diff.old_side error
 DiffRefused d e diff (New error) = SideRefused e diff.new_side error
+
+-- A page of the rows couldn't be read.
+abbrev pub IsUnreadSide : SideError → Type 0
+IsUnreadSide (Unread e) = IsUnreadRow e
+IsUnreadSide _ = ⊥
+
+-- Where a page couldn't be read, that source isn't one that gives each page. Otherwise the refusal has this cause.
+abbrev pub UnlessDiff : (old_gives new_gives : Type 0) → DiffError → (cause : Type 0) → Type 0
+UnlessDiff old_gives new_gives (Old error) cause = Unless (IsUnreadSide error) old_gives cause
+UnlessDiff old_gives new_gives (New error) cause = Unless (IsUnreadSide error) new_gives cause
 
 -- Why a table isn't begun: its tree has no rows, unless memory ran out.
 abbrev pub IsNotBegun : Database → (root : ℕ) → SideError → Type 0

@@ -5,7 +5,7 @@ ghost use Rattle.sqpage.specs.Source.{KeepsPages};
 ghost use Rattle.sqrows.specs.Rows.{Row as SpecRow};
 ghost use Rattle.sqrows.specs.RowCursor.{IsAtRow};
 ghost use Rattle.sqdiff.specs.Changes.{Change, HasChanges};
-ghost use Rattle.sqdiff.specs.DiffCursor.{AreStanding, ChangesLeft, ChangesMove, DiffRefused, AreNotBegun};
+ghost use Rattle.sqdiff.specs.DiffCursor.{AreStanding, ChangesLeft, ChangesMove, DiffRefused, AreNotBegun, UnlessDiff};
 
 use crate::error::{DiffError, SideError};
 use crate::side::Side;
@@ -46,13 +46,14 @@ impl Diff {
         limit: u64,
     ) -> Result<Diff, DiffError>
         // What is left are the changes between the tables.
-        ensures ok { S.gives_pages old_source.old → T.gives_pages new_source.old → IfOk result (λ diff.
+        ensures ok { S.reads_right old_source.old → T.reads_right new_source.old → IfOk result (λ diff.
             AreStanding (S.pages old_source.old) (T.pages new_source.old) diff
             × ((cs : List Change) → HasChanges (S.pages old_source.old) old_root (T.pages new_source.old) new_root cs
             ↔ ChangesLeft (S.pages old_source.old) (T.pages new_source.old) diff cs)) }
-        // One of them has no rows, unless memory ran out.
-        ensures err { S.gives_pages old_source.old → T.gives_pages new_source.old → IfErr result
-            (AreNotBegun (S.pages old_source.old) old_root (T.pages new_source.old) new_root) }
+        // One of them has no rows, unless a page couldn't be read or memory ran out.
+        ensures err { S.reads_right old_source.old → T.reads_right new_source.old → IfErr result
+            (λ e. UnlessDiff (S.gives_pages old_source.old) (T.gives_pages new_source.old) e
+            (AreNotBegun (S.pages old_source.old) old_root (T.pages new_source.old) new_root e)) }
         ensures size { IfOk result (λ diff. (diff.old_side.rows.cells.size ≡ S.size old_source.old)
             × (diff.new_side.rows.cells.size ≡ T.size new_source.old)) }
         ensures limit { IfOk result (λ diff. (diff.old_side.rows.limit ≡ limit) × (diff.new_side.rows.limit ≡ limit)) }
@@ -85,14 +86,15 @@ impl Diff {
             × (T.size new_source.old ≡ self.old.new_side.rows.cells.size) }
         // It is at the first of those that were left, and the others are left now; or none was left. So where a walk
         // ends, the rowids of both tables rise, and these are the changes between them.
-        ensures ok { S.gives_pages old_source.old → T.gives_pages new_source.old
+        ensures ok { S.reads_right old_source.old → T.reads_right new_source.old
             → AreStanding (S.pages old_source.old) (T.pages new_source.old) self.old → IfOk result (λ found.
             AreStanding (S.pages old_source.old) (T.pages new_source.old) self.new × ((cs : List Change)
             → ChangesLeft (S.pages old_source.old) (T.pages new_source.old) self.old cs
             ↔ ChangesMove (S.pages old_source.old) (T.pages new_source.old) found cs self.new)) }
-        ensures err { S.gives_pages old_source.old → T.gives_pages new_source.old
-            → AreStanding (S.pages old_source.old) (T.pages new_source.old) self.old
-            → IfErr result (DiffRefused (S.pages old_source.old) (T.pages new_source.old) self.old) }
+        ensures err { S.reads_right old_source.old → T.reads_right new_source.old
+            → AreStanding (S.pages old_source.old) (T.pages new_source.old) self.old → IfErr result
+            (λ e. UnlessDiff (S.gives_pages old_source.old) (T.gives_pages new_source.old) e
+            (DiffRefused (S.pages old_source.old) (T.pages new_source.old) self.old e)) }
         ensures same { (self.new.old_side.rows.cells.size ≡ self.old.old_side.rows.cells.size)
             × (self.new.new_side.rows.cells.size ≡ self.old.new_side.rows.cells.size)
             × (self.new.old_side.rows.limit ≡ self.old.old_side.rows.limit)

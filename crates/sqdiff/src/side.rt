@@ -1,8 +1,9 @@
 //! The rows of one of both tables, as far as they are passed (own).
 ghost use Rattle.std.specs.Prelude.{◌≡◌, IfErr, OnOk, MatchOption};
 ghost use Rattle.sqpage.specs.Source.{KeepsPages};
+ghost use Rattle.sqrows.specs.Payloads.{Unless};
 ghost use Rattle.sqdiff.specs.Changes.{IsAbove};
-ghost use Rattle.sqdiff.specs.DiffCursor.{Stands, SideRefused};
+ghost use Rattle.sqdiff.specs.DiffCursor.{Stands, SideRefused, IsUnreadSide};
 ghost use Rattle.sqdiff.specs.internal.Turns.{IsSeen, Looks};
 
 use crate::error::SideError;
@@ -55,11 +56,11 @@ impl Side {
     /// Comes to the next row, if it isn't at one. Refused as `Rows::advance` and `Rows::row` do, and by Unordered.
     pub(crate) fn look<S: PageSource>(&mut self, source: &mut S) -> Result<(), SideError>
         requires sized { S.size source.old ≡ self.old.rows.cells.size }
-        ensures ok { S.gives_pages source.old → Stands (S.pages source.old) self.old
+        ensures ok { S.reads_right source.old → Stands (S.pages source.old) self.old
             → OnOk result (Looks (S.pages source.old) self.old self.new) }
         ensures seen { OnOk result (IsSeen self.new.place) }
-        ensures err { S.gives_pages source.old → Stands (S.pages source.old) self.old
-            → IfErr result (SideRefused (S.pages source.old) self.old) }
+        ensures err { S.reads_right source.old → Stands (S.pages source.old) self.old → IfErr result
+            (λ e. Unless (IsUnreadSide e) (S.gives_pages source.old) (SideRefused (S.pages source.old) self.old e)) }
         ensures same { (self.new.rows.cells.size ≡ self.old.rows.cells.size)
             × (self.new.rows.limit ≡ self.old.rows.limit) × (self.new.last ≡ self.old.last) }
         ensures keeps { KeepsPages S.pages S.size S.reads_right S.gives_pages source.old source.new }

@@ -2,7 +2,7 @@
 ghost use Rattle.std.specs.Prelude.{◌≡◌, IfOk, IfErr};
 ghost use Rattle.sqval.specs.Database.{Database};
 ghost use Rattle.sqpage.specs.Source.{KeepsPages};
-ghost use Rattle.sqdiff.specs.DiffCursor.{AreStanding, DiffRefused};
+ghost use Rattle.sqdiff.specs.DiffCursor.{AreStanding, DiffRefused, UnlessDiff};
 ghost use Rattle.sqdiff.specs.internal.Turns.{IsSeen, IsNext, AreAlike, IsNoRecord, Turns};
 
 use crate::diff::{Diff, Kind};
@@ -80,7 +80,8 @@ impl Diff {
     fn take(&mut self) -> Result<Turn, DiffError>
         requires seen { IsSeen self.old.old_side.place × IsSeen self.old.new_side.place }
         ensures ok { (d e : Database) → AreStanding d e self.old → IfOk result (Turns d e self.old self.new) }
-        ensures err { (d e : Database) → AreStanding d e self.old → IfErr result (DiffRefused d e self.old) }
+        ensures err { (d e : Database) → AreStanding d e self.old → IfErr result
+            (λ error. UnlessDiff (Unit {0}) (Unit {0}) error (DiffRefused d e self.old error)) }
         ensures same { (self.new.old_side.rows ≡ self.old.old_side.rows)
             × (self.new.new_side.rows ≡ self.old.new_side.rows) }
     {
@@ -102,7 +103,8 @@ impl Diff {
     fn take_both(&mut self, id: i64) -> Result<Turn, DiffError>
         requires at { (self.old.old_side.place ≡ Place.At id) × (self.old.new_side.place ≡ Place.At id) }
         ensures ok { (d e : Database) → AreStanding d e self.old → IfOk result (Turns d e self.old self.new) }
-        ensures err { (d e : Database) → AreStanding d e self.old → IfErr result (DiffRefused d e self.old) }
+        ensures err { (d e : Database) → AreStanding d e self.old → IfErr result
+            (λ error. UnlessDiff (Unit {0}) (Unit {0}) error (DiffRefused d e self.old error)) }
         ensures same { (self.new.old_side.rows ≡ self.old.old_side.rows)
             × (self.new.new_side.rows ≡ self.old.new_side.rows) }
     {
@@ -127,12 +129,13 @@ impl Diff {
     ) -> Result<Turn, DiffError>
         requires sized { (S.size old_source.old ≡ self.old.old_side.rows.cells.size)
             × (T.size new_source.old ≡ self.old.new_side.rows.cells.size) }
-        ensures ok { S.gives_pages old_source.old → T.gives_pages new_source.old
+        ensures ok { S.reads_right old_source.old → T.reads_right new_source.old
             → AreStanding (S.pages old_source.old) (T.pages new_source.old) self.old
             → IfOk result (Turns (S.pages old_source.old) (T.pages new_source.old) self.old self.new) }
-        ensures err { S.gives_pages old_source.old → T.gives_pages new_source.old
-            → AreStanding (S.pages old_source.old) (T.pages new_source.old) self.old
-            → IfErr result (DiffRefused (S.pages old_source.old) (T.pages new_source.old) self.old) }
+        ensures err { S.reads_right old_source.old → T.reads_right new_source.old
+            → AreStanding (S.pages old_source.old) (T.pages new_source.old) self.old → IfErr result
+            (λ e. UnlessDiff (S.gives_pages old_source.old) (T.gives_pages new_source.old) e
+            (DiffRefused (S.pages old_source.old) (T.pages new_source.old) self.old e)) }
         ensures same { (self.new.old_side.rows.cells.size ≡ self.old.old_side.rows.cells.size)
             × (self.new.new_side.rows.cells.size ≡ self.old.new_side.rows.cells.size)
             × (self.new.old_side.rows.limit ≡ self.old.old_side.rows.limit)

@@ -1,27 +1,25 @@
 -- The cells of a tree, taken one after another.
-use Rattle.std.proofs.Common.{◌≡◌, ◌↔◌, ℕ, true, List, [], ◌∷◌, ◌++◌, Option, Some, None, ℤ, inl, inr, refl, sym, ap, ◌∙◌, subst, append_assoc, append-nil, arith}
+use Rattle.std.proofs.Common.{◌≡◌, ◌↔◌, ℕ, true, List, [], ◌∷◌, ◌++◌, Option, Some, None, ℤ, refl, sym, ap, ◌∙◌, subst, append_assoc, append-nil, arith}
 use Rattle.std.specs.List.{AllZip, Contains}
 use Rattle.std.proofs.lemmas.List.Elements.{Contains-append_right}
 use Rattle.sqval.specs.Database.{Database}
 use Rattle.sqpage.specs.declared.cell.Cell.{Cell}
-use Rattle.sqpage.specs.declared.fault.Fault.{Fault}
-use Rattle.sqpage.specs.declared.fault.Fault.TheVariants as faults
-use Rattle.sqpage.specs.Chain.{ChainRefused, ChainBroken}
 use Rattle.sqrows.specs.declared.cells.Cells.{Cells}
 use Rattle.sqrows.specs.declared.payload.PayloadError.{PayloadError}
 use Rattle.sqrows.specs.declared.payload.PayloadError.TheVariants.{TooLong, Chain}
 use Rattle.sqrows.specs.declared.rows.RowsError.{RowsError}
 use Rattle.sqrows.specs.declared.rows.RowsError.TheVariants.{Tree, Payload}
-use Rattle.sqrows.specs.Payloads.{PayloadRefused}
+use Rattle.sqrows.specs.Payloads.{IsUnreadPayload, PayloadRefused}
 use Rattle.sqrows.specs.Trees.{Entry, entry_of, IsTree}
 use Rattle.sqrows.specs.Cursor.{IsLeft, IsAt, Moves}
+use Rattle.sqrows.specs.RowCursor.{IsUnreadRow}
 use Rattle.sqrows.proofs.moves.RowsOfCells.{payload_moves, payload_in_once, at_once}
 use Rattle.sqrows.proofs.moves.OneList.{tree_once}
 use Rattle.sqindex.specs.declared.walk.Found.{Found}
 use Rattle.sqindex.specs.declared.walk.Walk.{Walk}
 use Rattle.sqindex.specs.Stored.{Stored, IsStoredIn, HasStored}
-use Rattle.sqindex.specs.Indexes.{ReadRefused}
-use Rattle.sqindex.specs.internal.Reading.{read_error, stored_of, WalkMoves, HasNoPayload, LoadRefused, NoneStored, WalkRefused, NotSource, AreTaken, AreRead}
+use Rattle.sqindex.specs.Indexes.{IsUnreadTree, ReadRefused}
+use Rattle.sqindex.specs.internal.Reading.{read_error, stored_of, WalkMoves, HasNoPayload, LoadRefused, NoneStored, WalkRefused, AreTaken, AreRead}
 
 four : (f : ℕ → ℕ → Option ℤ → List ℕ → Stored) (a a' b b' : ℕ) (c c' : Option ℤ) (e e' : List ℕ) → a ≡ a' → b ≡ b' → c ≡ c' → e ≡ e' → f a b c e ≡ f a' b' c' e'
 four f a a' b b' c c' e e' p q r s = cc
@@ -69,21 +67,12 @@ none_stored d old new none move xs left all are =
 pub refused_walk : (d : Database) (old new : Cells) (limit : ℕ) (refusal : RowsError) → ((e : Entry) → IsAt new e → LoadRefused d limit e refusal)
     → ((xs : List Entry) → IsLeft d old xs → Moves d true xs new) → WalkRefused d old limit refusal
 refused_walk d old new limit (Payload TooLong) load move = λ xs left. let m = move xs left in (m.0, m.1, m.2, load m.0 m.3)
-refused_walk d old new limit (Payload (Chain e)) load move = λ other. none_stored d old new (λ e at. load e at other) move
-refused_walk d old new limit (Tree e) load move = λ other. none_stored d old new (λ e at. load e at other) move
+refused_walk d old new limit (Payload (Chain e)) load move = λ read other. none_stored d old new (λ e at. load e at read other) move
+refused_walk d old new limit (Tree e) load move = λ read other. none_stored d old new (λ e at. load e at read other) move
 
-pub refused_load : (d : Database) (i : ℕ) (cell : Cell) (limit : ℕ) (refusal : PayloadError) → PayloadRefused d cell limit refusal → LoadRefused d limit (entry_of i cell) (Payload refusal)
-refused_load d i cell limit TooLong refused = refused
-refused_load d i cell limit (Chain e) refused = λ other bytes p. refused.1 other bytes (payload_moves d i i p.cell cell p.is bytes p.payload)
-
-no_source : (d : Database) (cell : Cell) (fault : Fault) (at : ℕ) → ChainRefused d cell fault at → ¬ (fault ≡ faults.Source)
-no_source d cell fault at (inl cut) is = let e = cut.0 in cc
-no_source d cell fault at (inr broken) is = subst (λ f. ChainBroken d cell f at) is broken.1
-
--- A refusal of a payload isn't that a page couldn't be read.
-pub not_source : (d : Database) (cell : Cell) (limit : ℕ) (refusal : PayloadError) → PayloadRefused d cell limit refusal → NotSource (Payload refusal)
-not_source d cell limit TooLong refused = tt
-not_source d cell limit (Chain e) refused = no_source d cell e.fault e.page refused.0
+pub refused_load : (d : Database) (i : ℕ) (cell : Cell) (limit : ℕ) (refusal : PayloadError) → ((¬ IsUnreadPayload refusal) → PayloadRefused d cell limit refusal) → LoadRefused d limit (entry_of i cell) (Payload refusal)
+refused_load d i cell limit TooLong refused = refused (λ none. none)
+refused_load d i cell limit (Chain e) refused = λ read other bytes p. (refused read).1 other bytes (payload_moves d i i p.cell cell p.is bytes p.payload)
 
 -- What was taken is what is stored, as soon as nothing is left.
 pub none_taken : (d : Database) (root : ℕ) (cells : Cells) → ((xs : List Entry) → IsTree d root xs ↔ IsLeft d cells xs) → AreTaken d root cells []
@@ -132,11 +121,17 @@ taken_first d root cells taken all w h =
 
 -- Where the next cell isn't read, neither is the tree.
 pub unread : (d : Database) (root : ℕ) (cells : Cells) (limit : ℕ) (taken : List Stored) (error : RowsError) (none : Type 0)
-    → (((all : List Stored) → ¬ HasStored d root all) → none) → AreTaken d root cells taken → WalkRefused d cells limit error → NotSource error → ReadRefused d root limit none (read_error error)
-unread d root cells limit taken (Tree e) none from w h read = (read, λ other. from (λ all has. let f = taken_first d root cells taken all w has in h other f.0 f.2 f.1 f.4))
-unread d root cells limit taken (Payload (Chain e)) none from w h read = (read, λ other. from (λ all has. let f = taken_first d root cells taken all w has in h other f.0 f.2 f.1 f.4))
-unread d root cells limit taken (Payload TooLong) none from w h read = λ xs tree.
+    → (((all : List Stored) → ¬ HasStored d root all) → none) → AreTaken d root cells taken → WalkRefused d cells limit error → ReadRefused d root limit none (read_error error)
+unread d root cells limit taken (Tree e) none from w h = λ read other. from (λ all has. let f = taken_first d root cells taken all w has in h read other f.0 f.2 f.1 f.4)
+unread d root cells limit taken (Payload (Chain e)) none from w h = λ read other. from (λ all has. let f = taken_first d root cells taken all w has in h read other f.0 f.2 f.1 f.4)
+unread d root cells limit taken (Payload TooLong) none from w h = λ xs tree.
     let was = w.only xs tree in
     let first = h was.0 was.1 in
     let here : Contains (first.0 ∷ first.1) first.0 = (0, omega arith, refl) in
     (first.0, subst (λ z. Contains z first.0) (sym (was.2 ∙ ap (λ z. w.xs ++ z) first.2)) (Contains-append_right w.xs (first.0 ∷ first.1) first.0 here), first.3)
+
+-- A cell that isn't read because a page couldn't be.
+pub unread_cell : (error : RowsError) → IsUnreadTree (read_error error) → IsUnreadRow error
+unread_cell (Tree e) is = is
+unread_cell (Payload (Chain e)) is = is
+unread_cell (Payload TooLong) none = none

@@ -1,5 +1,5 @@
 -- No fault stands in a sound index.
-use Rattle.std.proofs.Common.{◌≡◌, ◌≤◌, ◌+◌, ⊎_elim, ℕ, suc, Bool, true, false, cond, List, [], ◌∷◌, slice_get, Some, ℤ, ◌<ℤ◌, refl, sym, ap, ◌∙◌, subst, arith, count_by}
+use Rattle.std.proofs.Common.{◌≡◌, ◌≤◌, ◌+◌, ⊎_elim, inl, inr, ℕ, suc, Bool, true, false, cond, List, [], ◌∷◌, slice_get, Some, ℤ, ◌<ℤ◌, refl, sym, ap, ◌∙◌, subst, arith, count_by}
 use Rattle.std.specs.Prelude.{Result, Ok, Err, IfErr}
 use Rattle.std.proofs.lemmas.Int.{ints}
 use Rattle.std.proofs.lemmas.Bool.{cases_Bool}
@@ -135,7 +135,7 @@ module _ (d : Database) (table index : ℕ) (key : IndexKey) (n : ℕ) (w : IsIn
   stands_not faults.RowTwice page cell h = among_entries faults.RowTwice page cell h
 
 pub unlimited : (d : Database) (root limit : ℕ) (none : Type 0) (e : ReadError) → ReadRefused d root limit none e → ¬ IsLimit e → none
-unlimited d root limit none (Tree e) h un = h.1 un
+unlimited d root limit none (Tree e) h un = h (λ unread. un (inl unread)) (λ full. un (inr full))
 unlimited d root limit none TooLong h un = absurd (un tt)
 unlimited d root limit none OtherKind h un = h
 unlimited d root limit none RowidOrder h un = h

@@ -24,3 +24,4 @@ pub mod RowsOfKind
 pub mod EntriesMarked
 pub mod IndexesMarked
 pub mod RowidsAlike
+pub mod UnreadPages

@@ -1,5 +1,5 @@
 -- Why an index isn't found sound (own).
-use Rattle.std.specs.Prelude.{◌≡◌, ◌≢◌, ◌<◌, ◌≤◌, ◌+◌, ℕ, true, List, length, slice_get, sum_by, unwrap_or, nat_le, if◌then◌else◌, Some, ℤ}
+use Rattle.std.specs.Prelude.{◌≡◌, ◌≢◌, ◌⊎◌, ◌<◌, ◌≤◌, ◌+◌, ℕ, true, List, length, slice_get, sum_by, unwrap_or, nat_le, if◌then◌else◌, Some, ℤ}
 use Rattle.std.specs.List.{count_by, Contains}
 use Rattle.std.specs.declared.cmp.Ordering.TheVariants.{Less}
 use Rattle.sqval.specs.Database.{Database}
@@ -55,10 +55,10 @@ StandsInIndex d table index key fault page cell =
 abbrev pub HasLongCell : Database → (root limit : ℕ) → Type 0
 HasLongCell d root limit = (xs : List Entry) → IsTree d root xs → (e : Entry) × Contains xs e × (limit < unwrap_or e.payload 0)
 
--- Why a tree isn't read: it has none of what it should have in order, unless memory ran out, or a payload is too long. That a
--- page couldn't be read is none.
+-- Why a tree isn't read: it has none of what it should have in order, unless a page couldn't be read or memory ran out; or a
+-- payload is too long.
 abbrev pub ReadRefused : Database → (root limit : ℕ) → (none : Type 0) → ReadError → Type 0
-ReadRefused d root limit none (Tree e) = (e.fault ≢ checks.Source) × (e.fault ≢ checks.NoMemory → none)
+ReadRefused d root limit none (Tree e) = e.fault ≢ checks.Source → e.fault ≢ checks.NoMemory → none
 ReadRefused d root limit none TooLong = HasLongCell d root limit
 ReadRefused d root limit none OtherKind = none
 ReadRefused d root limit none RowidOrder = none
@@ -86,9 +86,23 @@ IndexRefused d table index key limit (errors.Index e) = ReadRefused d index limi
 IndexRefused d table index key limit (errors.Entry e) = StandsInIndex d table index key e.fault e.page e.cell
 IndexRefused d table index key limit errors.TooLarge = ⊥
 
--- memory ran out, or a payload is too long (own)
+-- a page of a tree couldn't be read
+abbrev pub IsUnreadTree : ReadError → Type 0
+IsUnreadTree (Tree e) = e.fault ≡ checks.Source
+IsUnreadTree TooLong = ⊥
+IsUnreadTree OtherKind = ⊥
+IsUnreadTree RowidOrder = ⊥
+IsUnreadTree NoMemory = ⊥
+
+abbrev pub IsUnreadIndex : IndexError → Type 0
+IsUnreadIndex (errors.Table e) = IsUnreadTree e
+IsUnreadIndex (errors.Index e) = IsUnreadTree e
+IsUnreadIndex (errors.Entry e) = ⊥
+IsUnreadIndex errors.TooLarge = ⊥
+
+-- a page couldn't be read, memory ran out, or a payload is too long (own)
 abbrev pub IsLimit : ReadError → Type 0
-IsLimit (Tree e) = e.fault ≡ checks.NoMemory
+IsLimit (Tree e) = (e.fault ≡ checks.Source) ⊎ (e.fault ≡ checks.NoMemory)
 IsLimit TooLong = Unit {0}
 IsLimit OtherKind = ⊥
 IsLimit RowidOrder = ⊥

@@ -18,7 +18,7 @@ use Rattle.sqindex.specs.Numbers.{is_number}
 use Rattle.sqindex.specs.Stored.{Stored}
 use Rattle.sqindex.specs.Keys.{values_of}
 use Rattle.sqindex.specs.Rules.{HasKeyedRows}
-use Rattle.sqindex.specs.Indexes.{ReadRefused, NoRows, IsLimit}
+use Rattle.sqindex.specs.Indexes.{ReadRefused, NoRows, IsUnreadTree, IsLimit}
 
 -- A column that accepts these takes this value, where it isn't NULL.
 abbrev pub takes : Accepts → Value → Bool
@@ -95,6 +95,11 @@ StandsInTable d table rules fault page cell =
 abbrev pub TableRefused : Database → (table : ℕ) → List ColumnRule → TableError → Type 0
 TableRefused d table rules (errors.Unread e) = ReadRefused d table most_bytes (NoRows d table) e
 TableRefused d table rules (errors.Row e) = StandsInTable d table rules e.fault e.page e.cell
+
+-- a page of the table couldn't be read
+abbrev pub IsUnreadTable : TableError → Type 0
+IsUnreadTable (errors.Unread e) = IsUnreadTree e
+IsUnreadTable (errors.Row e) = ⊥
 
 -- What a refusal refutes: that they do, unless by a limit.
 abbrev pub RefutesTable : Database → (table : ℕ) → List ColumnRule → TableError → Type 0

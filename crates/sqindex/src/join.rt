@@ -8,6 +8,7 @@ ghost use Rattle.sqindex.specs.internal.Joining.{JudgesRow, Sees, EndTells, IsAb
 ghost use Rattle.sqindex.specs.internal.Matching.{SeesIn, CloseRefused, IsMatchedTo, MatchRefusedIn};
 ghost use Rattle.sqindex.specs.internal.RowsGiven.{IsCursor, IsReadTo};
 ghost use Rattle.sqindex.specs.internal.Spans.{IsOpen};
+ghost use Rattle.sqindex.specs.Indexes.{IsUnreadIndex};
 
 use crate::compare::compare_entry;
 use crate::entries::Entries;
@@ -126,9 +127,10 @@ fn close<S: PageSource>(
     requires sized { S.size source.old ≡ rows.walk.cells.size }
     ensures ok { IfOk result (λ new. (new ≡ rows) × (join.fault ≡ None)
         × (length part.now.entries.list.items ≤ join.at)) }
-    ensures err { S.gives_pages source.old → (table : ℕ) (given : List Stored)
+    ensures err { S.reads_right source.old → (table : ℕ) (given : List Stored)
         → IsCursor (S.pages source.old) table rows given
         → IfErr result (CloseRefused (S.pages source.old) table part.now.entries join) }
+    ensures unread { IfErr result (λ e. IsUnreadIndex e → ¬ S.gives_pages source.old) }
     ensures keeps { KeepsPages S.pages S.size S.reads_right S.gives_pages source.old source.new }
 {
     let fault = match end(&part.entries, join) {
@@ -151,13 +153,14 @@ pub(crate) fn match_rows<S: PageSource>(
     mut rows: Rows,
 ) -> Result<Rows, IndexError>
     requires sized { S.size source.old ≡ rows.walk.cells.size }
-    ensures ok { S.gives_pages source.old → (table : ℕ) → AreByRowid key.now part.now.entries → IsOpen part.now.span
+    ensures ok { S.reads_right source.old → (table : ℕ) → AreByRowid key.now part.now.entries → IsOpen part.now.span
         → IsReadTo (S.pages source.old) table part.now.span.above rows
         → IfOk result (IsMatchedTo (S.pages source.old) table key.now part.now) }
-    ensures err { S.gives_pages source.old → (table : ℕ) → AreByRowid key.now part.now.entries → IsOpen part.now.span
+    ensures err { S.reads_right source.old → (table : ℕ) → AreByRowid key.now part.now.entries → IsOpen part.now.span
         → IsReadTo (S.pages source.old) table part.now.span.above rows
         → IfErr result (MatchRefusedIn (S.pages source.old) table key.now part.now) }
     ensures size { IfOk result (λ new. new.walk.cells.size ≡ rows.walk.cells.size) }
+    ensures unread { IfErr result (λ e. IsUnreadIndex e → ¬ S.gives_pages source.old) }
     ensures keeps { KeepsPages S.pages S.size S.reads_right S.gives_pages source.old source.new }
 {
     let mut join = Join { at: 0, fault: None };

@@ -2,7 +2,7 @@
 ghost use Rattle.std.specs.Prelude.{IfOk, IfErr};
 ghost use Rattle.sqpage.specs.Source.{KeepsPages};
 ghost use Rattle.sqindex.specs.Rules.{IsIndexOf};
-ghost use Rattle.sqindex.specs.Indexes.{IndexRefused, RefutesIndex};
+ghost use Rattle.sqindex.specs.Indexes.{IndexRefused, RefutesIndex, IsUnreadIndex};
 
 use crate::error::IndexError;
 use crate::spans::{begin, match_spans};
@@ -20,10 +20,11 @@ fn judge_any<S: PageSource>(
     key: &IndexKey,
     limit: u64,
 ) -> Result<u64, IndexError>
-    ensures ok { S.gives_pages source.old
+    ensures ok { S.reads_right source.old
         → IfOk result (λ n. IsIndexOf (S.pages source.old) table index key.now n) }
-    ensures err { S.gives_pages source.old
+    ensures err { S.reads_right source.old
         → IfErr result (λ e. IndexRefused (S.pages source.old) table index key.now limit e) }
+    ensures unread { IfErr result (λ e. IsUnreadIndex e → ¬ S.gives_pages source.old) }
     ensures keeps { KeepsPages S.pages S.size S.reads_right S.gives_pages source.old source.new }
 {
     let rows = begin(alloc, source, table)?;
@@ -51,14 +52,16 @@ pub fn judge_index<S: PageSource>(
     limit: u64,
 ) -> Result<u64, IndexError>
     // It is, and has so many entries.
-    ensures ok { S.gives_pages source.old
+    ensures ok { S.reads_right source.old
         → IfOk result (λ n. IsIndexOf (S.pages source.old) table index key.now n) }
     // The fault stands at the cell that it names; or a tree can't be read.
-    ensures err { S.gives_pages source.old
+    ensures err { S.reads_right source.old
         → IfErr result (λ e. IndexRefused (S.pages source.old) table index key.now limit e) }
     // No fault is told of a sound index.
-    ensures none { S.gives_pages source.old
+    ensures none { S.reads_right source.old
         → IfErr result (λ e. RefutesIndex (S.pages source.old) table index key.now e) }
+    // That a page couldn't be read is told only where a read failed.
+    ensures unread { IfErr result (λ e. IsUnreadIndex e → ¬ S.gives_pages source.old) }
     ensures keeps { KeepsPages S.pages S.size S.reads_right S.gives_pages source.old source.new }
 {
     judge_any(alloc, source, table, index, key, limit)

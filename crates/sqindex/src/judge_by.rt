@@ -6,6 +6,7 @@ ghost use Rattle.sqindex.specs.EntryIndexes.{EntryIsWrong, IsIndexBy, IndexRefus
 ghost use Rattle.sqindex.specs.internal.Held.{held_by};
 ghost use Rattle.sqindex.specs.internal.Judging.{at_place};
 ghost use Rattle.sqindex.specs.internal.Marking.{IsBehindBy, NotBehindBy, IsSoundBy, AreSoundBy, WrongBy};
+ghost use Rattle.sqindex.specs.Indexes.{IsUnreadIndex};
 
 use crate::entries::Entries;
 use crate::error::{EntryError, IndexError};
@@ -94,14 +95,16 @@ pub fn judge_index_by<S: PageSource>(
     limit: u64,
 ) -> Result<u64, IndexError>
     // It is, and has so many entries.
-    ensures ok { S.gives_pages source.old
+    ensures ok { S.reads_right source.old
         → IfOk result (λ n. IsIndexBy (S.pages source.old) table index key.now n) }
     // The fault stands at the cell that it names; or a tree can't be read, or takes more memory than it may.
-    ensures err { S.gives_pages source.old
+    ensures err { S.reads_right source.old
         → IfErr result (λ e. IndexRefusedBy (S.pages source.old) table index key.now limit e) }
     // No fault is told of a sound index.
-    ensures none { S.gives_pages source.old
+    ensures none { S.reads_right source.old
         → IfErr result (λ e. RefutesIndexBy (S.pages source.old) table index key.now e) }
+    // That a page couldn't be read is told only where a read failed.
+    ensures unread { IfErr result (λ e. IsUnreadIndex e → ¬ S.gives_pages source.old) }
     ensures keeps { KeepsPages S.pages S.size S.reads_right S.gives_pages source.old source.new }
 {
     let entries = read_entries(alloc, source, index, limit, limit)?;

@@ -8,6 +8,7 @@ ghost use Rattle.sqindex.specs.Stored.{Stored};
 ghost use Rattle.sqindex.specs.KeyedRows.{AreKeyedRows, KeyedRefused, RefutesKeyed};
 ghost use Rattle.sqindex.specs.internal.Reading.{stored_of};
 ghost use Rattle.sqindex.specs.internal.KeyedScanning.{IsKeyedScan, IsBefore, IsBehindOf, FaultIn};
+ghost use Rattle.sqindex.specs.RowsKept.{IsUnreadTable};
 
 use crate::column_fault::{first_fault, is_clear};
 use crate::error::{ReadError, RowError, TableError};
@@ -117,10 +118,11 @@ fn scan_keyed<S: PageSource>(
     table: u32,
     key: &RowKey,
 ) -> Result<bool, TableError>
-    ensures ok { S.gives_pages source.old
+    ensures ok { S.reads_right source.old
         → IfOk result (AreKeyedRows (S.pages source.old) table key.now) }
-    ensures err { S.gives_pages source.old
+    ensures err { S.reads_right source.old
         → IfErr result (KeyedRefused (S.pages source.old) table key.now) }
+    ensures unread { IfErr result (λ e. IsUnreadTable e → ¬ S.gives_pages source.old) }
     ensures keeps { KeepsPages S.pages S.size S.reads_right S.gives_pages source.old source.new }
 {
     let mut scan = Scan {
@@ -161,14 +163,16 @@ pub fn judge_keyed_rows<S: PageSource>(
     key: &RowKey,
 ) -> Result<bool, TableError>
     // They are in order, and keep to it, as far as it is known what stands in them.
-    ensures ok { S.gives_pages source.old
+    ensures ok { S.reads_right source.old
         → IfOk result (AreKeyedRows (S.pages source.old) table key.now) }
     // The fault stands at the cell that it names; or the rows can't be read.
-    ensures err { S.gives_pages source.old
+    ensures err { S.reads_right source.old
         → IfErr result (KeyedRefused (S.pages source.old) table key.now) }
     // No fault is told of rows that are so.
-    ensures none { S.gives_pages source.old
+    ensures none { S.reads_right source.old
         → IfErr result (RefutesKeyed (S.pages source.old) table key.now) }
+    // That a page couldn't be read is told only where a read failed.
+    ensures unread { IfErr result (λ e. IsUnreadTable e → ¬ S.gives_pages source.old) }
     ensures keeps { KeepsPages S.pages S.size S.reads_right S.gives_pages source.old source.new }
 {
     scan_keyed(alloc, source, table, key)

@@ -12,6 +12,7 @@ ghost use Rattle.sqindex.specs.internal.Held.{held_by};
 ghost use Rattle.sqindex.specs.internal.Reading.{stored_of};
 ghost use Rattle.sqindex.specs.internal.Marking.{AreSoundBy, HasNone, IsOwn, IsMarkedBy, narrowed, missing, EndsBy};
 ghost use Rattle.sqindex.specs.internal.Marking.{AreMatchedBy, NotMatchedBy};
+ghost use Rattle.sqindex.specs.Indexes.{IsUnreadIndex};
 
 use crate::entries::Entries;
 use crate::error::{EntryError, IndexError, ReadError};
@@ -214,10 +215,11 @@ pub(crate) fn match_by<S: PageSource>(
     key: &EntryKey,
     entries: &Entries,
 ) -> Result<(), IndexError>
-    ensures ok { S.gives_pages source.old → AreSoundBy key.now (held_by entries.now)
+    ensures ok { S.reads_right source.old → AreSoundBy key.now (held_by entries.now)
         → OnOk result (AreMatchedBy (S.pages source.old) table key.now (held_by entries.now)) }
-    ensures err { S.gives_pages source.old → AreSoundBy key.now (held_by entries.now)
+    ensures err { S.reads_right source.old → AreSoundBy key.now (held_by entries.now)
         → IfErr result (NotMatchedBy (S.pages source.old) table key.now (held_by entries.now)) }
+    ensures unread { IfErr result (λ e. IsUnreadIndex e → ¬ S.gives_pages source.old) }
     ensures keeps { KeepsPages S.pages S.size S.reads_right S.gives_pages source.old source.new }
 {
     let mut marks = no_marks(alloc, entries)?;

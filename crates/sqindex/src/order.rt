@@ -7,6 +7,7 @@ ghost use Rattle.sqindex.specs.internal.Held.{held_by};
 ghost use Rattle.sqindex.specs.internal.Judging.{IsBehind, NotBehind, RowidsRise, IsTie, IsNumbered, AreByRowid};
 ghost use Rattle.sqindex.specs.internal.Judging.{TwiceRefused};
 ghost use Rattle.sqkeys.specs.declared.key.IndexKey.{IndexKey as SpecKey};
+ghost use Rattle.sqindex.specs.Indexes.{IsUnreadIndex};
 
 use crate::entries::{Entries, Held};
 use crate::error::IndexError;
@@ -59,6 +60,7 @@ pub(crate) fn sort_entries(entries: &mut Entries) -> Result<(), IndexError>
         → OnOk result (AreByRowid key entries.new × IsPermutation (held_by entries.new) (held_by entries.old)) }
     ensures err { (key : SpecKey) → All (IsNumbered key entries.old) entries.old.list.items
         → IfErr result (TwiceRefused key (held_by entries.old)) }
+    ensures read { IfErr result (λ e. ¬ IsUnreadIndex e) }
 {
     entries.sort();
     match first_tie(&entries.list) {

@@ -9,6 +9,7 @@ ghost use Rattle.sqindex.specs.internal.Parts.{Cuts, CutRefused, TakesIn, Gather
 ghost use Rattle.sqindex.specs.internal.Spans.{GoesOn};
 ghost use Rattle.sqindex.specs.declared.error.IndexError.TheVariants as errors;
 ghost use Rattle.sqindex.specs.declared.error.ReadError.TheVariants.{NoMemory};
+ghost use Rattle.sqindex.specs.Indexes.{IsUnreadIndex};
 
 use crate::entries::{Entries, HELD};
 use crate::error::{EntryError, IndexError, ReadError};
@@ -34,6 +35,7 @@ pub(crate) struct Part {
 fn cut(alloc: Global, part: &mut Part, rowid: i64) -> Result<(), IndexError>
     ensures ok { OnOk result (Cuts part.old part.new) }
     ensures err { IfErr result (CutRefused part.old) }
+    ensures read { IfErr result (λ e. ¬ IsUnreadIndex e) }
 {
     let last = part.entries.end_before(rowid).unwrap_or(i64::MIN);
     let Some(span) = part.span.up_to(last) else {
@@ -65,6 +67,7 @@ fn make_room(
 ) -> Result<(), IndexError>
     ensures ok { OnOk result (Cuts part.old part.new) }
     ensures err { IfErr result (CutRefused part.old) }
+    ensures read { IfErr result (λ e. ¬ IsUnreadIndex e) }
 {
     if is_full(part, rowid, entry, held) {
         return cut(alloc, part, rowid);
@@ -76,6 +79,7 @@ fn make_room(
 fn take_in(part: &mut Part, found: Found, rowid: i64, entry: &[u8]) -> Result<(), IndexError>
     ensures ok { OnOk result (TakesIn part.old found rowid entry.now part.new) }
     ensures err { IfErr result (λ e. e ≡ errors.Index NoMemory) }
+    ensures read { IfErr result (λ e. ¬ IsUnreadIndex e) }
 {
     if !part.span.has(rowid) {
         return Ok(());
@@ -97,6 +101,7 @@ pub(crate) fn gather(
 ) -> Result<(), IndexError>
     ensures ok { OnOk result (Gathers part.old found rowid entry.now part.new) }
     ensures err { IfErr result (CutRefused part.old) }
+    ensures read { IfErr result (λ e. ¬ IsUnreadIndex e) }
 {
     make_room(alloc, part, rowid, entry, held)?;
     take_in(part, found, rowid, entry)
@@ -131,10 +136,11 @@ pub(crate) fn read_part<S: PageSource>(
     room: Room,
 ) -> Result<Part, IndexError>
     requires { held_by part.entries ≡ [] }
-    ensures ok { S.gives_pages source.old → IfOk result (IsPart (S.pages source.old) index key.now) }
+    ensures ok { S.reads_right source.old → IfOk result (IsPart (S.pages source.old) index key.now) }
     ensures span { IfOk result (λ new. GoesOn part.span new.span) }
-    ensures err { S.gives_pages source.old
+    ensures err { S.reads_right source.old
         → IfErr result (PartRefused (S.pages source.old) index key.now room.longest) }
+    ensures unread { IfErr result (λ e. IsUnreadIndex e → ¬ S.gives_pages source.old) }
     ensures keeps { KeepsPages S.pages S.size S.reads_right S.gives_pages source.old source.new }
 {
     let mut walk = match Walk::new(alloc, source, index, room.longest) {

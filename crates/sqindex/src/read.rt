@@ -1,7 +1,7 @@
 //! The entries of an index, read to their end.
 ghost use Rattle.std.specs.Prelude.{◌≡◌, ◌+◌, [], ◌∷◌, ◌++◌, length, None, IfOk, IfErr};
 ghost use Rattle.sqpage.specs.Source.{KeepsPages};
-ghost use Rattle.sqindex.specs.Indexes.{cost_of};
+ghost use Rattle.sqindex.specs.Indexes.{cost_of, IsUnreadIndex};
 ghost use Rattle.sqindex.specs.internal.Held.{held_by, plain};
 ghost use Rattle.sqindex.specs.internal.Reading.{AreRead};
 ghost use Rattle.sqindex.specs.internal.Judging.{EntriesRefused, KeepRefused};
@@ -53,9 +53,10 @@ pub(crate) fn read_entries<S: PageSource>(
     limit: u64,
     longest: u64,
 ) -> Result<Entries, IndexError>
-    ensures ok { S.gives_pages source.old
+    ensures ok { S.reads_right source.old
         → IfOk result (λ entries. AreRead (S.pages source.old) index (held_by entries)) }
-    ensures err { S.gives_pages source.old → IfErr result (EntriesRefused (S.pages source.old) index limit longest) }
+    ensures err { S.reads_right source.old → IfErr result (EntriesRefused (S.pages source.old) index limit longest) }
+    ensures unread { IfErr result (λ e. IsUnreadIndex e → ¬ S.gives_pages source.old) }
     ensures keeps { KeepsPages S.pages S.size S.reads_right S.gives_pages source.old source.new }
 {
     let mut entries = Entries::new(alloc);

@@ -4,7 +4,7 @@ ghost use Rattle.sqval.specs.Record.{most_bytes};
 ghost use Rattle.sqpage.specs.Source.{KeepsPages};
 ghost use Rattle.sqindex.specs.declared.rows.Ahead.TheVariants.{Unread};
 ghost use Rattle.sqindex.specs.Stored.{Stored};
-ghost use Rattle.sqindex.specs.Indexes.{ReadRefused, NoRows};
+ghost use Rattle.sqindex.specs.Indexes.{ReadRefused, NoRows, IsUnreadTree};
 ghost use Rattle.sqindex.specs.internal.RowsGiven.{IsCursor, Gives, GivesTo, LooksAt};
 ghost use Rattle.sqindex.specs.internal.Matching.{HasRowsInOrder};
 
@@ -43,11 +43,12 @@ impl Rows {
         source: &mut S,
         table: u32,
     ) -> Result<Rows, ReadError>
-        ensures ok { S.gives_pages source.old
+        ensures ok { S.reads_right source.old
             → IfOk result (λ rows. IsCursor (S.pages source.old) table rows []) }
-        ensures err { S.gives_pages source.old
+        ensures err { S.reads_right source.old
             → IfErr result (ReadRefused (S.pages source.old) table most_bytes (NoRows (S.pages source.old) table)) }
         ensures size { IfOk result (λ rows. rows.walk.cells.size ≡ S.size source.old) }
+        ensures unread { IfErr result (λ e. IsUnreadTree e → ¬ S.gives_pages source.old) }
         ensures keeps { KeepsPages S.pages S.size S.reads_right S.gives_pages source.old source.new }
     {
         match Walk::new(alloc, source, table, MOST_BYTES as u64) {
@@ -65,13 +66,14 @@ impl Rows {
     fn read<S: PageSource>(&mut self, source: &mut S) -> Result<Option<Found>, ReadError>
         requires sized { S.size source.old ≡ self.old.walk.cells.size }
         requires unread { self.old.ahead ≡ Unread }
-        ensures ok { S.gives_pages source.old → (table : ℕ) (given : List Stored)
+        ensures ok { S.reads_right source.old → (table : ℕ) (given : List Stored)
             → IsCursor (S.pages source.old) table self.old given
             → IfOk result (Gives (S.pages source.old) table self.new given) }
-        ensures err { S.gives_pages source.old → (table : ℕ) (given : List Stored)
+        ensures err { S.reads_right source.old → (table : ℕ) (given : List Stored)
             → IsCursor (S.pages source.old) table self.old given
             → IfErr result (ReadRefused (S.pages source.old) table most_bytes (NoRows (S.pages source.old) table)) }
         ensures size { self.new.walk.cells.size ≡ self.old.walk.cells.size }
+        ensures unread { IfErr result (λ e. IsUnreadTree e → ¬ S.gives_pages source.old) }
         ensures keeps { KeepsPages S.pages S.size S.reads_right S.gives_pages source.old source.new }
     {
         let found = match self.walk.advance(source) {
@@ -94,13 +96,14 @@ impl Rows {
     #[inline(always)]
     fn advance<S: PageSource>(&mut self, source: &mut S) -> Result<Option<Found>, ReadError>
         requires sized { S.size source.old ≡ self.old.walk.cells.size }
-        ensures ok { S.gives_pages source.old → (table : ℕ) (given : List Stored)
+        ensures ok { S.reads_right source.old → (table : ℕ) (given : List Stored)
             → IsCursor (S.pages source.old) table self.old given
             → IfOk result (Gives (S.pages source.old) table self.new given) }
-        ensures err { S.gives_pages source.old → (table : ℕ) (given : List Stored)
+        ensures err { S.reads_right source.old → (table : ℕ) (given : List Stored)
             → IsCursor (S.pages source.old) table self.old given
             → IfErr result (ReadRefused (S.pages source.old) table most_bytes (NoRows (S.pages source.old) table)) }
         ensures size { self.new.walk.cells.size ≡ self.old.walk.cells.size }
+        ensures unread { IfErr result (λ e. IsUnreadTree e → ¬ S.gives_pages source.old) }
         ensures keeps { KeepsPages S.pages S.size S.reads_right S.gives_pages source.old source.new }
     {
         match self.ahead {
@@ -121,13 +124,14 @@ impl Rows {
         last: Option<i64>,
     ) -> Result<Option<Found>, ReadError>
         requires sized { S.size source.old ≡ self.old.walk.cells.size }
-        ensures ok { S.gives_pages source.old → (table : ℕ) (given : List Stored)
+        ensures ok { S.reads_right source.old → (table : ℕ) (given : List Stored)
             → IsCursor (S.pages source.old) table self.old given
             → IfOk result (GivesTo (S.pages source.old) table last self.new given) }
-        ensures err { S.gives_pages source.old → (table : ℕ) (given : List Stored)
+        ensures err { S.reads_right source.old → (table : ℕ) (given : List Stored)
             → IsCursor (S.pages source.old) table self.old given
             → IfErr result (ReadRefused (S.pages source.old) table most_bytes (NoRows (S.pages source.old) table)) }
         ensures size { self.new.walk.cells.size ≡ self.old.walk.cells.size }
+        ensures unread { IfErr result (λ e. IsUnreadTree e → ¬ S.gives_pages source.old) }
         ensures keeps { KeepsPages S.pages S.size S.reads_right S.gives_pages source.old source.new }
     {
         let found = match self.advance(source) {
@@ -146,7 +150,7 @@ impl Rows {
     /// as `advance`.
     pub(crate) fn look<S: PageSource>(&mut self, source: &mut S) -> Result<Option<Found>, ReadError>
         requires sized { S.size source.old ≡ self.old.walk.cells.size }
-        ensures ok { S.gives_pages source.old → (table : ℕ) (given : List Stored)
+        ensures ok { S.reads_right source.old → (table : ℕ) (given : List Stored)
             → IsCursor (S.pages source.old) table self.old given
             → IfOk result (λ found. LooksAt found self.new.ahead × IsCursor (S.pages source.old) table self.new given) }
         ensures size { self.new.walk.cells.size ≡ self.old.walk.cells.size }
@@ -171,12 +175,13 @@ impl Rows {
     /// Reads the rows that are left. Refused where they can't be read, or their rowids don't rise.
     pub(crate) fn finish<S: PageSource>(&mut self, source: &mut S) -> Result<(), ReadError>
         requires sized { S.size source.old ≡ self.old.walk.cells.size }
-        ensures ok { S.gives_pages source.old → (table : ℕ) (given : List Stored)
+        ensures ok { S.reads_right source.old → (table : ℕ) (given : List Stored)
             → IsCursor (S.pages source.old) table self.old given
             → OnOk result (HasRowsInOrder (S.pages source.old) table) }
-        ensures err { S.gives_pages source.old → (table : ℕ) (given : List Stored)
+        ensures err { S.reads_right source.old → (table : ℕ) (given : List Stored)
             → IsCursor (S.pages source.old) table self.old given
             → IfErr result (ReadRefused (S.pages source.old) table most_bytes (NoRows (S.pages source.old) table)) }
+        ensures unread { IfErr result (λ e. IsUnreadTree e → ¬ S.gives_pages source.old) }
         ensures keeps { KeepsPages S.pages S.size S.reads_right S.gives_pages source.old source.new }
     {
         'turns: for _ in 0..u64::MAX {

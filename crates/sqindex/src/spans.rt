@@ -1,9 +1,9 @@
 //! An index against its table, one range of rowids after another (fileformat2, 2.4).
-ghost use Rattle.std.specs.Prelude.{◌≡◌, ℕ, [], List, IfOk, IfErr, OnOk, IsOk, Err};
+ghost use Rattle.std.specs.Prelude.{◌≡◌, ◌⊎◌, ℕ, [], List, IfOk, IfErr, OnOk, IsOk, Err};
 ghost use Rattle.sqpage.specs.Source.{KeepsPages};
 ghost use Rattle.sqindex.specs.Rules.{HasEntries};
 ghost use Rattle.sqindex.specs.Stored.{Stored};
-ghost use Rattle.sqindex.specs.Indexes.{IndexRefused};
+ghost use Rattle.sqindex.specs.Indexes.{IndexRefused, IsUnreadIndex};
 ghost use Rattle.sqindex.specs.internal.Judging.{AreSoundEntries, AreByRowid};
 ghost use Rattle.sqindex.specs.internal.Matching.{IsMatched, MatchesNext, IsFirstPart, AreFirstRows};
 ghost use Rattle.sqindex.specs.internal.Parts.{IsPart, PartRefused};
@@ -35,12 +35,13 @@ fn first_part<S: PageSource>(
     stage: Stage,
     room: Room,
 ) -> Result<Part, IndexError>
-    ensures ok { S.gives_pages source.old → (table : ℕ) (rows : SpecRows) (xs : List Stored)
+    ensures ok { S.reads_right source.old → (table : ℕ) (rows : SpecRows) (xs : List Stored)
         → HasEntries (S.pages source.old) index xs → IsStartOf (S.pages source.old) table key.now stage part rows xs
         → IfOk result (λ new. IsPart (S.pages source.old) index key.now new × IsOpen new.span
         × IsFirstPart stage part new) }
-    ensures err { S.gives_pages source.old
+    ensures err { S.reads_right source.old
         → IfErr result (PartRefused (S.pages source.old) index key.now room.longest) }
+    ensures unread { IfErr result (λ e. IsUnreadIndex e → ¬ S.gives_pages source.old) }
     ensures keeps { KeepsPages S.pages S.size S.reads_right S.gives_pages source.old source.new }
 {
     match stage {
@@ -60,11 +61,12 @@ pub(crate) fn begin<S: PageSource>(
     source: &mut S,
     table: u32,
 ) -> Result<Rows, IndexError>
-    ensures ok { S.gives_pages source.old
+    ensures ok { S.reads_right source.old
         → IfOk result (λ rows. IsCursor (S.pages source.old) table rows []) }
-    ensures err { S.gives_pages source.old → (index limit : ℕ) (key : SpecKey)
+    ensures err { S.reads_right source.old → (index limit : ℕ) (key : SpecKey)
         → IfErr result (IndexRefused (S.pages source.old) table index key limit) }
     ensures size { IfOk result (λ rows. rows.walk.cells.size ≡ S.size source.old) }
+    ensures unread { IfErr result (λ e. IsUnreadIndex e → ¬ S.gives_pages source.old) }
     ensures keeps { KeepsPages S.pages S.size S.reads_right S.gives_pages source.old source.new }
 {
     match Rows::new(alloc, source, table) {
@@ -82,8 +84,9 @@ fn first_rows<S: PageSource>(
     rows: Rows,
 ) -> Result<Rows, IndexError>
     requires sized { S.size source.old ≡ rows.walk.cells.size }
-    ensures are { S.gives_pages source.old → AreFirstRows (S.pages source.old) table stage rows result }
+    ensures are { S.reads_right source.old → AreFirstRows (S.pages source.old) table stage rows result }
     ensures size { IfOk result (λ new. new.walk.cells.size ≡ S.size source.old) }
+    ensures unread { IfErr result (λ e. IsUnreadIndex e → ¬ S.gives_pages source.old) }
     ensures keeps { KeepsPages S.pages S.size S.reads_right S.gives_pages source.old source.new }
 {
     match stage {
@@ -100,9 +103,10 @@ fn match_next<S: PageSource>(
     matched: Result<Rows, IndexError>,
 ) -> Result<Rows, IndexError>
     requires sized { IfOk matched (λ rows. rows.walk.cells.size ≡ S.size source.old) }
-    ensures matches { S.gives_pages source.old → (table : ℕ) → AreByRowid key.now part.now.entries
+    ensures matches { S.reads_right source.old → (table : ℕ) → AreByRowid key.now part.now.entries
         → IsOpen part.now.span → MatchesNext (S.pages source.old) table key.now part.now matched result }
     ensures size { IfOk result (λ rows. rows.walk.cells.size ≡ S.size source.old) }
+    ensures unread { IfErr result (λ e. IsUnreadIndex e → (matched ≡ Err e) ⊎ ¬ S.gives_pages source.old) }
     ensures keeps { KeepsPages S.pages S.size S.reads_right S.gives_pages source.old source.new }
 {
     match matched {
@@ -134,12 +138,13 @@ pub(crate) fn match_spans<S: PageSource>(
     start: Start,
 ) -> Result<(), IndexError>
     requires sized { S.size source.old ≡ start.rows.walk.cells.size }
-    ensures ok { S.gives_pages source.old → StartsIndex (S.pages source.old) table index key.now start
+    ensures ok { S.reads_right source.old → StartsIndex (S.pages source.old) table index key.now start
         → (xs : List Stored) → HasEntries (S.pages source.old) index xs
         → AreSoundEntries key.now xs → OnOk result (IsMatched (S.pages source.old) table key.now xs) }
-    ensures err { S.gives_pages source.old → StartsIndex (S.pages source.old) table index key.now start
+    ensures err { S.reads_right source.old → StartsIndex (S.pages source.old) table index key.now start
         → (xs : List Stored) → HasEntries (S.pages source.old) index xs → AreSoundEntries key.now xs
         → IfErr result (IndexRefused (S.pages source.old) table index key.now start.room.longest) }
+    ensures unread { IfErr result (λ e. IsUnreadIndex e → ¬ S.gives_pages source.old) }
     ensures keeps { KeepsPages S.pages S.size S.reads_right S.gives_pages source.old source.new }
 {
     let room = start.room;

@@ -17,6 +17,7 @@ ghost use Rattle.sqindex.specs.internal.Streaming.{StreamRefused};
 ghost use Rattle.sqindex.specs.internal.Stepping.{StepsOn, HoldsOn, IsStartOf, StartsIndex};
 ghost use Rattle.sqindex.specs.internal.RowsGiven.{IsCursor};
 ghost use Rattle.sqindex.specs.internal.Held.{plain};
+ghost use Rattle.sqindex.specs.Indexes.{IsUnreadIndex};
 
 use crate::compare::has_columns;
 use crate::entries::Entries;
@@ -149,7 +150,7 @@ fn step<S: PageSource>(
 ) -> Stage
     requires sized { S.size source.old ≡ rows.old.walk.cells.size }
     requires keyed { HasEnds (width key.now) (decode entry.now) ends }
-    ensures goes { S.gives_pages source.old → (table : ℕ) (given : List Stored)
+    ensures goes { S.reads_right source.old → (table : ℕ) (given : List Stored)
         → IsCursor (S.pages source.old) table rows.old given
         → StepsOn (S.pages source.old) table key.now ends.rowid entry.now given rows.new result }
     ensures size { rows.new.walk.cells.size ≡ rows.old.walk.cells.size }
@@ -193,7 +194,7 @@ fn go_on<S: PageSource>(
 ) -> Stage
     requires sized { S.size source.old ≡ start.old.rows.walk.cells.size }
     requires keyed { HasEnds (width key.now) (decode entry.now) ends }
-    ensures starts { S.gives_pages source.old → (table : ℕ) (xs : List Stored)
+    ensures starts { S.reads_right source.old → (table : ℕ) (xs : List Stored)
         → IsStartOf (S.pages source.old) table key.now start.old.stage start.old.part start.old.rows xs
         → IsStartOf (S.pages source.old) table key.now result start.new.part start.new.rows
         (xs ++ plain found entry.now ∷ []) }
@@ -229,7 +230,7 @@ fn take<S: PageSource>(
 )
     requires sized { S.size source.old ≡ start.old.rows.walk.cells.size }
     requires keyed { IsEnded key.now entry.now ends }
-    ensures starts { S.gives_pages source.old → (table : ℕ) (xs : List Stored)
+    ensures starts { S.reads_right source.old → (table : ℕ) (xs : List Stored)
         → IsStartOf (S.pages source.old) table key.now start.old.stage start.old.part start.old.rows xs
         → IsStartOf (S.pages source.old) table key.now start.new.stage start.new.part start.new.rows
         (xs ++ plain found entry.now ∷ []) }
@@ -286,12 +287,13 @@ pub(crate) fn order_index<S: PageSource>(
     rows: Rows,
 ) -> Result<Start, IndexError>
     requires sized { S.size source.old ≡ rows.walk.cells.size }
-    ensures ok { S.gives_pages source.old → (table : ℕ) → IsCursor (S.pages source.old) table rows []
+    ensures ok { S.reads_right source.old → (table : ℕ) → IsCursor (S.pages source.old) table rows []
         → IfOk result (StartsIndex (S.pages source.old) table index key.now) }
     ensures room { IfOk result (λ start. (start.room.longest ≡ limit)
         × (start.rows.walk.cells.size ≡ S.size source.old)) }
-    ensures err { S.gives_pages source.old
+    ensures err { S.reads_right source.old
         → IfErr result (StreamRefused (S.pages source.old) index key.now limit) }
+    ensures unread { IfErr result (λ e. IsUnreadIndex e → ¬ S.gives_pages source.old) }
     ensures keeps { KeepsPages S.pages S.size S.reads_right S.gives_pages source.old source.new }
 {
     let entries = Entries::new(alloc);

@@ -4,7 +4,7 @@ ghost use Rattle.sqpage.specs.Source.{KeepsPages};
 ghost use Rattle.sqindex.specs.Stored.{Stored};
 ghost use Rattle.sqlite_record.specs.Record.{decode};
 ghost use Rattle.sqlite_value.specs.Order.{Row};
-ghost use Rattle.sqindex.specs.RowsKept.{IsClear, IsUnclear, AreRowsKept, TableRefused, RefutesTable};
+ghost use Rattle.sqindex.specs.RowsKept.{IsClear, IsUnclear, AreRowsKept, TableRefused, RefutesTable, IsUnreadTable};
 ghost use Rattle.sqindex.specs.internal.Reading.{stored_of};
 ghost use Rattle.sqindex.specs.internal.Scanning.{IsScanned, EndsAs};
 
@@ -77,10 +77,11 @@ fn scan_rows<S: PageSource>(
     table: u32,
     rules: &[ColumnRule],
 ) -> Result<bool, TableError>
-    ensures ok { S.gives_pages source.old
+    ensures ok { S.reads_right source.old
         → IfOk result (AreRowsKept (S.pages source.old) table rules.now) }
-    ensures err { S.gives_pages source.old
+    ensures err { S.reads_right source.old
         → IfErr result (TableRefused (S.pages source.old) table rules.now) }
+    ensures unread { IfErr result (λ e. IsUnreadTable e → ¬ S.gives_pages source.old) }
     ensures keeps { KeepsPages S.pages S.size S.reads_right S.gives_pages source.old source.new }
 {
     let known = are_known(rules);
@@ -119,14 +120,16 @@ pub fn judge_rows<S: PageSource>(
     rules: &[ColumnRule],
 ) -> Result<bool, TableError>
     // They do, as far as it is known what stands in them.
-    ensures ok { S.gives_pages source.old
+    ensures ok { S.reads_right source.old
         → IfOk result (AreRowsKept (S.pages source.old) table rules.now) }
     // The fault stands at the cell that it names; or the rows can't be read.
-    ensures err { S.gives_pages source.old
+    ensures err { S.reads_right source.old
         → IfErr result (TableRefused (S.pages source.old) table rules.now) }
     // No fault is told of rows that keep to them.
-    ensures none { S.gives_pages source.old
+    ensures none { S.reads_right source.old
         → IfErr result (RefutesTable (S.pages source.old) table rules.now) }
+    // That a page couldn't be read is told only where a read failed.
+    ensures unread { IfErr result (λ e. IsUnreadTable e → ¬ S.gives_pages source.old) }
     ensures keeps { KeepsPages S.pages S.size S.reads_right S.gives_pages source.old source.new }
 {
     scan_rows(alloc, source, table, rules)

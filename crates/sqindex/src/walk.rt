@@ -6,10 +6,10 @@ ghost use Rattle.sqpage.specs.Page.{has_payload};
 ghost use Rattle.sqpage.specs.Source.{KeepsPages};
 ghost use Rattle.sqpage.specs.declared.fault.Fault.{Fault};
 ghost use Rattle.sqrows.specs.Cursor.{IsOver, IsLeft, IsAt};
-ghost use Rattle.sqrows.specs.Payloads.{PayloadRefused};
+ghost use Rattle.sqrows.specs.RowCursor.{IsUnreadRow};
 ghost use Rattle.sqrows.specs.Trees.{Entry, IsTree};
 ghost use Rattle.sqindex.specs.Stored.{IsStoredIn};
-ghost use Rattle.sqindex.specs.internal.Reading.{stored_of, WalkMoves, WalkRefused, LoadRefused, NotSource};
+ghost use Rattle.sqindex.specs.internal.Reading.{stored_of, WalkMoves, WalkRefused, LoadRefused};
 
 use sqpage::{Cell, CheckError, PageSource};
 use sqrows::{Cells, PayloadError, RowsError, payload_into};
@@ -64,10 +64,11 @@ impl Walk {
         root: u32,
         limit: u64,
     ) -> Result<Walk, CheckError>
-        ensures ok { S.gives_pages source.old → IfOk result (λ walk. IsOver (S.pages source.old) walk.cells
+        ensures ok { S.reads_right source.old → IfOk result (λ walk. IsOver (S.pages source.old) walk.cells
             × ((xs : List Entry) → IsTree (S.pages source.old) root xs ↔ IsLeft (S.pages source.old) walk.cells xs)) }
-        ensures err { S.gives_pages source.old → IfErr result (λ e. (e.fault ≢ Fault.Source)
-            × (e.fault ≢ Fault.NoMemory → (xs : List Entry) → ¬ IsTree (S.pages source.old) root xs)) }
+        ensures err { S.reads_right source.old → IfErr result (λ e. e.fault ≢ Fault.Source
+            → e.fault ≢ Fault.NoMemory → (xs : List Entry) → ¬ IsTree (S.pages source.old) root xs) }
+        ensures unread { IfErr result (λ e. e.fault ≡ Fault.Source → ¬ S.gives_pages source.old) }
         ensures size { IfOk result (λ walk. (walk.cells.size ≡ S.size source.old) × (walk.limit ≡ limit)) }
         ensures keeps { KeepsPages S.pages S.size S.reads_right S.gives_pages source.old source.new }
     {
@@ -114,11 +115,11 @@ impl Walk {
     fn load<S: PageSource>(&mut self, source: &mut S) -> Result<(), RowsError>
         requires sized { S.size source.old ≡ self.old.cells.size }
         requires own { has_payload self.old.cells.top.kind ≡ true }
-        ensures ok { S.gives_pages source.old → OnOk result ((e : Entry) × IsAt self.new.cells e
+        ensures ok { S.reads_right source.old → OnOk result ((e : Entry) × IsAt self.new.cells e
             × IsStoredIn (S.pages source.old) e (stored_of self.new.found self.new.payload.items)) }
-        ensures err { S.gives_pages source.old → IfErr result (λ error. (e : Entry) → IsAt self.old.cells e
+        ensures err { S.reads_right source.old → IfErr result (λ error. (e : Entry) → IsAt self.old.cells e
             → LoadRefused (S.pages source.old) self.old.limit e error) }
-        ensures read { S.gives_pages source.old → IfErr result NotSource }
+        ensures unread { IfErr result (λ e. IsUnreadRow e → ¬ S.gives_pages source.old) }
         ensures same { (self.new.cells ≡ self.old.cells) × (self.new.limit ≡ self.old.limit) }
         ensures keeps { KeepsPages S.pages S.size S.reads_right S.gives_pages source.old source.new }
     {
@@ -144,11 +145,11 @@ impl Walk {
         source: &mut S,
     ) -> Result<Option<Found>, RowsError>
         requires sized { S.size source.old ≡ self.old.cells.size }
-        ensures ok { S.gives_pages source.old → IsOver (S.pages source.old) self.old.cells → IfOk result (λ found.
+        ensures ok { S.reads_right source.old → IsOver (S.pages source.old) self.old.cells → IfOk result (λ found.
             WalkMoves (S.pages source.old) self.old.cells found self.new) }
-        ensures err { S.gives_pages source.old → IsOver (S.pages source.old) self.old.cells
+        ensures err { S.reads_right source.old → IsOver (S.pages source.old) self.old.cells
             → IfErr result (WalkRefused (S.pages source.old) self.old.cells self.old.limit) }
-        ensures read { S.gives_pages source.old → IfErr result NotSource }
+        ensures unread { IfErr result (λ e. IsUnreadRow e → ¬ S.gives_pages source.old) }
         ensures size { (self.new.cells.size ≡ self.old.cells.size)
             × (self.new.cells.usable ≡ self.old.cells.usable) × (self.new.limit ≡ self.old.limit) }
         ensures keeps { KeepsPages S.pages S.size S.reads_right S.gives_pages source.old source.new }

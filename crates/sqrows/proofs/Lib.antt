@@ -1,2 +1,3 @@
 pub mod moves
 pub mod PassedRows
+pub mod UnreadPages

@@ -12,7 +12,7 @@ use Rattle.sqrows.specs.declared.rows.RowsError.TheVariants.{Tree, Payload}
 use Rattle.sqrows.specs.Trees.{Entry, IsTree}
 use Rattle.sqrows.specs.Cursor.{IsLeft}
 use Rattle.sqrows.specs.Rows.{Row, IsRowIn, AreRows}
-use Rattle.sqrows.specs.RowCursor.{IsAtRow, CellsMove, NextHolds, HasNoPayload, IsAbove, RowsRefused}
+use Rattle.sqrows.specs.RowCursor.{IsAtRow, CellsMove, NextHolds, HasNoPayload, IsAbove, IsUnreadRow, RowsRefused}
 use Rattle.sqrows.specs.Stops.{ComeFirst, HoldsAt, IsNoRecord, TreeRefused, FaultAt, RowRefused}
 use Rattle.sqrows.specs.internal.Passing.{ArePassed, Passes}
 
@@ -50,11 +50,11 @@ holds_at d root cursor rows P passed holds = λ xs tree.
     (n.0, ap (λ k. slice_get xs k) count ∙ ap (λ ys. slice_get ys (length w.0)) same ∙ at_seam w.0 n.0 n.1, n.3)
 
 -- why the next row isn't read is why row k isn't
-pub row_refused : (d : Database) (root limit : ℕ) (cursor : Rows) (rows : List Row) (error : RowsError) → ArePassed d root cursor rows → cursor.limit ≡ limit → RowsRefused d cursor error → RowRefused d root limit (length rows) error
+pub row_refused : (d : Database) (root limit : ℕ) (cursor : Rows) (rows : List Row) (error : RowsError) → ArePassed d root cursor rows → cursor.limit ≡ limit → ((¬ IsUnreadRow error) → RowsRefused d cursor error) → RowRefused d root limit (length rows) error
 row_refused d root limit cursor rows (Payload TooLong) passed is h =
-    subst (λ (l : ℕ). HoldsAt d root (length rows) (IsAbove l)) is (holds_at d root cursor rows (IsAbove cursor.limit) passed h)
-row_refused d root limit cursor rows (Payload (Chain e)) passed is h = (h.0, λ other. holds_at d root cursor rows (HasNoPayload d) passed (h.1 other))
-row_refused d root limit cursor rows (Tree e) passed is h = (h.0, λ other xs tree. let w = passed xs tree in h.1 other w.1 w.3)
+    subst (λ (l : ℕ). HoldsAt d root (length rows) (IsAbove l)) is (holds_at d root cursor rows (IsAbove cursor.limit) passed (h (λ none. none)))
+row_refused d root limit cursor rows (Payload (Chain e)) passed is h = λ read other. holds_at d root cursor rows (HasNoPayload d) passed ((h read).1 other)
+row_refused d root limit cursor rows (Tree e) passed is h = λ read other xs tree. let w = passed xs tree in (h read).1 other w.1 w.3
 
 -- the cell that the cursor came to: its row, or that it is no record
 pub passes : (d : Database) (old new : Rows) (row : Row) → ((xs : List Entry) → IsLeft d old.cells xs → CellsMove d true xs new) → IsAtRow new row → Passes d old new row
@@ -66,4 +66,4 @@ pub no_record : (d : Database) (old new : Rows) (error : RecordError) → ((xs :
 no_record d old new error move refused = λ xs left. let m = move xs left in (m.0, m.1, m.2, (new.payload.items, m.3.payload, refused))
 
 pub tree_fault : (d : Database) (root k : ℕ) (e : CheckError) → TreeRefused d root e → FaultAt d root k e
-tree_fault d root k e h = (h.0, λ other xs tree. absurd (h.1 other xs tree))
+tree_fault d root k e h = λ read other xs tree. absurd (h read other xs tree)

@@ -6,3 +6,4 @@ pub mod FirstLevel
 pub mod WayBack
 pub mod OneList
 pub mod RowsOfCells
+pub mod FaultsOfWalk

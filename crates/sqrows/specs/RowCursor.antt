@@ -7,6 +7,7 @@ use Rattle.sqrows.specs.declared.payload.PayloadError.TheVariants.{TooLong, Chai
 use Rattle.sqrows.specs.declared.rows.Rows.{Rows}
 use Rattle.sqrows.specs.declared.rows.RowsError.{RowsError}
 use Rattle.sqrows.specs.declared.rows.RowsError.TheVariants.{Tree, Payload}
+use Rattle.sqrows.specs.Payloads.{IsUnreadPayload}
 use Rattle.sqrows.specs.Trees.{Entry}
 use Rattle.sqrows.specs.Cursor.{IsLeft, IsAt}
 use Rattle.sqrows.specs.Rows.{Row, IsPayloadIn, AreRows}
@@ -46,6 +47,11 @@ HasNoPayload d e = (bytes : List ℕ) → ¬ IsPayloadIn d e bytes
 
 abbrev pub IsAbove : (limit : ℕ) → Entry → Type 0
 IsAbove limit e = limit < unwrap_or e.payload 0
+
+-- A page of the tree, or of the next row's payload, couldn't be read.
+abbrev pub IsUnreadRow : RowsError → Type 0
+IsUnreadRow (Payload e) = IsUnreadPayload e
+IsUnreadRow (Tree e) = e.fault ≡ faults.Source
 
 -- Why the next row isn't read: its payload is above the limit or isn't there, or the cells that are left can't be said, the
 -- latter two unless memory ran out.

@@ -24,13 +24,13 @@ HoldsAt d root k P = (xs : List Entry) → IsTree d root xs → (e : Entry) × (
 abbrev pub IsNoRecord : Database → RecordError → Entry → Type 0
 IsNoRecord d error e = (bytes : List ℕ) × IsPayloadIn d e bytes × Refused error bytes
 
--- What a fault of a tree says: the tree isn't sound, unless memory ran out. That a page couldn't be read is none.
+-- What a fault of a tree says: the tree isn't sound, unless a page couldn't be read or memory ran out.
 abbrev pub TreeRefused : Database → (root : ℕ) → CheckError → Type 0
-TreeRefused d root e = (e.fault ≢ faults.Source) × (e.fault ≢ faults.NoMemory → (xs : List Entry) → ¬ IsTree d root xs)
+TreeRefused d root e = e.fault ≢ faults.Source → e.fault ≢ faults.NoMemory → (xs : List Entry) → ¬ IsTree d root xs
 
--- What a fault at cell k says: the tree isn't sound, or that cell has no payload, unless memory ran out.
+-- What a fault at cell k says: the tree isn't sound, or that cell has no payload, unless a page couldn't be read or memory ran out.
 abbrev pub FaultAt : Database → (root k : ℕ) → CheckError → Type 0
-FaultAt d root k e = (e.fault ≢ faults.Source) × (e.fault ≢ faults.NoMemory → HoldsAt d root k (HasNoPayload d))
+FaultAt d root k e = e.fault ≢ faults.Source → e.fault ≢ faults.NoMemory → HoldsAt d root k (HasNoPayload d)
 
 -- Why row k isn't read, within a limit on payloads.
 abbrev pub RowRefused : Database → (root limit k : ℕ) → RowsError → Type 0

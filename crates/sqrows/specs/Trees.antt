@@ -1,13 +1,16 @@
 -- The cells of a tree in order (fileformat2, 1.6).
-use Rattle.std.specs.Prelude.{◌≡◌, ℕ, zero, suc, ◌+◌, ◌*◌, ◌/◌, ◌%◌, ◌≤◌, ◌⊎◌, ◌==◌, if◌then◌else◌, Bool, List, [], ◌∷◌, ◌++◌, length, Option, unwrap_or, ℤ}
+use Rattle.std.specs.Prelude.{◌≡◌, ℕ, zero, suc, ◌+◌, ◌*◌, ◌/◌, ◌%◌, ◌<◌, ◌≤◌, ◌⊎◌, ◌==◌, if◌then◌else◌, Bool, List, [], ◌∷◌, ◌++◌, length, Option, unwrap_or, ℤ}
 use Rattle.sqval.specs.Bytes.{word}
 use Rattle.sqval.specs.Database.{Database}
 use Rattle.sqpage.specs.declared.cell.Cell.{Cell}
+use Rattle.sqpage.specs.declared.fault.Fault.{Fault}
+use Rattle.sqpage.specs.declared.fault.Fault.TheVariants as faults
 use Rattle.sqpage.specs.declared.kind.Kind.{Kind}
 use Rattle.sqpage.specs.declared.kind.Kind.TheVariants.{TableLeaf, TableInterior, IndexLeaf, IndexInterior}
 use Rattle.sqpage.specs.Freelist.{IsPage, usable_size}
 use Rattle.sqpage.specs.Lists.{each_from}
-use Rattle.sqpage.specs.Page.{Page, is_table, head_at, cell_count, pointers_end_in}
+use Rattle.sqpage.specs.Header.{byte}
+use Rattle.sqpage.specs.Page.{Page, code_of, is_table, head_at, cell_count, pointers_end_in}
 use Rattle.sqcheck.specs.Places.{page_as, HasKind, IsCellAt}
 use Rattle.sqrows.specs.declared.level.Step.{Step}
 use Rattle.sqrows.specs.declared.level.Step.TheVariants.{Cell as OwnCell, Child}
@@ -72,3 +75,11 @@ pub record IsTree (d : Database) (root : ℕ) (xs : List Entry) : Type 0 where
   pub room : 480 ≤ usable_size d
   pub within : pages ≤ length d
   pub lists : Lists d table 20 root pages xs
+
+-- A page with these used bytes is none of a tree of these kinds: its type byte is no such kind's, or the pointers to its
+-- cells leave the bytes.
+abbrev pub IsNoPageOf : (IsKind : Kind → Type 0) → (used : List ℕ) → (usable number : ℕ) → Fault → Type 0
+IsNoPageOf IsKind used usable number faults.Kind = (kind : Kind) → byte used (head_at number) ≡ code_of kind → ¬ IsKind kind
+IsNoPageOf IsKind used usable number faults.CellOutside =
+    (kind : Kind) × (byte used (head_at number) ≡ code_of kind) × (usable < pointers_end_in kind used number)
+IsNoPageOf IsKind used usable number _ = ⊥

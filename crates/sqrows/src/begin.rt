@@ -2,10 +2,11 @@
 ghost use Rattle.std.specs.Prelude.{◌≡◌, ◌≢◌, ◌↔◌, ◌<◌, ◌≤◌, List, IfOk, IfErr, length};
 ghost use Rattle.sqval.specs.Database.{Database, page};
 ghost use Rattle.sqpage.specs.Freelist.{IsPage, usable_size};
-ghost use Rattle.sqpage.specs.Source.{KeepsPages};
+ghost use Rattle.sqpage.specs.Source.{KeepsPages, UnlessUnread};
 ghost use Rattle.sqpage.specs.declared.fault.Fault.{Fault};
 ghost use Rattle.sqrows.specs.Trees.{Entry, IsTree};
 ghost use Rattle.sqrows.specs.Cursor.{IsOver, IsLeft};
+ghost use Rattle.sqrows.specs.Faults.{RootFault};
 
 use crate::cells::Cells;
 use crate::walk::{open, room};
@@ -21,9 +22,9 @@ fn usable_of<S: PageSource>(source: &mut S, bytes: &mut Vec<u8>) -> Result<u32, 
     requires room { (length bytes.old.items ≡ S.size source.old) × (512 ≤ length bytes.old.items)
         × (length bytes.old.items ≤ 65536) }
     ensures ok { IfOk result (λ usable. (480 ≤ usable) × (usable ≤ 65536) × (usable ≤ S.size source.old)
-        × (S.gives_pages source.old → usable ≡ usable_size (S.pages source.old))) }
-    ensures err { S.gives_pages source.old → IfErr result (λ e. (e.fault ≢ Fault.Source) × (e.fault ≢ Fault.NoMemory)
-        × (usable_size (S.pages source.old) < 480)) }
+        × (S.reads_right source.old → usable ≡ usable_size (S.pages source.old))) }
+    ensures err { S.reads_right source.old → IfErr result (λ e. UnlessUnread (S.gives_pages source.old) e.fault
+        ((e.fault ≡ Fault.Reserved) × (e.page ≡ 1) × (usable_size (S.pages source.old) < 480))) }
     ensures length { length bytes.new.items ≡ length bytes.old.items }
     ensures keeps { KeepsPages S.pages S.size S.reads_right S.gives_pages source.old source.new }
 {
@@ -50,13 +51,14 @@ impl Cells {
     /// the root, by Source where a page could not be read, and by NoMemory.
     pub fn new<S: PageSource>(alloc: Global, source: &mut S, root: u32) -> Result<Cells, CheckError>
         // What is left are the cells of the tree.
-        ensures ok { S.gives_pages source.old → IfOk result (λ cells. IsOver (S.pages source.old) cells
+        ensures ok { S.reads_right source.old → IfOk result (λ cells. IsOver (S.pages source.old) cells
             × ((xs : List Entry) → IsTree (S.pages source.old) root xs ↔ IsLeft (S.pages source.old) cells xs)) }
         // A root has at most one list of cells.
         ensures once { (d : Database) (xs ys : List Entry) → IsTree d root xs → IsTree d root ys → xs ≡ ys }
-        // It isn't sound, unless memory ran out.
-        ensures err { S.gives_pages source.old → IfErr result (λ e. (e.fault ≢ Fault.Source)
-            × (e.fault ≢ Fault.NoMemory → (xs : List Entry) → ¬ IsTree (S.pages source.old) root xs)) }
+        // It isn't sound, unless a page couldn't be read or memory ran out. The fault stands at the page.
+        ensures err { S.reads_right source.old → IfErr result (λ e. UnlessUnread (S.gives_pages source.old) e.fault
+            ((e.fault ≢ Fault.NoMemory → (xs : List Entry) → ¬ IsTree (S.pages source.old) root xs)
+            × RootFault (S.pages source.old) root e.fault e.page)) }
         ensures size { IfOk result (λ cells. cells.size ≡ S.size source.old) }
         ensures keeps { KeepsPages S.pages S.size S.reads_right S.gives_pages source.old source.new }
     {

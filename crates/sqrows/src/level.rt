@@ -4,7 +4,7 @@ ghost use Rattle.sqpage.specs.Header.{byte};
 ghost use Rattle.sqpage.specs.Page.{code_of, head_at, pointers_at, cell_count_in, pointer_in, pointers_end_in};
 ghost use Rattle.sqpage.specs.declared.fault.Fault.{Fault};
 ghost use Rattle.sqpage.specs.declared.kind.Kind.{Kind};
-ghost use Rattle.sqrows.specs.Trees.{step_count, step_of};
+ghost use Rattle.sqrows.specs.Trees.{IsNoPageOf, step_count, step_of};
 
 use crate::bytes::half_at;
 use sqpage::{Fault, Kind};
@@ -84,8 +84,7 @@ pub(crate) fn kind_in(used: &[u8], number: u32) -> Result<Kind, Fault>
     requires { 480 ≤ length used.now }
     ensures ok { IfOk result (λ kind. (byte used.now (head_at number) ≡ code_of kind)
         × (pointers_end_in kind used.now number ≤ length used.now) × (cell_count_in used.now number < 65536)) }
-    ensures err { IfErr result (λ fault. (fault ≢ Fault.Source) × (fault ≢ Fault.NoMemory) × ((kind : Kind)
-        → byte used.now (head_at number) ≡ code_of kind → length used.now < pointers_end_in kind used.now number)) }
+    ensures err { IfErr result (IsNoPageOf (λ kind. Unit {0}) used.now (length used.now) number) }
 {
     let Some(kind) = Kind::of(used[head(number)]) else {
         return Err(Fault::Kind);

@@ -2,7 +2,7 @@
 ghost use Rattle.std.specs.Prelude.{◌≤◌, IfOk, IfErr, OnOk, IsSome, length};
 ghost use Rattle.sqpage.specs.Chain.{payload_size, IsPayload};
 ghost use Rattle.sqpage.specs.Source.{KeepsPages};
-ghost use Rattle.sqrows.specs.Payloads.{PayloadRefused};
+ghost use Rattle.sqrows.specs.Payloads.{Unless, IsUnreadPayload, PayloadRefused};
 
 use sqpage::{Cell, CheckError, PageSource, links_of, payload};
 use std::alloc::Global;
@@ -29,8 +29,9 @@ pub fn payload_into<S: PageSource>(
 ) -> Result<(), PayloadError>
     requires payload { IsSome cell.now.payload × (length cell.now.local.now ≤ payload_size cell.now) }
     requires usable { (480 ≤ cell.now.usable) × (cell.now.usable ≤ S.size source.old) }
-    ensures ok { S.gives_pages source.old → OnOk result (IsPayload (S.pages source.old) cell.now out.new.items) }
-    ensures err { S.gives_pages source.old → IfErr result (PayloadRefused (S.pages source.old) cell.now limit) }
+    ensures ok { S.reads_right source.old → OnOk result (IsPayload (S.pages source.old) cell.now out.new.items) }
+    ensures err { S.reads_right source.old → IfErr result (λ e. Unless (IsUnreadPayload e) (S.gives_pages source.old)
+        (PayloadRefused (S.pages source.old) cell.now limit e)) }
     ensures keeps { KeepsPages S.pages S.size S.reads_right S.gives_pages source.old source.new }
 {
     if cell.payload.unwrap_or(0) > limit {
@@ -54,9 +55,10 @@ pub fn payload_within<'a, S: PageSource>(
 ) -> Result<&'a [u8], PayloadError>
     requires payload { IsSome cell.now.payload × (length cell.now.local.now ≤ payload_size cell.now) }
     requires usable { (480 ≤ cell.now.usable) × (cell.now.usable ≤ S.size source.old) }
-    ensures ok { S.gives_pages source.old → IfOk result (λ bytes. IsPayload (S.pages source.old) cell.now bytes.now
+    ensures ok { S.reads_right source.old → IfOk result (λ bytes. IsPayload (S.pages source.old) cell.now bytes.now
         × (length bytes.now ≤ limit)) }
-    ensures err { S.gives_pages source.old → IfErr result (PayloadRefused (S.pages source.old) cell.now limit) }
+    ensures err { S.reads_right source.old → IfErr result (λ e. Unless (IsUnreadPayload e) (S.gives_pages source.old)
+        (PayloadRefused (S.pages source.old) cell.now limit e)) }
     ensures keeps { KeepsPages S.pages S.size S.reads_right S.gives_pages source.old source.new }
 {
     let size = cell.payload.unwrap_or(0);

@@ -2,12 +2,14 @@
 ghost use Rattle.std.specs.Prelude.{◌≡◌, ◌≢◌, ◌↔◌, ◌<◌, ◌≤◌, List, IfOk, IfErr, OnOk, MatchResult, true};
 ghost use Rattle.sqval.specs.Record.{Refused};
 ghost use Rattle.sqpage.specs.Page.{has_payload};
-ghost use Rattle.sqpage.specs.Source.{KeepsPages};
+ghost use Rattle.sqpage.specs.Source.{KeepsPages, UnlessUnread};
 ghost use Rattle.sqpage.specs.declared.fault.Fault.{Fault};
 ghost use Rattle.sqrows.specs.Trees.{Entry, IsTree};
 ghost use Rattle.sqrows.specs.Cursor.{IsOver, IsLeft};
 ghost use Rattle.sqrows.specs.Rows.{Row as SpecRow, HasRows};
-ghost use Rattle.sqrows.specs.RowCursor.{RowsLeft, RowsMove, CellsMove, IsAtRow, HasLoaded, RowsRefused};
+ghost use Rattle.sqrows.specs.Payloads.{Unless};
+ghost use Rattle.sqrows.specs.RowCursor.{IsUnreadRow, RowsLeft, RowsMove, CellsMove, IsAtRow, HasLoaded, RowsRefused};
+ghost use Rattle.sqrows.specs.Faults.{RootFault, RowFault};
 ghost use Rattle.sqrows.specs.internal.Loading.{LoadRefused};
 
 use crate::cells::Cells;
@@ -52,15 +54,17 @@ impl Rows {
         limit: u64,
     ) -> Result<Rows, CheckError>
         // What is left are the rows of the tree.
-        ensures ok { S.gives_pages source.old → IfOk result (λ rows. IsOver (S.pages source.old) rows.cells
+        ensures ok { S.reads_right source.old → IfOk result (λ rows. IsOver (S.pages source.old) rows.cells
             × ((all : List SpecRow) → HasRows (S.pages source.old) root all ↔ RowsLeft (S.pages source.old) rows all)) }
-        // It has no rows, unless memory ran out.
-        ensures err { S.gives_pages source.old → IfErr result (λ e. (e.fault ≢ Fault.Source)
-            × (e.fault ≢ Fault.NoMemory → (all : List SpecRow) → ¬ HasRows (S.pages source.old) root all)) }
+        // It has no rows, unless a page couldn't be read or memory ran out.
+        ensures err { S.reads_right source.old → IfErr result (λ e. UnlessUnread (S.gives_pages source.old) e.fault
+            ((e.fault ≢ Fault.NoMemory → (all : List SpecRow) → ¬ HasRows (S.pages source.old) root all)
+            × RootFault (S.pages source.old) root e.fault e.page)) }
         // The same of its cells.
-        ensures cells { S.gives_pages source.old → MatchResult result (λ rows. (xs : List Entry)
+        ensures cells { S.reads_right source.old → MatchResult result (λ rows. (xs : List Entry)
             → IsTree (S.pages source.old) root xs ↔ IsLeft (S.pages source.old) rows.cells xs)
-            (λ e. e.fault ≢ Fault.NoMemory → (xs : List Entry) → ¬ IsTree (S.pages source.old) root xs) }
+            (λ e. UnlessUnread (S.gives_pages source.old) e.fault
+            (e.fault ≢ Fault.NoMemory → (xs : List Entry) → ¬ IsTree (S.pages source.old) root xs)) }
         ensures limit { IfOk result (λ rows. rows.limit ≡ limit) }
         ensures size { IfOk result (λ rows. rows.cells.size ≡ S.size source.old) }
         ensures keeps { KeepsPages S.pages S.size S.reads_right S.gives_pages source.old source.new }
@@ -78,10 +82,11 @@ impl Rows {
     fn load<S: PageSource>(&mut self, source: &mut S) -> Result<(), RowsError>
         requires sized { S.size source.old ≡ self.old.cells.size }
         requires own { has_payload self.old.cells.top.kind ≡ true }
-        ensures ok { S.gives_pages source.old
+        ensures ok { S.reads_right source.old
             → OnOk result ((e : Entry) × HasLoaded (S.pages source.old) self.new e) }
-        ensures err { S.gives_pages source.old → IfErr result
-            (LoadRefused (S.pages source.old) self.old.cells self.old.limit) }
+        ensures err { S.reads_right source.old → IfErr result (λ e. Unless (IsUnreadRow e) (S.gives_pages source.old)
+            (LoadRefused (S.pages source.old) self.old.cells self.old.limit e
+            × RowFault (S.pages source.old) self.new e)) }
         ensures same { self.new.cells ≡ self.old.cells }
         ensures limit { self.new.limit ≡ self.old.limit }
         ensures keeps { KeepsPages S.pages S.size S.reads_right S.gives_pages source.old source.new }
@@ -104,14 +109,15 @@ impl Rows {
         requires sized { S.size source.old ≡ self.old.cells.size }
         // It is at the first of those that were left, and the others are left now; or none was left. So where a walk
         // ends and each row was read, these are the rows of the tree.
-        ensures ok { S.gives_pages source.old → IsOver (S.pages source.old) self.old.cells → IfOk result (λ found.
+        ensures ok { S.reads_right source.old → IsOver (S.pages source.old) self.old.cells → IfOk result (λ found.
             (rows : List SpecRow) → RowsLeft (S.pages source.old) self.old rows
             ↔ RowsMove (S.pages source.old) found rows self.new) }
         // The same of cells: it has the payload of the first of those that were left.
-        ensures cells { S.gives_pages source.old → IsOver (S.pages source.old) self.old.cells → IfOk result (λ found.
+        ensures cells { S.reads_right source.old → IsOver (S.pages source.old) self.old.cells → IfOk result (λ found.
             (xs : List Entry) → IsLeft (S.pages source.old) self.old.cells xs
             ↔ CellsMove (S.pages source.old) found xs self.new) }
-        ensures err { S.gives_pages source.old → IfErr result (RowsRefused (S.pages source.old) self.old) }
+        ensures err { S.reads_right source.old → IfErr result (λ e. Unless (IsUnreadRow e) (S.gives_pages source.old)
+            (RowsRefused (S.pages source.old) self.old e × RowFault (S.pages source.old) self.new e)) }
         ensures size { (self.new.cells.size ≡ self.old.cells.size) × (self.new.cells.usable ≡ self.old.cells.usable)
             × (self.new.limit ≡ self.old.limit) }
         ensures keeps { KeepsPages S.pages S.size S.reads_right S.gives_pages source.old source.new }

@@ -1,16 +1,17 @@
 //! The walk over the cells of a tree (fileformat2, 1.6).
-ghost use Rattle.std.specs.Prelude.{◌≡◌, ◌≢◌, ◌↔◌, ◌<◌, ◌≤◌, List, IfOk, IfErr, OnOk, IfSome, MatchOption, length};
-ghost use Rattle.std.specs.Prelude.{true, false, []};
+ghost use Rattle.std.specs.Prelude.{◌≡◌, ◌≢◌, ◌↔◌, ◌<◌, ◌≤◌, List, IfOk, IfErr, OnOk, IfSome, MatchOption};
+ghost use Rattle.std.specs.Prelude.{true, false, [], length, take};
 ghost use Rattle.sqval.specs.Database.{Database, page};
 ghost use Rattle.sqpage.specs.Freelist.{IsPage, IsWithin};
 ghost use Rattle.sqcheck.specs.Places.{IsCellAt};
 ghost use Rattle.sqpage.specs.Page.{is_table, has_payload};
 ghost use Rattle.sqpage.specs.Chain.{payload_size};
-ghost use Rattle.sqpage.specs.Source.{KeepsPages};
+ghost use Rattle.sqpage.specs.Source.{KeepsPages, UnlessUnread};
 ghost use Rattle.sqpage.specs.declared.fault.Fault.{Fault};
-ghost use Rattle.sqrows.specs.Trees.{Entry, entry_of, IsChild, step_of};
+ghost use Rattle.sqrows.specs.Trees.{Entry, entry_of, IsChild, IsNoPageOf, step_of};
 ghost use Rattle.sqrows.specs.Cursor.{IsOver, IsLeft, IsAt, Moves, page_of, steps_of};
-ghost use Rattle.sqrows.specs.internal.Opening.{KeepsLeft, NoneLeft, IsOpened, IsNoPage, IsNoPageAs, pending};
+ghost use Rattle.sqrows.specs.Faults.{TreeFault};
+ghost use Rattle.sqrows.specs.internal.Opening.{KeepsLeft, NoneLeft, IsOpened, pending};
 ghost use Rattle.sqrows.specs.declared.level.Step.TheVariants.{Cell as OwnCell, Child};
 
 use crate::cells::Cells;
@@ -46,10 +47,11 @@ pub(crate) fn open<S: PageSource>(
     requires page { IsPage (S.pages source.old) number }
     requires room { length room.items ≡ S.size source.old }
     requires usable { (480 ≤ usable) × (usable ≤ 65536) × (usable ≤ length room.items) }
-    ensures ok { S.gives_pages source.old
+    ensures ok { S.reads_right source.old
         → IfOk result (IsOpened (page (S.pages source.old) number) usable number) }
-    ensures err { S.gives_pages source.old → IfErr result (λ e. (e.fault ≢ Fault.Source) × (e.fault ≢ Fault.NoMemory)
-        × IsNoPage (page (S.pages source.old) number) usable number) }
+    ensures err { S.reads_right source.old → IfErr result (λ e. UnlessUnread (S.gives_pages source.old) e.fault
+        ((e.page ≡ number)
+        × IsNoPageOf (λ kind. Unit {0}) (take usable (page (S.pages source.old) number)) usable number e.fault)) }
     ensures usable { IfOk result (λ level. level.usable ≡ usable) }
     ensures keeps { KeepsPages S.pages S.size S.reads_right S.gives_pages source.old source.new }
 {
@@ -95,10 +97,11 @@ fn open_as<S: PageSource>(
     requires page { IsPage (S.pages source.old) number }
     requires room { (length room.items ≡ S.size source.old) × (480 ≤ usable) × (usable ≤ 65536)
         × (usable ≤ length room.items) }
-    ensures ok { S.gives_pages source.old → IfOk result (λ level. (is_table level.kind ≡ table)
+    ensures ok { S.reads_right source.old → IfOk result (λ level. (is_table level.kind ≡ table)
         × IsOpened (page (S.pages source.old) number) usable number level) }
-    ensures err { S.gives_pages source.old → IfErr result (λ e. (e.fault ≢ Fault.Source) × (e.fault ≢ Fault.NoMemory)
-        × IsNoPageAs table (page (S.pages source.old) number) usable number) }
+    ensures err { S.reads_right source.old → IfErr result (λ e. UnlessUnread (S.gives_pages source.old) e.fault
+        ((e.page ≡ number) × IsNoPageOf (λ kind. is_table kind ≡ table) (take usable (page (S.pages source.old) number))
+        usable number e.fault)) }
     ensures usable { IfOk result (λ level. level.usable ≡ usable) }
     ensures keeps { KeepsPages S.pages S.size S.reads_right S.gives_pages source.old source.new }
 {
@@ -121,7 +124,7 @@ impl Cells {
         ensures ok { IfOk result (λ p. IsChild (page_of self.now.top) i p × IsWithin count p
             × (length self.now.above.items < 19) × (0 < self.now.allowed)) }
         ensures err { IfErr result (λ e. (e.fault ≢ Fault.Source) × (e.fault ≢ Fault.NoMemory)
-            × ((d : Database) → length d ≡ count → NoneLeft d self.now)) }
+            × ((d : Database) → length d ≡ count → NoneLeft d self.now × TreeFault d self.now e.fault e.page)) }
     {
         let page = self.top.number;
         let child = match self.top.child(i) {
@@ -157,10 +160,11 @@ impl Cells {
         requires sized { S.size source.old ≡ self.old.size }
         requires next { (self.old.top.index < steps_of self.old.top)
             × (step_of self.old.top.kind self.old.top.index ≡ Child i) }
-        ensures ok { S.gives_pages source.old → IsOver (S.pages source.old) self.old
+        ensures ok { S.reads_right source.old → IsOver (S.pages source.old) self.old
             → OnOk result (KeepsLeft (S.pages source.old) self.old self.new) }
-        ensures err { S.gives_pages source.old → IfErr result (λ e. (e.fault ≢ Fault.Source)
-            × (e.fault ≢ Fault.NoMemory → NoneLeft (S.pages source.old) self.old)) }
+        ensures err { S.reads_right source.old → IfErr result (λ e. UnlessUnread (S.gives_pages source.old) e.fault
+            ((e.fault ≢ Fault.NoMemory → NoneLeft (S.pages source.old) self.old)
+            × TreeFault (S.pages source.old) self.new e.fault e.page)) }
         ensures less { (self.new.size ≡ self.old.size) × (self.new.usable ≡ self.old.usable)
             × OnOk result (pending self.new < pending self.old) }
         ensures keeps { KeepsPages S.pages S.size S.reads_right S.gives_pages source.old source.new }
@@ -210,14 +214,15 @@ impl Cells {
     #[inline(always)]
     fn seek<S: PageSource>(&mut self, source: &mut S) -> Result<Option<usize>, CheckError>
         requires sized { S.size source.old ≡ self.old.size }
-        ensures ok { S.gives_pages source.old → IsOver (S.pages source.old) self.old
+        ensures ok { S.reads_right source.old → IsOver (S.pages source.old) self.old
             → IfOk result (λ found. MatchOption found
             ((xs : List Entry) → IsLeft (S.pages source.old) self.old xs ↔ (xs ≡ []))
             (λ _. KeepsLeft (S.pages source.old) self.old self.new)) }
         ensures found { IfOk result (λ found. IfSome found (λ i. (self.new.top.index < steps_of self.new.top)
             × (step_of self.new.top.kind self.new.top.index ≡ OwnCell i))) }
-        ensures err { S.gives_pages source.old → IfErr result (λ e. (e.fault ≢ Fault.Source)
-            × (e.fault ≢ Fault.NoMemory → NoneLeft (S.pages source.old) self.old)) }
+        ensures err { S.reads_right source.old → IfErr result (λ e. UnlessUnread (S.gives_pages source.old) e.fault
+            ((e.fault ≢ Fault.NoMemory → NoneLeft (S.pages source.old) self.old)
+            × TreeFault (S.pages source.old) self.new e.fault e.page)) }
         ensures size { (self.new.size ≡ self.old.size) × (self.new.usable ≡ self.old.usable) }
         ensures keeps { KeepsPages S.pages S.size S.reads_right S.gives_pages source.old source.new }
     {
@@ -241,14 +246,15 @@ impl Cells {
         requires sized { S.size source.old ≡ self.old.size }
         // It is at the first of those that were left, and the others are left now; or none was left. So where a walk
         // ends and each cell was read, these are the cells of the tree, which is sound.
-        ensures ok { S.gives_pages source.old → IsOver (S.pages source.old) self.old → IfOk result (λ found.
+        ensures ok { S.reads_right source.old → IsOver (S.pages source.old) self.old → IfOk result (λ found.
             (xs : List Entry) → IsLeft (S.pages source.old) self.old xs
             ↔ Moves (S.pages source.old) found xs self.new) }
         // Where it is at a cell, that one has a payload.
         ensures own { IfOk result (λ found. found ≡ true → has_payload self.new.top.kind ≡ true) }
-        // The tree isn't sound, unless memory ran out.
-        ensures err { S.gives_pages source.old → IfErr result (λ e. (e.fault ≢ Fault.Source)
-            × (e.fault ≢ Fault.NoMemory → (xs : List Entry) → ¬ IsLeft (S.pages source.old) self.old xs)) }
+        // The tree isn't sound, unless a page couldn't be read or memory ran out. The fault stands at the page.
+        ensures err { S.reads_right source.old → IfErr result (λ e. UnlessUnread (S.gives_pages source.old) e.fault
+            ((e.fault ≢ Fault.NoMemory → (xs : List Entry) → ¬ IsLeft (S.pages source.old) self.old xs)
+            × TreeFault (S.pages source.old) self.new e.fault e.page)) }
         ensures size { (self.new.size ≡ self.old.size) × (self.new.usable ≡ self.old.usable) }
         ensures keeps { KeepsPages S.pages S.size S.reads_right S.gives_pages source.old source.new }
     {
@@ -279,7 +285,7 @@ impl Cells {
         ensures part { IfOk result (λ cell. (length cell.local.now ≤ payload_size cell) × (480 ≤ cell.usable)
             × (cell.usable ≤ self.now.size)) }
         ensures err { IfErr result (λ refusal. (refusal.fault ≡ Fault.CellOutside)
-            × ((e : Entry) → ¬ IsAt self.now e)) }
+            × ((e : Entry) → ¬ IsAt self.now e) × (refusal.page ≡ self.now.top.number)) }
     {
         match self.top.cell(self.at) {
             Some(cell) => Ok(cell),

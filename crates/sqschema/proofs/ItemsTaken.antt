@@ -7,7 +7,8 @@ use Rattle.sqval.specs.declared.error.RecordError.{RecordError}
 use Rattle.sqval.specs.declared.error.RecordError.TheVariants as records
 use Rattle.sqval.proofs.payload.UniquenessOfReading.{refused_not}
 use Rattle.sqrows.specs.Rows.{Row, AreRows, HasRows}
-use Rattle.sqrows.specs.RowCursor.{RowsLeft, RowsMove, IsAtRow, RowsRefused}
+use Rattle.sqrows.specs.Payloads.{Unless}
+use Rattle.sqrows.specs.RowCursor.{IsUnreadRow, RowsLeft, RowsMove, IsAtRow, RowsRefused}
 use Rattle.sqrows.specs.declared.rows.Rows.{Rows}
 use Rattle.sqrows.specs.declared.rows.RowsError.{RowsError}
 use Rattle.sqrows.specs.declared.rows.RowsError.TheVariants.{Tree, Payload}
@@ -17,6 +18,7 @@ use Rattle.sqdeep.specs.Records.{encoding_of}
 use Rattle.sqschema.specs.declared.error.ReadError.{ReadError}
 use Rattle.sqschema.specs.declared.error.ReadError.TheVariants as errors
 use Rattle.sqschema.specs.Items.{Item, item_of}
+use Rattle.sqschema.specs.Schema.{IsUnreadRows}
 use Rattle.sqschema.specs.internal.Reading.{read_error, said, TakesNext, NextRefused, AreTaken, AreRead, ReadRefused}
 
 -- why a row isn't read is why the next one of these can't be
@@ -27,6 +29,13 @@ next_refused d cursor (Payload (Chain e)) h = λ other rows left.
     let are : AreRows d (n.0 ∷ n.1) rows = subst (λ xs. AreRows d xs rows) n.2 left.2 in
     n.3 are.2.bytes are.2.payload
 next_refused d cursor (Payload TooLong) h = λ no. absurd (no tt)
+
+-- the same where a page may not have been read
+pub next_unread : {g P : Type 0} (d : Database) (cursor : Rows) (error : RowsError) → Unless (IsUnreadRow error) g (RowsRefused d cursor error × P)
+    → Unless (IsUnreadRows (read_error error)) g (NextRefused d cursor (read_error error))
+next_unread d cursor (Tree e) was = (was.0, λ read. next_refused d cursor (Tree e) (was.1 read).0)
+next_unread d cursor (Payload (Chain e)) was = (was.0, λ read. next_refused d cursor (Payload (Chain e)) (was.1 read).0)
+next_unread d cursor (Payload TooLong) was = (λ none. absurd none, λ read. next_refused d cursor (Payload TooLong) (was.1 (λ none. none)).0)
 
 short : (error : RecordError) (bytes : List ℕ) → Refused error bytes → ¬ (error ≡ records.TooLarge) → length bytes ≤ most_bytes
 short records.TooLarge bytes h other = absurd (other refl)

@@ -1,13 +1,17 @@
 -- What a refusal tells, and that none stands in a sound schema.
 use Rattle.std.proofs.Common.{◌≡◌, ◌∙◌, ℕ, Bool, true, false, List, sym, ap, subst, slice_get, Some}
 use Rattle.sqval.specs.Database.{Database}
+use Rattle.sqpage.specs.declared.fault.Fault.TheVariants as checks
+use Rattle.sqrows.specs.Payloads.{Unless}
+use Rattle.sqrows.proofs.UnreadPages.{read}
 use Rattle.sqschema.specs.declared.error.ReadError.{ReadError}
+use Rattle.sqschema.specs.declared.error.ReadError.TheVariants as errors
 use Rattle.sqschema.specs.declared.error.SchemaError.{SchemaError}
 use Rattle.sqschema.specs.declared.error.SchemaError.TheVariants.{Unread, Object}
 use Rattle.sqschema.specs.declared.fault.SchemaFault.{SchemaFault}
 use Rattle.sqschema.specs.declared.fault.SchemaFault.TheVariants as faults
 use Rattle.sqschema.specs.Items.{Item, items_of}
-use Rattle.sqschema.specs.Schema.{ItemRefused, IsSoundItem, AreSoundItems, SchemaRefused, RefutesSchema}
+use Rattle.sqschema.specs.Schema.{ItemRefused, IsSoundItem, AreSoundItems, IsLimit, IsUnreadRows, IsUnreadSchema, SchemaRefused, RefutesSchema}
 use Rattle.sqschema.specs.internal.Judging.{Tells, TellsOf}
 use Rattle.sqschema.specs.internal.Reading.{AreRead, ReadRefused}
 
@@ -51,3 +55,14 @@ unread_refutes d e h = λ no s. h no s.0 s.1
 -- both, where these items are those
 pub told_of : (d : Database) (xs ys : List Item) (e : SchemaError) → ys ≡ xs → AreRead d xs → Tells d ys e → SchemaRefused d e × RefutesSchema d e
 told_of d xs ys e same w h = let told = subst (λ (zs : List Item). Tells d zs e) same h in (refused_by d xs e w told, refuted_by d xs e w told)
+
+-- A limit, or a fault of an item, isn't that a page couldn't be read.
+limit_read : (e : ReadError) → IsLimit e → ¬ IsUnreadRows e
+limit_read (errors.Tree e) limit unread = (let both : checks.NoMemory ≡ checks.Source = sym limit ∙ unread in cc)
+limit_read errors.TooLong limit none = none
+limit_read (errors.Record e) limit none = none
+limit_read errors.NoMemory limit none = none
+
+pub read_items : {g P : Type 0} (d : Database) (xs : List Item) (e : SchemaError) → Tells d xs e → P → Unless (IsUnreadSchema e) g P
+read_items d xs (Unread e) told cause = read (limit_read e told) cause
+read_items d xs (Object e) told cause = read (λ none. none) cause

@@ -72,6 +72,17 @@ IsLimit TooLong = Unit {0}
 IsLimit (Record e) = e ≡ TooLarge
 IsLimit NoMemory = Unit {0}
 
+-- A page of the database couldn't be read.
+abbrev pub IsUnreadRows : ReadError → Type 0
+IsUnreadRows (Tree e) = e.fault ≡ checks.Source
+IsUnreadRows TooLong = ⊥
+IsUnreadRows (Record e) = ⊥
+IsUnreadRows NoMemory = ⊥
+
+abbrev pub IsUnreadSchema : SchemaError → Type 0
+IsUnreadSchema (Unread e) = IsUnreadRows e
+IsUnreadSchema (Object e) = ⊥
+
 -- Why a schema isn't found sound: its rows can't be read, unless by a limit; or a fault stands at one of them.
 abbrev pub SchemaRefused : Database → SchemaError → Type 0
 SchemaRefused d (Unread e) = ¬ IsLimit e → NoRows d

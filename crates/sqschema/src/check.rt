@@ -1,7 +1,8 @@
 //! The check of a schema (own).
 ghost use Rattle.std.specs.Prelude.{IfOk, IfErr};
 ghost use Rattle.sqpage.specs.Source.{KeepsPages};
-ghost use Rattle.sqschema.specs.Schema.{IsSchemaOf, SchemaRefused, RefutesSchema};
+ghost use Rattle.sqrows.specs.Payloads.{Unless};
+ghost use Rattle.sqschema.specs.Schema.{IsSchemaOf, IsUnreadSchema, SchemaRefused, RefutesSchema};
 
 use crate::alone::judge_each;
 use crate::error::SchemaError;
@@ -28,12 +29,14 @@ pub struct Schema {
 /// the schema's texts, two times over, for some five times the text of one table, and one page.
 pub fn check_schema<S: PageSource>(alloc: Global, source: &mut S) -> Result<Schema, SchemaError>
     // It is the schema of the database, and sound.
-    ensures ok { S.gives_pages source.old
+    ensures ok { S.reads_right source.old
         → IfOk result (λ schema. IsSchemaOf (S.pages source.old) schema) }
-    // The fault stands at the row that it names; or the rows can't be read.
-    ensures err { S.gives_pages source.old → IfErr result (λ e. SchemaRefused (S.pages source.old) e) }
+    // The fault stands at the row that it names; or the rows aren't read, as a page couldn't be.
+    ensures err { S.reads_right source.old → IfErr result (λ e. Unless (IsUnreadSchema e) (S.gives_pages source.old)
+        (SchemaRefused (S.pages source.old) e)) }
     // No fault is told of a sound schema.
-    ensures none { S.gives_pages source.old → IfErr result (λ e. RefutesSchema (S.pages source.old) e) }
+    ensures none { S.reads_right source.old → IfErr result (λ e. Unless (IsUnreadSchema e) (S.gives_pages source.old)
+        (RefutesSchema (S.pages source.old) e)) }
     ensures keeps { KeepsPages S.pages S.size S.reads_right S.gives_pages source.old source.new }
 {
     let items = match read_items(alloc, source) {

@@ -7,7 +7,9 @@ ghost use Rattle.sqpage.specs.Header.{byte};
 ghost use Rattle.sqpage.specs.Page.{head_at};
 ghost use Rattle.sqpage.specs.Source.{KeepsPages};
 ghost use Rattle.sqpage.specs.declared.fault.Fault.{Fault};
+ghost use Rattle.sqrows.specs.Payloads.{Unless};
 ghost use Rattle.sqdeep.specs.Records.{encoding_of};
+ghost use Rattle.sqschema.specs.Schema.{IsUnreadRows};
 ghost use Rattle.sqschema.specs.internal.Reading.{ReadRefused};
 
 use crate::error::ReadError;
@@ -30,9 +32,10 @@ pub(crate) fn page_bytes<S: PageSource>(
     p: u32,
 ) -> Result<Vec<u8>, ReadError>
     requires { IsPage (S.pages source.old) p }
-    ensures ok { S.gives_pages source.old → IfOk result (λ bytes. bytes.items ≡ page (S.pages source.old) p) }
+    ensures ok { S.reads_right source.old → IfOk result (λ bytes. bytes.items ≡ page (S.pages source.old) p) }
     ensures size { IfOk result (λ bytes. 512 ≤ length bytes.items) }
-    ensures err { S.gives_pages source.old → IfErr result (λ e. e ≡ ReadError.NoMemory) }
+    ensures err { S.reads_right source.old → IfErr result
+        (λ e. Unless (IsUnreadRows e) (S.gives_pages source.old) (e ≡ ReadError.NoMemory)) }
     ensures keeps { KeepsPages S.pages S.size S.reads_right S.gives_pages source.old source.new }
 {
     let size = source.page_size().get() as usize;
@@ -53,9 +56,10 @@ pub(crate) fn encoding_in<S: PageSource>(
     alloc: Global,
     source: &mut S,
 ) -> Result<Encoding, ReadError>
-    ensures ok { S.gives_pages source.old
+    ensures ok { S.reads_right source.old
         → IfOk result (λ encoding. encoding ≡ encoding_of (S.pages source.old)) }
-    ensures err { S.gives_pages source.old → IfErr result (λ e. ReadRefused (S.pages source.old) e) }
+    ensures err { S.reads_right source.old → IfErr result
+        (λ e. Unless (IsUnreadRows e) (S.gives_pages source.old) (ReadRefused (S.pages source.old) e)) }
     ensures keeps { KeepsPages S.pages S.size S.reads_right S.gives_pages source.old source.new }
 {
     if source.count() == 0 {

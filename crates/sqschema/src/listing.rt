@@ -2,8 +2,10 @@
 ghost use Rattle.std.specs.Prelude.{◌≡◌, IfOk, IfErr, map, length};
 ghost use Rattle.sqpage.specs.Source.{KeepsPages};
 ghost use Rattle.sqrows.specs.Cursor.{IsOver};
+ghost use Rattle.sqrows.specs.Payloads.{Unless};
 ghost use Rattle.sqdeep.specs.Records.{encoding_of};
 ghost use Rattle.sqschema.specs.Items.{seen};
+ghost use Rattle.sqschema.specs.Schema.{IsUnreadRows};
 ghost use Rattle.sqschema.specs.internal.Reading.{TakesNext, NextRefused, AreRead, ReadRefused};
 
 use crate::error::ReadError;
@@ -24,11 +26,11 @@ fn take_next<S: PageSource>(
     items: &mut Vec<Item>,
 ) -> Result<bool, ReadError>
     requires sized { S.size source.old ≡ rows.old.cells.size }
-    ensures ok { S.gives_pages source.old → IsOver (S.pages source.old) rows.old.cells → IfOk result (λ found.
+    ensures ok { S.reads_right source.old → IsOver (S.pages source.old) rows.old.cells → IfOk result (λ found.
         TakesNext (S.pages source.old) encoding found rows.old rows.new (map seen items.old.items)
         (map seen items.new.items)) }
-    ensures err { S.gives_pages source.old → IsOver (S.pages source.old) rows.old.cells → IfErr result (λ e.
-        NextRefused (S.pages source.old) rows.old e) }
+    ensures err { S.reads_right source.old → IsOver (S.pages source.old) rows.old.cells → IfErr result (λ e.
+        Unless (IsUnreadRows e) (S.gives_pages source.old) (NextRefused (S.pages source.old) rows.old e)) }
     ensures size { (rows.new.cells.size ≡ rows.old.cells.size) × (rows.new.cells.usable ≡ rows.old.cells.usable) }
     ensures keeps { KeepsPages S.pages S.size S.reads_right S.gives_pages source.old source.new }
 {
@@ -56,9 +58,10 @@ pub(crate) fn read_items<S: PageSource>(
     alloc: Global,
     source: &mut S,
 ) -> Result<Vec<Item>, ReadError>
-    ensures ok { S.gives_pages source.old
+    ensures ok { S.reads_right source.old
         → IfOk result (λ items. AreRead (S.pages source.old) (map seen items.items)) }
-    ensures err { S.gives_pages source.old → IfErr result (λ e. ReadRefused (S.pages source.old) e) }
+    ensures err { S.reads_right source.old → IfErr result
+        (λ e. Unless (IsUnreadRows e) (S.gives_pages source.old) (ReadRefused (S.pages source.old) e)) }
     ensures keeps { KeepsPages S.pages S.size S.reads_right S.gives_pages source.old source.new }
 {
     let encoding = encoding_in(alloc, source)?;

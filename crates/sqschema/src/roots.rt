@@ -3,9 +3,10 @@ ghost use Rattle.std.specs.Prelude.{◌≡◌, ◌≢◌, ℕ, [], ◌∷◌, �
 ghost use Rattle.std.specs.Prelude.{IfOk, IfErr, OnOk, MatchOption};
 ghost use Rattle.sqpage.specs.Freelist.{IsPage, IsWithin};
 ghost use Rattle.sqpage.specs.Source.{KeepsPages};
+ghost use Rattle.sqrows.specs.Payloads.{Unless};
 ghost use Rattle.sqschema.specs.Items.{seen};
 ghost use Rattle.sqschema.specs.Roots.{HasTree};
-ghost use Rattle.sqschema.specs.Schema.{AreAsides};
+ghost use Rattle.sqschema.specs.Schema.{AreAsides, IsUnreadRows, IsUnreadSchema};
 ghost use Rattle.sqschema.specs.internal.Judging.{AllAt, Tells, TellsOf, SaysRowids, SaysAside, KindTells, Fits};
 
 use crate::alone::item_at;
@@ -61,8 +62,9 @@ fn page_number(item: &Item, count: u32) -> Option<u32>
 /// Whether a page begins the tree of a table, or that of an index. None where it begins neither.
 fn kind_at<S: PageSource>(alloc: Global, source: &mut S, p: u32) -> Result<Option<bool>, ReadError>
     requires { IsPage (S.pages source.old) p }
-    ensures ok { S.gives_pages source.old → IfOk result (KindTells (S.pages source.old) p) }
-    ensures err { S.gives_pages source.old → IfErr result (λ e. e ≡ ReadError.NoMemory) }
+    ensures ok { S.reads_right source.old → IfOk result (KindTells (S.pages source.old) p) }
+    ensures err { S.reads_right source.old → IfErr result
+        (λ e. Unless (IsUnreadRows e) (S.gives_pages source.old) (e ≡ ReadError.NoMemory)) }
     ensures keeps { KeepsPages S.pages S.size S.reads_right S.gives_pages source.old source.new }
 {
     let bytes = page_bytes(alloc, source, p)?;
@@ -97,10 +99,10 @@ fn judge_root<S: PageSource>(
     item: &Item,
     row: usize,
 ) -> Result<bool, SchemaError>
-    ensures ok { S.gives_pages source.old → IfOk result (λ understood. HasTree (S.pages source.old) (seen item.now)
+    ensures ok { S.reads_right source.old → IfOk result (λ understood. HasTree (S.pages source.old) (seen item.now)
         × SaysAside understood (seen item.now)) }
-    ensures err { S.gives_pages source.old
-        → IfErr result (λ e. TellsOf (S.pages source.old) row (seen item.now) e) }
+    ensures err { S.reads_right source.old → IfErr result (λ e. Unless (IsUnreadSchema e) (S.gives_pages source.old)
+        (TellsOf (S.pages source.old) row (seen item.now) e)) }
     ensures keeps { KeepsPages S.pages S.size S.reads_right S.gives_pages source.old source.new }
 {
     if is_rootless(item) {
@@ -148,12 +150,12 @@ pub(crate) fn judge_roots<S: PageSource>(
     source: &mut S,
     items: &[Item],
 ) -> Result<Vec<usize>, SchemaError>
-    ensures trees { S.gives_pages source.old → OnOk result
+    ensures trees { S.reads_right source.old → OnOk result
         (AllAt (λ i x. HasTree (S.pages source.old) x) (map seen items.now)) }
-    ensures asides { S.gives_pages source.old
+    ensures asides { S.reads_right source.old
         → IfOk result (λ asides. AreAsides (map seen items.now) asides.items) }
-    ensures err { S.gives_pages source.old
-        → IfErr result (λ e. Tells (S.pages source.old) (map seen items.now) e) }
+    ensures err { S.reads_right source.old → IfErr result (λ e. Unless (IsUnreadSchema e) (S.gives_pages source.old)
+        (Tells (S.pages source.old) (map seen items.now) e)) }
     ensures keeps { KeepsPages S.pages S.size S.reads_right S.gives_pages source.old source.new }
 {
     let mut asides = Vec::new(alloc);

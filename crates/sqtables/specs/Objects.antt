@@ -4,7 +4,9 @@ use Rattle.std.specs.Str.{str_eq_ignore_ascii_case}
 use Rattle.sqval.specs.Database.{Database}
 use Rattle.sqval.specs.Datum.{Datum}
 use Rattle.sqval.specs.Record.{most_bytes}
+use Rattle.sqpage.specs.declared.fault.Fault.TheVariants as faults
 use Rattle.sqrows.specs.Rows.{Row, HasRows}
+use Rattle.sqrows.specs.RowCursor.{IsUnreadRow}
 use Rattle.sqrows.specs.Stops.{HoldsAt, IsNoRecord, TreeRefused, RowRefused}
 use Rattle.sqtables.specs.declared.list.Object.{Object}
 use Rattle.sqtables.specs.declared.list.ListError.{ListError}
@@ -44,3 +46,10 @@ ListRefused d (Tree e) = TreeRefused d 1 e
 ListRefused d (RowError e) = (k : ℕ) × RowRefused d 1 most_bytes k e
 ListRefused d (Record e) = (k : ℕ) × HoldsAt d 1 k (IsNoRecord d e)
 ListRefused d NoMemory = Unit {0}
+
+-- A page of the schema couldn't be read.
+abbrev pub IsUnreadList : ListError → Type 0
+IsUnreadList (Tree e) = e.fault ≡ faults.Source
+IsUnreadList (RowError e) = IsUnreadRow e
+IsUnreadList (Record e) = ⊥
+IsUnreadList NoMemory = ⊥

@@ -3,7 +3,7 @@ ghost use Rattle.std.specs.Prelude.{◌≡◌, All, IfOk, IfErr, IsTrue, MatchOp
 ghost use Rattle.std.specs.List.{Contains};
 ghost use Rattle.sqpage.specs.Source.{KeepsPages};
 ghost use Rattle.sqrows.specs.Cursor.{IsOver};
-ghost use Rattle.sqtables.specs.Objects.{HasObjects, IsTable, IsTableNamed, ListRefused};
+ghost use Rattle.sqtables.specs.Objects.{HasObjects, IsTable, IsTableNamed, IsUnreadList, ListRefused};
 ghost use Rattle.sqtables.specs.internal.Listing.{Adds, TakesNext, NextRefused};
 
 use crate::schema::object_row;
@@ -86,10 +86,11 @@ fn take_next<S: PageSource>(
     objects: &mut Vec<Object>,
 ) -> Result<bool, ListError>
     requires sized { S.size source.old ≡ rows.old.cells.size }
-    ensures ok { S.gives_pages source.old → IsOver (S.pages source.old) rows.old.cells → IfOk result (λ found.
+    ensures ok { S.reads_right source.old → IsOver (S.pages source.old) rows.old.cells → IfOk result (λ found.
         TakesNext (S.pages source.old) found rows.old rows.new objects.old.items objects.new.items) }
-    ensures err { S.gives_pages source.old → IsOver (S.pages source.old) rows.old.cells
+    ensures err { S.reads_right source.old → IsOver (S.pages source.old) rows.old.cells
         → IfErr result (NextRefused (S.pages source.old) rows.old) }
+    ensures unread { IfErr result (λ e. IsUnreadList e → ¬ S.gives_pages source.old) }
     ensures size { (rows.new.cells.size ≡ rows.old.cells.size) × (rows.new.cells.usable ≡ rows.old.cells.usable)
         × (rows.new.limit ≡ rows.old.limit) }
     ensures keeps { KeepsPages S.pages S.size S.reads_right S.gives_pages source.old source.new }
@@ -111,10 +112,12 @@ fn take_next<S: PageSource>(
 /// as those of the indexes that constraints made.
 pub fn objects<S: PageSource>(alloc: Global, source: &mut S) -> Result<Vec<Object>, ListError>
     // They are exactly those of the schema's rows, each once and in order.
-    ensures ok { S.gives_pages source.old
+    ensures ok { S.reads_right source.old
         → IfOk result (λ objects. HasObjects (S.pages source.old) objects.items) }
-    // The schema can't be read, or a row of it has more than 1 GiB; or memory ran out.
-    ensures err { S.gives_pages source.old → IfErr result (ListRefused (S.pages source.old)) }
+    // The schema isn't sound, or a row of it has more than 1 GiB; or a page couldn't be read, or memory ran out.
+    ensures err { S.reads_right source.old → IfErr result (ListRefused (S.pages source.old)) }
+    // That a page couldn't be read is told only where a read failed.
+    ensures unread { IfErr result (λ e. IsUnreadList e → ¬ S.gives_pages source.old) }
     ensures keeps { KeepsPages S.pages S.size S.reads_right S.gives_pages source.old source.new }
 {
     let mut objects = Vec::new(alloc);

@@ -62,6 +62,10 @@ IsUnjudged d refusals.AutoVacuum = word (page d 1) 52 ≢ 0
 IsUnjudged d refusals.NoMemory = Unit {0}
 IsUnjudged d _ = ⊥
 
+-- Where a file couldn't be read, not each of its reads succeeds. Any other refusal has this cause.
+abbrev pub UnlessFailed : (gives : Type 0) → JudgeError → (cause : Type 0) → Type 0
+UnlessFailed gives e cause = (e ≡ refusals.Unread → ¬ gives) × (e ≢ refusals.Unread → cause)
+
 -- Why files aren't judged within limits: what refuses their view, where a header that names no database doesn't, or
 -- the database that they show isn't judged.
 abbrev pub AreUnjudgedWithin : (limits : Bounds) (db wal journal : List ℕ) → JudgeError → Type 0

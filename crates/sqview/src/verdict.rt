@@ -4,7 +4,7 @@ ghost use Rattle.sqview.specs.LogView.{pages_of};
 ghost use Rattle.sqview.specs.Verdicts.{IsVerdict, IsVerdictAt, IsVerdictOf, IsUnjudged, AreUnjudged, AreUnjudgedAt};
 ghost use Rattle.sqview.specs.Verdicts.{IsVerdictWith, IsUnjudgedWith};
 ghost use Rattle.sqview.specs.Verdicts.{IsVerdictWithin, IsVerdictAtWithin, AreUnjudgedWithin, AreUnjudgedAtWithin};
-ghost use Rattle.sqview.specs.Verdicts.{verdict_without};
+ghost use Rattle.sqview.specs.Verdicts.{UnlessFailed, verdict_without};
 
 use crate::file_bytes::FileBytes;
 use crate::judge_error::JudgeError;
@@ -30,8 +30,9 @@ pub enum Verdict {
 pub fn judge_view<F: FileBytes>(alloc: Global, view: &mut View<F>) -> Result<Verdict, JudgeError>
     ensures found { F.reads_right view.old.db × F.reads_right view.old.log
         → IfOk result (IsVerdictOf F.bytes view.old) }
-    ensures refused { F.gives_bytes view.old.db × F.gives_bytes view.old.log
-        → IfErr result (IsUnjudged (pages_of F.bytes view.old)) }
+    ensures refused { F.reads_right view.old.db × F.reads_right view.old.log → IfErr result
+        (λ e. UnlessFailed (F.gives_bytes view.old.db × F.gives_bytes view.old.log) e
+        (IsUnjudged (pages_of F.bytes view.old) e)) }
 {
     let plain = Options {
         pointer_maps: false,
@@ -48,8 +49,9 @@ pub fn judge_view_with<F: FileBytes>(
 ) -> Result<Verdict, JudgeError>
     ensures found { F.reads_right view.old.db × F.reads_right view.old.log
         → IfOk result (IsVerdictWith options.pointer_maps F.bytes view.old) }
-    ensures refused { F.gives_bytes view.old.db × F.gives_bytes view.old.log
-        → IfErr result (IsUnjudgedWith options.pointer_maps (pages_of F.bytes view.old)) }
+    ensures refused { F.reads_right view.old.db × F.reads_right view.old.log → IfErr result
+        (λ e. UnlessFailed (F.gives_bytes view.old.db × F.gives_bytes view.old.log) e
+        (IsUnjudgedWith options.pointer_maps (pages_of F.bytes view.old) e)) }
 {
     match check_with(alloc, view, options) {
         Ok(report) => Ok(Verdict::Clean(report)),
@@ -86,8 +88,9 @@ fn judge_files<F: FileBytes + Drop>(
 ) -> Result<Verdict, JudgeError>
     ensures found { F.reads_right db × F.reads_right wal × F.reads_right journal
         → IfOk result (IsVerdictWithin limits (F.bytes db) (F.bytes wal) (F.bytes journal)) }
-    ensures refused { F.gives_bytes db × F.gives_bytes wal × F.gives_bytes journal
-        → IfErr result (AreUnjudgedWithin limits (F.bytes db) (F.bytes wal) (F.bytes journal)) }
+    ensures refused { F.reads_right db × F.reads_right wal × F.reads_right journal → IfErr result
+        (λ e. UnlessFailed (F.gives_bytes db × F.gives_bytes wal × F.gives_bytes journal) e
+        (AreUnjudgedWithin limits (F.bytes db) (F.bytes wal) (F.bytes journal) e)) }
 {
     match View::new_within(alloc, limits, db, wal, journal) {
         Ok(mut view) => judge_view(alloc, &mut view),
@@ -106,8 +109,9 @@ fn judge_files_at<F: FileBytes + Drop>(
 ) -> Result<Verdict, JudgeError>
     ensures found { F.reads_right db × F.reads_right wal × F.reads_right journal
         → IfOk result (IsVerdictAtWithin limits frame (F.bytes db) (F.bytes wal) (F.bytes journal)) }
-    ensures refused { F.gives_bytes db × F.gives_bytes wal × F.gives_bytes journal
-        → IfErr result (AreUnjudgedAtWithin limits frame (F.bytes db) (F.bytes wal) (F.bytes journal)) }
+    ensures refused { F.reads_right db × F.reads_right wal × F.reads_right journal → IfErr result
+        (λ e. UnlessFailed (F.gives_bytes db × F.gives_bytes wal × F.gives_bytes journal) e
+        (AreUnjudgedAtWithin limits frame (F.bytes db) (F.bytes wal) (F.bytes journal) e)) }
 {
     match View::at_within(alloc, limits, db, wal, journal, frame) {
         Ok(mut view) => judge_view(alloc, &mut view),
@@ -129,8 +133,9 @@ pub fn judge<F: FileBytes + Drop>(
 ) -> Result<Verdict, JudgeError>
     ensures found { F.reads_right db × F.reads_right wal × F.reads_right journal
         → IfOk result (IsVerdict (F.bytes db) (F.bytes wal) (F.bytes journal)) }
-    ensures refused { F.gives_bytes db × F.gives_bytes wal × F.gives_bytes journal
-        → IfErr result (AreUnjudged (F.bytes db) (F.bytes wal) (F.bytes journal)) }
+    ensures refused { F.reads_right db × F.reads_right wal × F.reads_right journal → IfErr result
+        (λ e. UnlessFailed (F.gives_bytes db × F.gives_bytes wal × F.gives_bytes journal) e
+        (AreUnjudged (F.bytes db) (F.bytes wal) (F.bytes journal) e)) }
 {
     judge_within(alloc, Limits::USUAL, db, wal, journal)
 }
@@ -145,8 +150,9 @@ pub fn judge_within<F: FileBytes + Drop>(
 ) -> Result<Verdict, JudgeError>
     ensures found { F.reads_right db × F.reads_right wal × F.reads_right journal
         → IfOk result (IsVerdictWithin limits (F.bytes db) (F.bytes wal) (F.bytes journal)) }
-    ensures refused { F.gives_bytes db × F.gives_bytes wal × F.gives_bytes journal
-        → IfErr result (AreUnjudgedWithin limits (F.bytes db) (F.bytes wal) (F.bytes journal)) }
+    ensures refused { F.reads_right db × F.reads_right wal × F.reads_right journal → IfErr result
+        (λ e. UnlessFailed (F.gives_bytes db × F.gives_bytes wal × F.gives_bytes journal) e
+        (AreUnjudgedWithin limits (F.bytes db) (F.bytes wal) (F.bytes journal) e)) }
 {
     let db = ReadAhead::new(alloc, db, PIECE)?;
     let wal = ReadAhead::new(alloc, wal, 0)?;
@@ -165,8 +171,9 @@ pub fn judge_at<F: FileBytes + Drop>(
 ) -> Result<Verdict, JudgeError>
     ensures found { F.reads_right db × F.reads_right wal × F.reads_right journal
         → IfOk result (IsVerdictAt frame (F.bytes db) (F.bytes wal) (F.bytes journal)) }
-    ensures refused { F.gives_bytes db × F.gives_bytes wal × F.gives_bytes journal
-        → IfErr result (AreUnjudgedAt frame (F.bytes db) (F.bytes wal) (F.bytes journal)) }
+    ensures refused { F.reads_right db × F.reads_right wal × F.reads_right journal → IfErr result
+        (λ e. UnlessFailed (F.gives_bytes db × F.gives_bytes wal × F.gives_bytes journal) e
+        (AreUnjudgedAt frame (F.bytes db) (F.bytes wal) (F.bytes journal) e)) }
 {
     judge_at_within(alloc, Limits::USUAL, db, wal, journal, frame)
 }
@@ -182,8 +189,9 @@ pub fn judge_at_within<F: FileBytes + Drop>(
 ) -> Result<Verdict, JudgeError>
     ensures found { F.reads_right db × F.reads_right wal × F.reads_right journal
         → IfOk result (IsVerdictAtWithin limits frame (F.bytes db) (F.bytes wal) (F.bytes journal)) }
-    ensures refused { F.gives_bytes db × F.gives_bytes wal × F.gives_bytes journal
-        → IfErr result (AreUnjudgedAtWithin limits frame (F.bytes db) (F.bytes wal) (F.bytes journal)) }
+    ensures refused { F.reads_right db × F.reads_right wal × F.reads_right journal → IfErr result
+        (λ e. UnlessFailed (F.gives_bytes db × F.gives_bytes wal × F.gives_bytes journal) e
+        (AreUnjudgedAtWithin limits frame (F.bytes db) (F.bytes wal) (F.bytes journal) e)) }
 {
     let db = ReadAhead::new(alloc, db, PIECE)?;
     let wal = ReadAhead::new(alloc, wal, 0)?;

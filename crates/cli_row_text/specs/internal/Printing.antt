@@ -4,7 +4,7 @@ use Rattle.std.specs.Io.KnownBytes.{Appends}
 use Rattle.sqval.specs.Database.{Database}
 use Rattle.sqrows.specs.Rows.{Row, HasRows}
 use Rattle.sqrows.specs.declared.rows.Rows.{Rows}
-use Rattle.sqrows.specs.RowCursor.{RowsLeft, NextHolds, RowsRefused}
+use Rattle.sqrows.specs.RowCursor.{IsUnreadRow, RowsLeft, NextHolds, RowsRefused}
 use Rattle.sqrows.specs.Stops.{IsNoRecord}
 use Rattle.sqrows.specs.internal.Passing.{ArePassed, Passes}
 use Rattle.cli_row_text.specs.declared.form.Notation.TheVariants.{Sql}
@@ -31,7 +31,7 @@ LineRefused style row _ = ⊥
 -- Why the next row isn't printed.
 abbrev pub NextRefused : Database → Style → Rows → PrintError → Type 0
 NextRefused d style cursor (Tree e) = ⊥
-NextRefused d style cursor (RowError e) = RowsRefused d cursor e
+NextRefused d style cursor (RowError e) = (¬ IsUnreadRow e) → RowsRefused d cursor e
 NextRefused d style cursor (Record e) = NextHolds d cursor (IsNoRecord d e)
 NextRefused d style cursor NoMemory = Unit {0}
 NextRefused d style cursor Default = NextHolds d cursor (Lacks d style.columns.now)

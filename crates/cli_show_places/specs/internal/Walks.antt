@@ -18,9 +18,9 @@ PlacesNext d frames style true old new before after =
     × Appends before after (place_text style (place_of frames e))
 PlacesNext d frames style false old new before after = ((xs : List Entry) → IsLeft d old xs ↔ (xs ≡ [])) × (before ≡ after)
 
--- What is left can't be said, unless memory ran out.
+-- What is left can't be said, unless a page couldn't be read or memory ran out.
 abbrev pub NextRefused : Database → Cells → Stop → Type 0
-NextRefused d cells (Fault e) = (e.fault ≢ faults.Source) × (e.fault ≢ faults.NoMemory → (xs : List Entry) → ¬ IsLeft d cells xs)
+NextRefused d cells (Fault e) = e.fault ≢ faults.Source → e.fault ≢ faults.NoMemory → (xs : List Entry) → ¬ IsLeft d cells xs
 NextRefused d cells _ = ⊥
 
 -- It was printed of the first cells of a tree, and the others are left.

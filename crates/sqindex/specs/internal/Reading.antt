@@ -40,25 +40,20 @@ HasNoPayload d e = (bytes : List ℕ) → ¬ IsPayloadIn d e bytes
 -- Why the payload of a cell isn't read.
 abbrev pub LoadRefused : Database → (limit : ℕ) → Entry → RowsError → Type 0
 LoadRefused d limit e (row_errors.Payload payload_errors.TooLong) = limit < unwrap_or e.payload 0
-LoadRefused d limit e (row_errors.Payload (payload_errors.Chain refusal)) = refusal.fault ≢ faults.NoMemory → HasNoPayload d e
-LoadRefused d limit e (row_errors.Tree refusal) = refusal.fault ≢ faults.NoMemory → HasNoPayload d e
-
--- no page that could not be read
-abbrev pub NotSource : RowsError → Type 0
-NotSource (row_errors.Tree e) = e.fault ≢ faults.Source
-NotSource (row_errors.Payload (payload_errors.Chain e)) = e.fault ≢ faults.Source
-NotSource (row_errors.Payload payload_errors.TooLong) = Unit {0}
+LoadRefused d limit e (row_errors.Payload (payload_errors.Chain refusal)) = refusal.fault ≢ faults.Source → refusal.fault ≢ faults.NoMemory → HasNoPayload d e
+LoadRefused d limit e (row_errors.Tree refusal) = refusal.fault ≢ faults.Source → refusal.fault ≢ faults.NoMemory → HasNoPayload d e
 
 -- What is left can't be said.
 abbrev pub NoneStored : Database → Cells → Type 0
 NoneStored d cells = (xs : List Entry) → IsLeft d cells xs → (all : List Stored) → ¬ AllZip (IsStoredIn d) xs all
 
--- Why the next cell isn't read: its payload is above the limit, or what is left can't be said, unless memory ran out.
+-- Why the next cell isn't read: its payload is above the limit, or what is left can't be said, unless a page couldn't be read or
+-- memory ran out.
 abbrev pub WalkRefused : Database → Cells → (limit : ℕ) → RowsError → Type 0
 WalkRefused d cells limit (row_errors.Payload payload_errors.TooLong) =
     (xs : List Entry) → IsLeft d cells xs → (e : Entry) × (rest : List Entry) × (xs ≡ e ∷ rest) × (limit < unwrap_or e.payload 0)
-WalkRefused d cells limit (row_errors.Payload (payload_errors.Chain e)) = e.fault ≢ faults.NoMemory → NoneStored d cells
-WalkRefused d cells limit (row_errors.Tree e) = e.fault ≢ faults.NoMemory → NoneStored d cells
+WalkRefused d cells limit (row_errors.Payload (payload_errors.Chain e)) = e.fault ≢ faults.Source → e.fault ≢ faults.NoMemory → NoneStored d cells
+WalkRefused d cells limit (row_errors.Tree e) = e.fault ≢ faults.Source → e.fault ≢ faults.NoMemory → NoneStored d cells
 
 -- These were read of the tree of a root: they are in the cells before those that are left.
 pub record AreTaken (d : Database) (root : ℕ) (cells : Cells) (taken : List Stored) : Type 0 where

@@ -1,6 +1,7 @@
 -- Where a cursor begins.
-use Rattle.std.proofs.Common.{◌≡◌, ℕ, zero, suc, ◌<◌, ◌≤◌, Bool, List, [], ◌∷◌, length, reverse, refl, sym, ap, ◌∙◌, subst, arith, append-nil}
+use Rattle.std.proofs.Common.{◌≡◌, ℕ, zero, suc, ◌<◌, ◌≤◌, Bool, List, [], ◌∷◌, length, take, reverse, refl, sym, ap, ◌∙◌, subst, arith, append-nil}
 use Rattle.sqval.specs.Database.{Database, page}
+use Rattle.sqpage.specs.declared.fault.Fault.{Fault}
 use Rattle.sqpage.specs.declared.kind.Kind.{Kind}
 use Rattle.sqpage.specs.Freelist.{IsPage, usable_size}
 use Rattle.sqpage.specs.Lists.{each_from}
@@ -8,10 +9,11 @@ use Rattle.sqpage.specs.Page.{Page, is_table, cell_count, pointers_end_in}
 use Rattle.sqcheck.specs.Places.{page_as, HasKind}
 use Rattle.sqrows.specs.declared.level.Level.{Level}
 use Rattle.sqrows.specs.declared.cells.Cells.{Cells}
-use Rattle.sqrows.specs.Trees.{Entry, IsTree, step_count, step_of, Along, Lists}
+use Rattle.sqrows.specs.Trees.{Entry, IsNoPageOf, IsTree, step_count, step_of, Along, Lists}
 use Rattle.sqrows.specs.Cursor.{Left, IsLeft}
-use Rattle.sqrows.specs.internal.Opening.{IsOpened, IsNoPage}
+use Rattle.sqrows.specs.internal.Opening.{IsOpened}
 use Rattle.sqrows.proofs.moves.MovesOfCursor.{page_opened, opened_along}
+use Rattle.sqrows.proofs.moves.StepsOfPage.{outside_page}
 
 -- The root of a tree.
 pub record Root (d : Database) (root : ℕ) (xs : List Entry) : Type 0 where
@@ -65,8 +67,9 @@ no_root d root none xs tree = none (root_of d root xs tree).named
 pub no_room : (d : Database) (root : ℕ) → usable_size d < 480 → (xs : List Entry) → ¬ IsTree d root xs
 no_room d root few xs tree = let r = tree.room in absurd (omega (arith, few, r))
 
-pub unsound_root : (d : Database) (root usable : ℕ) → usable ≡ usable_size d → IsNoPage (page d root) usable root → (xs : List Entry) → ¬ IsTree d root xs
-unsound_root d root usable e none xs tree =
+pub unsound_root : (d : Database) (root usable : ℕ) → usable ≡ usable_size d → (fault : Fault) → IsNoPageOf (λ kind. Unit {0}) (take usable (page d root)) usable root fault
+    → (xs : List Entry) → ¬ IsTree d root xs
+unsound_root d root usable e fault none xs tree =
     let r = root_of d root xs tree in
-    let none' : IsNoPage (page d root) (usable_size d) root = subst (λ u. IsNoPage (page d root) u root) e none in
-    let lt = none' r.kind r.typed in let le = r.pointers in absurd (omega (arith, lt, le))
+    let none' : IsNoPageOf (λ kind. Unit {0}) (take (usable_size d) (page d root)) (usable_size d) root fault = subst (λ u. IsNoPageOf (λ kind. Unit {0}) (take u (page d root)) u root fault) e none in
+    let lt = outside_page (λ kind. Unit {0}) (take (usable_size d) (page d root)) (usable_size d) root fault none' r.kind r.typed tt in let le = r.pointers in absurd (omega (arith, lt, le))

@@ -3,6 +3,8 @@ use Rattle.std.proofs.Common.{◌≡◌, ℕ, suc, ◌+◌, ◌-◌, ◌*◌, �
 use Rattle.std.proofs.lemmas.List.{reverse-append, length-reverse}
 use Rattle.std.proofs.lemmas.List.Sums.{sum_by-append}
 use Rattle.sqval.specs.Database.{Database, page}
+use Rattle.sqpage.specs.declared.fault.Fault.{Fault}
+use Rattle.sqpage.specs.declared.fault.Fault.TheVariants as faults
 use Rattle.sqpage.specs.declared.kind.Kind.{Kind}
 use Rattle.sqpage.specs.declared.kind.Kind.TheVariants as Kinds
 use Rattle.sqpage.specs.Freelist.{IsPage, usable_size}
@@ -13,10 +15,10 @@ use Rattle.sqcheck.specs.Places.{page_as, HasKind, IsCellAt}
 use Rattle.sqrows.specs.declared.level.Level.{Level}
 use Rattle.sqrows.specs.declared.cells.Cells.{Cells}
 use Rattle.sqrows.specs.declared.level.Step.TheVariants.{Cell as OwnCell, Child}
-use Rattle.sqrows.specs.Trees.{Entry, entry_of, IsChild, step_count, step_of, Along, Lists}
+use Rattle.sqrows.specs.Trees.{Entry, entry_of, IsChild, IsNoPageOf, step_count, step_of, Along, Lists}
 use Rattle.sqrows.specs.Cursor.{page_of, steps_of, steps_left, Left, IsLeft, Moves}
-use Rattle.sqrows.specs.internal.Opening.{NoneLeft, IsOpened, IsNoPageAs, weight}
-use Rattle.sqrows.proofs.moves.StepsOfPage.{child_once, kind_once}
+use Rattle.sqrows.specs.internal.Opening.{NoneLeft, IsOpened, weight}
+use Rattle.sqrows.proofs.moves.StepsOfPage.{child_once, kind_once, outside_page}
 use Rattle.sqrows.proofs.moves.LevelsOfTree.{behind, below, first_cell}
 use Rattle.sqrows.proofs.moves.LevelsOfTree.{above as levels_above}
 
@@ -107,14 +109,26 @@ too_many d old i lt step none xs left =
     let b = below d old.table (reverse old.above.items) old.top i left.pages xs lt step left.along in
     let c = b.count in let w = left.within in absurd (omega (arith, c, w, none))
 
-pub unsound : (d : Database) (old : Cells) (i p : ℕ) → old.top.index < steps_of old.top → step_of old.top.kind old.top.index ≡ Child i → IsChild (page_of old.top) i p → IsNoPageAs old.table (page d p) old.usable p → NoneLeft d old
-unsound d old i p lt step child none xs left =
+pub unsound : (d : Database) (old : Cells) (i p : ℕ) → old.top.index < steps_of old.top → step_of old.top.kind old.top.index ≡ Child i → IsChild (page_of old.top) i p → (fault : Fault)
+    → IsNoPageOf (λ kind. is_table kind ≡ old.table) (take old.usable (page d p)) old.usable p fault → NoneLeft d old
+unsound d old i p lt step child fault none xs left =
     let b = below d old.table (reverse old.above.items) old.top i left.pages xs lt step left.along in
-    let none' : IsNoPageAs old.table (page d b.p) (usable_size d) b.p = subst (λ q. IsNoPageAs old.table (page d q) (usable_size d) q) (child_once (page_of old.top) i p b.p child b.child) (subst (λ u. IsNoPageAs old.table (page d p) u p) left.usable none) in
-    let lt = none' b.kind b.typed b.same in let le = b.pointers in absurd (omega (arith, lt, le))
+    let IsKind : Kind → Type 0 = λ kind. is_table kind ≡ old.table in
+    let none' : IsNoPageOf IsKind (take (usable_size d) (page d b.p)) (usable_size d) b.p fault =
+    subst (λ q. IsNoPageOf IsKind (take (usable_size d) (page d q)) (usable_size d) q fault) (child_once (page_of old.top) i p b.p child b.child)
+    (subst (λ u. IsNoPageOf IsKind (take u (page d p)) u p fault) left.usable none) in
+    let lt = outside_page IsKind (take (usable_size d) (page d b.p)) (usable_size d) b.p fault none' b.kind b.typed b.same in let le = b.pointers in absurd (omega (arith, lt, le))
+
+-- What is a page of no kind is none of a table's tree.
+pub fewer_kinds : (table : Bool) (used : List ℕ) (usable number : ℕ) (fault : Fault) → IsNoPageOf (λ kind. Unit {0}) used usable number fault
+    → IsNoPageOf (λ kind. is_table kind ≡ table) used usable number fault
+fewer_kinds table used usable number faults.Kind none = λ kind typed same. none kind typed tt
+fewer_kinds table used usable number faults.CellOutside out = out
+fewer_kinds table used usable number _ none = absurd none
 
 -- A page of another kind.
-pub other_kind : (table : Bool) (bytes : List ℕ) (usable number : ℕ) (l : Level) → IsOpened bytes usable number l → (is_table l.kind ≡ table → ⊥) → IsNoPageAs table bytes usable number
+pub other_kind : (table : Bool) (bytes : List ℕ) (usable number : ℕ) (l : Level) → IsOpened bytes usable number l → (is_table l.kind ≡ table → ⊥)
+    → IsNoPageOf (λ kind. is_table kind ≡ table) (take usable bytes) usable number faults.Kind
 other_kind table bytes usable number l o ne = λ kind typed same. absurd (ne (ap (λ k. is_table k) (kind_once l.kind kind (sym o.typed ∙ typed)) ∙ same))
 
 -- The cell that comes next.

@@ -1,14 +1,17 @@
 -- The steps of a page, one by one.
-use Rattle.std.proofs.Common.{◌≡◌, ℕ, suc, ◌-◌, ◌<◌, ◌≤◌, List, [], ◌∷◌, refl, sym, ap, ◌∙◌, inl, inr, arith, true, unwrap_or, Option, ℤ}
+use Rattle.std.proofs.Common.{◌≡◌, ℕ, suc, ◌-◌, ◌<◌, ◌≤◌, List, [], ◌∷◌, refl, sym, ap, ◌∙◌, inl, inr, subst, arith, true, unwrap_or, Option, ℤ}
 use Rattle.sqpage.specs.declared.cell.Cell.{Cell}
 use Rattle.sqpage.specs.declared.kind.Kind.{Kind}
 use Rattle.sqpage.specs.declared.kind.Kind.TheVariants.{TableLeaf, TableInterior, IndexLeaf, IndexInterior}
 use Rattle.sqpage.specs.Lists.{each_from}
-use Rattle.sqpage.specs.Page.{Page, code_of, has_payload, cell_count}
+use Rattle.sqpage.specs.declared.fault.Fault.{Fault}
+use Rattle.sqpage.specs.declared.fault.Fault.TheVariants as faults
+use Rattle.sqpage.specs.Header.{byte}
+use Rattle.sqpage.specs.Page.{Page, code_of, head_at, has_payload, cell_count, pointers_end_in}
 use Rattle.sqpage.proofs.btree.PartsOfCells.{cell_once}
 use Rattle.sqcheck.specs.Places.{IsCellAt}
 use Rattle.sqrows.specs.declared.level.Step.TheVariants.{Cell as OwnCell}
-use Rattle.sqrows.specs.Trees.{Entry, entry_of, IsChild, step_of}
+use Rattle.sqrows.specs.Trees.{Entry, entry_of, IsChild, IsNoPageOf, step_of}
 
 -- one step, and the others
 pub one_step : {A : Type 0} (f : ℕ → A) (j count : ℕ) → j < count → each_from j (count - j) f ≡ f j ∷ each_from (suc j) (count - suc j) f
@@ -53,6 +56,14 @@ kind_once IndexLeaf IndexInterior e = absurd (omega (arith, e))
 kind_once IndexInterior TableLeaf e = absurd (omega (arith, e))
 kind_once IndexInterior TableInterior e = absurd (omega (arith, e))
 kind_once IndexInterior IndexLeaf e = absurd (omega (arith, e))
+
+-- the pointers of what is no page of these kinds leave its bytes, if its type byte is one of them
+pub outside_page : (IsKind : Kind → Type 0) (used : List ℕ) (usable number : ℕ) (fault : Fault) → IsNoPageOf IsKind used usable number fault
+    → (kind : Kind) → byte used (head_at number) ≡ code_of kind → IsKind kind → usable < pointers_end_in kind used number
+outside_page IsKind used usable number faults.Kind none kind typed is = absurd (none kind typed is)
+outside_page IsKind used usable number faults.CellOutside out kind typed is =
+    subst (λ (k : Kind). usable < pointers_end_in k used number) (kind_once out.0 kind (sym out.1 ∙ typed)) out.2
+outside_page IsKind used usable number _ none kind typed is = absurd none
 
 -- a step to a cell is one of a page whose cells have payloads
 pub own_kind : (kind : Kind) (j i : ℕ) → step_of kind j ≡ OwnCell i → has_payload kind ≡ true

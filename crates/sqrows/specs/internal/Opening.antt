@@ -25,14 +25,6 @@ pub record IsOpened (bytes : List ℕ) (usable number : ℕ) (l : Level) : Type 
   pub first : l.index ≡ 0
   pub typed : byte (take usable bytes) (head_at number) ≡ code_of l.kind
 
--- The bytes are of no page of a tree.
-abbrev pub IsNoPage : (bytes : List ℕ) → (usable number : ℕ) → Type 0
-IsNoPage bytes usable number = (kind : Kind) → byte (take usable bytes) (head_at number) ≡ code_of kind → usable < pointers_end_in kind (take usable bytes) number
-
--- The bytes are of no page of a table's tree, or of none of an index's.
-abbrev pub IsNoPageAs : (table : Bool) → (bytes : List ℕ) → (usable number : ℕ) → Type 0
-IsNoPageAs table bytes usable number = (kind : Kind) → byte (take usable bytes) (head_at number) ≡ code_of kind → is_table kind ≡ table → usable < pointers_end_in kind (take usable bytes) number
-
 -- How many steps the pages that were read still have, and those that may be read could have.
 abbrev pub weight : Level → ℕ
 weight l = suc (steps_of l - l.index)

@@ -3,7 +3,7 @@ use Rattle.std.specs.Prelude.{◌≡◌, ◌⊎◌, ℕ, Bool, true, false, List
 use Rattle.sqval.specs.Database.{Database}
 use Rattle.sqval.specs.Datum.{Datum}
 use Rattle.sqrows.specs.Rows.{Row, HasRows}
-use Rattle.sqrows.specs.RowCursor.{RowsLeft, NextHolds, RowsRefused}
+use Rattle.sqrows.specs.RowCursor.{IsUnreadRow, RowsLeft, NextHolds, RowsRefused}
 use Rattle.sqrows.specs.Stops.{IsNoRecord}
 use Rattle.sqrows.specs.internal.Passing.{ArePassed, Passes}
 use Rattle.sqrows.specs.declared.rows.Rows.{Rows}
@@ -34,7 +34,7 @@ TakesNext d false old new before after = RowsLeft d old [] × (after ≡ before)
 -- Why the next row isn't taken in.
 abbrev pub NextRefused : Database → Rows → ListError → Type 0
 NextRefused d cursor (Tree e) = ⊥
-NextRefused d cursor (RowError e) = RowsRefused d cursor e
+NextRefused d cursor (RowError e) = (¬ IsUnreadRow e) → RowsRefused d cursor e
 NextRefused d cursor (Record e) = NextHolds d cursor (IsNoRecord d e)
 NextRefused d cursor NoMemory = Unit {0}
 

@@ -1,5 +1,6 @@
 use Rattle.cli_show.specs.Views.{AreAskedCounts}
 use Rattle.cli_show.proofs.Findings.{counted_by, view_found, view_front, view_refused}
+use Rattle.sqview.proofs.judgments.VerdictOnFiles.{given}
 use Rattle.cli_show.proofs.views.judged.Goals as goal
 
 pub returns-in-Ok-clause-found : goal.returns-in-Ok-clause-found
@@ -21,8 +22,9 @@ pub returns-in-Ok-clause-refused : goal.returns-in-Ok-clause-refused
 returns-in-Ok-clause-refused g c = λ gives.
     let bytes = g.F.FileBytes.bytes in
     let a = c.args.asked in
+    let still = c.in-Ok.ensures.still_gives gives in
     view_refused a.maps.pointer_maps a.limits bytes (bytes c.args.db) (bytes c.args.wal) (bytes c.args.journal) a.at c.in-Ok.used.view c.of_view-front.result c.judge_view_with-found.result c.as_found.result
-    (c.in-Ok.ensures.answer gives) c.as_found.ensures.err (c.judge_view_with-found.ensures.refused (c.in-Ok.ensures.still_gives gives))
+    (c.in-Ok.ensures.answer gives) c.as_found.ensures.err (given c.judge_view_with-found.result still (c.judge_view_with-found.ensures.refused (g.met.F.FileBytes.right c.in-Ok.used.view.db still.0, g.met.F.FileBytes.right c.in-Ok.used.view.log still.1)))
 
 pub returns-in-Ok-clause-counts : goal.returns-in-Ok-clause-counts
 returns-in-Ok-clause-counts g c = λ gives.

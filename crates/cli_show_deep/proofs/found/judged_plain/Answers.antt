@@ -3,6 +3,7 @@ use Rattle.sqview.specs.declared.view_error.ViewError.{ViewError}
 use Rattle.sqdeepjudge.specs.Verdicts.{deep_without}
 use Rattle.cli_show.specs.Views.{AreAskedCounts, AskedRefused}
 use Rattle.cli_show_deep.proofs.DeepFindings.{counted_by, view_front, view_refused, plain_found, missing_found, none_plain}
+use Rattle.sqview.proofs.judgments.VerdictOnFiles.{given}
 use Rattle.cli_show_deep.proofs.found.judged_plain.Goals as goal
 
 pub returns-in-Ok-clause-found : goal.returns-in-Ok-clause-found
@@ -26,8 +27,9 @@ pub returns-in-Ok-clause-refused : goal.returns-in-Ok-clause-refused
 returns-in-Ok-clause-refused g c = λ gives.
     let bytes = g.F.FileBytes.bytes in
     let a = c.args.asked in
+    let still = c.in-Ok.ensures.still_gives gives in
     view_refused a.maps.pointer_maps a.limits bytes (bytes c.args.db) (bytes c.args.wal) (bytes c.args.journal) a.at c.in-Ok.used.view c.of_view-front.result c.judge_plain-found.result c.as_found.result
-    (c.in-Ok.ensures.answer gives) c.as_found.ensures.err (c.judge_plain-found.ensures.refused (c.in-Ok.ensures.still_gives gives))
+    (c.in-Ok.ensures.answer gives) c.as_found.ensures.err (given c.judge_plain-found.result still (c.judge_plain-found.ensures.refused (g.met.F.FileBytes.right c.in-Ok.used.view.db still.0, g.met.F.FileBytes.right c.in-Ok.used.view.log still.1)))
 
 pub returns-in-Ok-clause-counts : goal.returns-in-Ok-clause-counts
 returns-in-Ok-clause-counts g c = λ gives.

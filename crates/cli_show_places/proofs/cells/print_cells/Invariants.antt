@@ -8,6 +8,6 @@ abbrev pub invariant-turns : goal.invariant-turns
 invariant-turns g l = record {
   kept : KeepsPages g.S.PageSource.pages g.S.PageSource.size g.S.PageSource.reads_right g.S.PageSource.gives_pages l.fn.source l.source;
   sized : l.cells.size ≡ g.S.PageSource.size l.fn.source;
-  over : g.S.PageSource.gives_pages l.fn.source → IsOver (g.S.PageSource.pages l.fn.source) l.cells;
-  walked : g.S.PageSource.gives_pages l.fn.source → g.S.Framed.tells_right → AreWalked (g.S.PageSource.pages l.fn.source) g.S.Framed.frames l.style l.root l.cells (g.W.Write.contents l.fn.out) (g.W.Write.contents l.out);
+  over : g.S.PageSource.reads_right l.fn.source → IsOver (g.S.PageSource.pages l.fn.source) l.cells;
+  walked : g.S.PageSource.reads_right l.fn.source → g.S.Framed.tells_right → AreWalked (g.S.PageSource.pages l.fn.source) g.S.Framed.frames l.style l.root l.cells (g.W.Write.contents l.fn.out) (g.W.Write.contents l.out);
 }

@@ -5,10 +5,13 @@ use Rattle.cli_show_rows.specs.Stops.{IsTurnStopped}
 use Rattle.cli_show_rows.proofs.dump.print_committed.Goals as goal
 
 pub returns-in-Err-print_turn-clause-err : goal.returns-in-Err-print_turn-clause-err
-returns-in-Err-print_turn-clause-err g c = λ gives.
+returns-in-Err-print_turn-clause-err g c = λ right.
     let keeps = c.in-Ok.ensures.keeps in
     let mid = g.W.Write.contents c.print_turn.new.out in
     let after = g.W.Write.contents c.print_turn-2.new.out in
     let stop = c.in-Err-print_turn.stop in
-    let stopped = subst (λ (p : Database). IsTurnStopped p c.args.form (Sequence c.args.of.1) c.args.of.0.now stop mid after) keeps.same_pages (c.in-Err-print_turn.ensures.err (keeps.still_gives gives)) in
-    inr (inr (inl (mid, c.in-Ok.ensures.ok gives, stopped)))
+    let stopped = subst (λ (p : Database). IsTurnStopped p c.args.form (Sequence c.args.of.1) c.args.of.0.now stop mid after) keeps.same_pages (c.in-Err-print_turn.ensures.err (keeps.still_right right)) in
+    inr (inr (inl (mid, c.in-Ok.ensures.ok right, stopped)))
+
+pub returns-in-Err-print_turn-clause-unread : goal.returns-in-Err-print_turn-clause-unread
+returns-in-Err-print_turn-clause-unread g c = λ is gives. c.in-Err-print_turn.ensures.unread is (c.in-Ok.ensures.keeps.still_gives gives)

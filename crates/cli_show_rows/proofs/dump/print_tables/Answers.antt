@@ -7,15 +7,15 @@ use Rattle.sqdeep.specs.declared.text.Encoding.{Encoding}
 use Rattle.sqtables.specs.declared.list.Object.{Object}
 use Rattle.cli_show_rows.specs.Dumps.{AreAllPrinted, AreCounting, AreObjectsPrinted, AreTablesPrinted, LeavesOutIn, first_text, form_in, left_text_in}
 use Rattle.cli_row_text.specs.Lines.{form_of}
-use Rattle.cli_show_rows.specs.Stops.{AreObjectsStopped, AreTablesStopped}
+use Rattle.cli_show_rows.specs.Stops.{AreObjectsStopped, AreTablesStopped, IsStopTold}
 use Rattle.cli_show_rows.specs.internal.Stopping.{IsCounted}
 use Rattle.cli_show_rows.specs.Strays.{bytes_of}
 use Rattle.cli_show_rows.proofs.LeftOut.{nothing_left, some_left_out}
-use Rattle.cli_show_rows.proofs.TablesStopped.{on_err, on_ok, stopped_ended}
+use Rattle.cli_show_rows.proofs.TablesStopped.{on_err, on_ok, stopped_ended, ended_unread}
 use Rattle.cli_show_rows.proofs.dump.print_tables.Goals as goal
 
 pub returns-clause-err : goal.returns-clause-err
-returns-clause-err g c = λ gives.
+returns-clause-err g c = λ right.
     let d = g.S.PageSource.pages c.args.source.now in
     let old = g.W.Write.contents c.args.out.now in
     let begun = g.W.Write.contents c.write_first.new.out in
@@ -23,12 +23,12 @@ returns-clause-err g c = λ gives.
     let after = g.W.Write.contents c.stopped.new.out in
     let notation = c.args.notation in
     let keeps = c.in-Ok.ensures.keeps in
-    let listed = c.in-Ok.ensures.ok gives in
+    let listed = c.in-Ok.ensures.ok right in
     let stop = c.in-Err-print_objects.stop in
     let objects = c.in-Ok.schema.objects.items in
     let counting = c.in-Ok-counting_in.counting in
     let form = form_of notation c.in-Ok.schema.encoding in
-    let stopped = subst (λ (p : Database). AreObjectsStopped p form counting c.as_slice.result.now stop begun mid) keeps.same_pages (c.in-Err-print_objects.ensures.err (keeps.still_gives gives)) in
+    let stopped = subst (λ (p : Database). AreObjectsStopped p form counting c.as_slice.result.now stop begun mid) keeps.same_pages (c.in-Err-print_objects.ensures.err (keeps.still_right right)) in
     let own = subst (λ (os : List Object). AreObjectsStopped d form counting os stop begun mid) c.as_slice.ensures.value stopped in
     let counts = subst (λ (os : List Object). AreCounting notation os counting) c.deref-2.ensures.value c.in-Ok-counting_in.ensures in
     let first = subst (λ (e : Encoding). Appends old begun (first_text (form_of notation e))) listed.1 c.in-Ok-write_first.ensures in
@@ -36,7 +36,7 @@ returns-clause-err g c = λ gives.
     (subst (λ (e : Encoding). AreObjectsStopped d (form_of notation e) counting objects stop begun mid) listed.1 own) c.stopped.ensures
 
 pub returns-in-Ok-print_objects-clause-ok : goal.returns-in-Ok-print_objects-clause-ok
-returns-in-Ok-print_objects-clause-ok g c = λ gives.
+returns-in-Ok-print_objects-clause-ok g c = λ right.
     let d = g.S.PageSource.pages c.args.source.now in
     let old = g.W.Write.contents c.args.out.now in
     let begun = g.W.Write.contents c.write_first.new.out in
@@ -44,19 +44,19 @@ returns-in-Ok-print_objects-clause-ok g c = λ gives.
     let after = g.W.Write.contents c.print_count.new.out in
     let notation = c.args.notation in
     let keeps = c.in-Ok.ensures.keeps in
-    let listed = c.in-Ok.ensures.ok gives in
+    let listed = c.in-Ok.ensures.ok right in
     let objects = c.in-Ok.schema.objects.items in
     let strays = bytes_of c.in-Ok.schema.strays.items in
     let counting = c.in-Ok-counting_in.counting in
     let form = form_of notation c.in-Ok.schema.encoding in
     let left = c.in-Ok-left_out_in.left in
-    let printed = subst (λ (p : Database). AreObjectsPrinted p form counting c.as_slice.result.now begun ended) keeps.same_pages (c.in-Ok-print_objects.ensures.ok (keeps.still_gives gives)) in
+    let printed = subst (λ (p : Database). AreObjectsPrinted p form counting c.as_slice.result.now begun ended) keeps.same_pages (c.in-Ok-print_objects.ensures.ok (keeps.still_right right)) in
     let own = subst (λ (os : List Object). AreObjectsPrinted d form counting os begun ended) c.as_slice.ensures.value printed in
     let count = left + c.len.result in
     let all : AreAllPrinted d notation strays count old ended = record {
       objects = objects;
       has = listed.0;
-      has_strays = c.in-Ok.ensures.strays gives;
+      has_strays = c.in-Ok.ensures.strays right;
       encoded = listed.2;
       counting = counting;
       counts = subst (λ (os : List Object). AreCounting notation os counting) c.deref-2.ensures.value c.in-Ok-counting_in.ensures;
@@ -71,7 +71,7 @@ returns-in-Ok-print_objects-clause-ok g c = λ gives.
     (λ none. nothing_left d notation old ended after strays count all none.0 none.1) c.print_count.ensures.ok
 
 pub returns-in-Ok-print_objects-clause-err : goal.returns-in-Ok-print_objects-clause-err
-returns-in-Ok-print_objects-clause-err g c = λ gives.
+returns-in-Ok-print_objects-clause-err g c = λ right.
     let d = g.S.PageSource.pages c.args.source.now in
     let old = g.W.Write.contents c.args.out.now in
     let begun = g.W.Write.contents c.write_first.new.out in
@@ -79,19 +79,19 @@ returns-in-Ok-print_objects-clause-err g c = λ gives.
     let after = g.W.Write.contents c.print_count.new.out in
     let notation = c.args.notation in
     let keeps = c.in-Ok.ensures.keeps in
-    let listed = c.in-Ok.ensures.ok gives in
+    let listed = c.in-Ok.ensures.ok right in
     let objects = c.in-Ok.schema.objects.items in
     let strays = bytes_of c.in-Ok.schema.strays.items in
     let counting = c.in-Ok-counting_in.counting in
     let form = form_of notation c.in-Ok.schema.encoding in
     let left = c.in-Ok-left_out_in.left in
-    let printed = subst (λ (p : Database). AreObjectsPrinted p form counting c.as_slice.result.now begun ended) keeps.same_pages (c.in-Ok-print_objects.ensures.ok (keeps.still_gives gives)) in
+    let printed = subst (λ (p : Database). AreObjectsPrinted p form counting c.as_slice.result.now begun ended) keeps.same_pages (c.in-Ok-print_objects.ensures.ok (keeps.still_right right)) in
     let own = subst (λ (os : List Object). AreObjectsPrinted d form counting os begun ended) c.as_slice.ensures.value printed in
     let count = left + c.len.result in
     let all : AreAllPrinted d notation strays count old ended = record {
       objects = objects;
       has = listed.0;
-      has_strays = c.in-Ok.ensures.strays gives;
+      has_strays = c.in-Ok.ensures.strays right;
       encoded = listed.2;
       counting = counting;
       counts = subst (λ (os : List Object). AreCounting notation os counting) c.deref-2.ensures.value c.in-Ok-counting_in.ensures;
@@ -105,3 +105,8 @@ returns-in-Ok-print_objects-clause-err g c = λ gives.
     let told = subst (λ (ts : List (List ℕ)). IfErr c.print_count.result (λ stop. IsCounted (left_text_in notation ts count) count stop ended after)) (ap bytes_of c.deref-in-Ok-print_objects.ensures.value) c.print_count.ensures.err in
     on_err c.print_count.result (λ stop. IsCounted (left_text_in notation strays count) count stop ended after) (λ stop. AreTablesStopped d notation stop old after)
     (λ stop is. some_left_out d notation old ended after strays count stop all is) told
+
+pub returns-clause-unread : goal.returns-clause-unread
+returns-clause-unread g c = λ is gives.
+    c.in-Err-print_objects.ensures.unread (ended_unread (IsStopTold c.args.notation) c.in-Err-print_objects.stop c.stopped.result (g.W.Write.contents c.print_objects.new.out) (g.W.Write.contents c.stopped.new.out) c.stopped.ensures is)
+    (c.in-Ok.ensures.keeps.still_gives gives)

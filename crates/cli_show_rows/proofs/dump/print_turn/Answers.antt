@@ -18,19 +18,19 @@ loop-object-preserved g c =
         same_pages = keeps.same_pages ∙ kept.same_pages;
         same_size = keeps.same_size ∙ kept.same_size;
       };
-      taken = λ gives.
+      taken = λ right.
           let d = g.S.PageSource.pages c.args.source.now in
           let before = g.W.Write.contents c.args.out.now in
           let mid = g.W.Write.contents c.loop-object.out in
           let after = g.W.Write.contents c.print_object.new.out in
           let o = c.object-item.result in
-          let one = subst (λ (p : Database). IsTurnTaken p c.args.form c.args.turn o mid after) kept.same_pages (c.in-Ok.ensures.ok (kept.still_gives gives)) in
+          let one = subst (λ (p : Database). IsTurnTaken p c.args.form c.args.turn o mid after) kept.same_pages (c.in-Ok.ensures.ok (kept.still_right right)) in
           let it = subst (λ (x : Object). IsTurnTaken d c.args.form c.args.turn x mid after) c.object-item.is one in
-          turns_more d c.args.form c.args.turn c.args.objects.now c.loop-object.object-index o before mid after c.loop-object-test.true (c.loop-object.invariant.taken gives) it;
+          turns_more d c.args.form c.args.turn c.args.objects.now c.loop-object.object-index o before mid after c.loop-object-test.true (c.loop-object.invariant.taken right) it;
     }
 
 pub returns-in-Err-clause-err : goal.returns-in-Err-clause-err
-returns-in-Err-clause-err g c = λ gives.
+returns-in-Err-clause-err g c = λ right.
     let d = g.S.PageSource.pages c.args.source.now in
     let kept = c.loop-object.invariant.kept in
     let mid = g.W.Write.contents c.loop-object.out in
@@ -39,5 +39,8 @@ returns-in-Err-clause-err g c = λ gives.
     let i = c.loop-object.object-index in
     let o = c.object-item.result in
     let stop = c.in-Err.stop in
-    let one = subst (λ (p : Database). IsInTurn c.args.turn o × IsObjectStopped p c.args.form c.args.turn o stop mid after) kept.same_pages (c.in-Err.ensures.err (kept.still_gives gives)) in
-    (i, o, mid, slice_get-get_or objects i o c.loop-object-test.true ∙ ap Some (sym c.object-item.is), c.loop-object.invariant.taken gives, one.0, one.1)
+    let one = subst (λ (p : Database). IsInTurn c.args.turn o × IsObjectStopped p c.args.form c.args.turn o stop mid after) kept.same_pages (c.in-Err.ensures.err (kept.still_right right)) in
+    (i, o, mid, slice_get-get_or objects i o c.loop-object-test.true ∙ ap Some (sym c.object-item.is), c.loop-object.invariant.taken right, one.0, one.1)
+
+pub returns-in-Err-clause-unread : goal.returns-in-Err-clause-unread
+returns-in-Err-clause-unread g c = λ is gives. c.in-Err.ensures.unread is (c.loop-object.invariant.kept.still_gives gives)

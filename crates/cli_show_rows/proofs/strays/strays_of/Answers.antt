@@ -2,7 +2,7 @@ use Rattle.std.proofs.Common.{◌∙◌, ap, Bool, false, true, subst, sym}
 use Rattle.sqval.specs.Database.{Database}
 use Rattle.sqrows.specs.Cursor.{IsOver}
 use Rattle.sqcheck.proofs.checks.ResultsOfCalls.{exits}
-use Rattle.sqtables.specs.Objects.{ListRefused}
+use Rattle.sqtables.specs.Objects.{ListRefused, IsUnreadList}
 use Rattle.sqtables.specs.internal.Listing.{NextRefused}
 use Rattle.cli_show_rows.specs.Strays.{bytes_of}
 use Rattle.cli_show_rows.specs.internal.Straying.{TakesStray}
@@ -14,8 +14,8 @@ turns-init g c = record {
   kept = c.in-Ok.ensures.keeps;
   sized = c.in-Ok.ensures.size;
   limited = c.in-Ok.ensures.limit;
-  over = λ gives. (c.in-Ok.ensures.ok gives).0;
-  taken = λ gives. no_strays_taken (g.S.PageSource.pages c.args.source.now) c.args.encoding c.in-Ok.rows (bytes_of c.new-strays.result.items) (ap bytes_of c.new-strays.ensures.items) (c.in-Ok.ensures.ok gives).1 (c.in-Ok.ensures.cells gives);
+  over = λ right. (c.in-Ok.ensures.ok right).0;
+  taken = λ right. no_strays_taken (g.S.PageSource.pages c.args.source.now) c.args.encoding c.in-Ok.rows (bytes_of c.new-strays.result.items) (ap bytes_of c.new-strays.ensures.items) (c.in-Ok.ensures.ok right).1 (c.in-Ok.ensures.cells right);
 }
 
 pub turns-preserved : goal.turns-preserved
@@ -35,34 +35,42 @@ turns-preserved g c =
       };
       sized = e.size.0 ∙ i.sized;
       limited = e.size.2 ∙ i.limited;
-      over = λ gives. e.size.1 ∙ i.over gives;
-      taken = λ gives.
-          let takes = f.ok (i.kept.still_gives gives) (subst (λ (d : Database). IsOver d c.turns.rows.cells) (sym i.kept.same_pages) (i.over gives)) in
+      over = λ right. e.size.1 ∙ i.over right;
+      taken = λ right.
+          let takes = f.ok (i.kept.still_right right) (subst (λ (d : Database). IsOver d c.turns.rows.cells) (sym i.kept.same_pages) (i.over right)) in
           let found = subst (λ (found : Bool). TakesStray (g.S.PageSource.pages c.turns.source) c.args.encoding found c.turns.rows c.take_next.new.rows before after) c.if-not-branch.false takes in
           let one = subst (λ (d : Database). TakesStray d c.args.encoding true c.turns.rows c.take_next.new.rows before after) i.kept.same_pages found in
-          one_stray_taken d c.args.encoding c.turns.rows c.take_next.new.rows before after (i.taken gives) one;
+          one_stray_taken d c.args.encoding c.turns.rows c.take_next.new.rows before after (i.taken right) one;
     }
 
 pub returns-then-not-branch-clause-ok : goal.returns-then-not-branch-clause-ok
-returns-then-not-branch-clause-ok g c = λ gives.
+returns-then-not-branch-clause-ok g c = λ right.
     let i = c.turns.invariant in
     let d = g.S.PageSource.pages c.args.source.now in
     let f = c.in_ok-take_next.ensures in
     let before = bytes_of c.turns.strays.items in
     let after = bytes_of c.take_next.new.strays.items in
-    let takes = f.ok (i.kept.still_gives gives) (subst (λ (d : Database). IsOver d c.turns.rows.cells) (sym i.kept.same_pages) (i.over gives)) in
+    let takes = f.ok (i.kept.still_right right) (subst (λ (d : Database). IsOver d c.turns.rows.cells) (sym i.kept.same_pages) (i.over right)) in
     let none = subst (λ (found : Bool). TakesStray (g.S.PageSource.pages c.turns.source) c.args.encoding found c.turns.rows c.take_next.new.rows before after) c.if-not-branch.true takes in
     let end = subst (λ (d : Database). TakesStray d c.args.encoding false c.turns.rows c.take_next.new.rows before after) i.kept.same_pages none in
-    all_strays_taken d c.args.encoding c.turns.rows c.take_next.new.rows before after (i.taken gives) end
+    all_strays_taken d c.args.encoding c.turns.rows c.take_next.new.rows before after (i.taken right) end
 
 pub returns-in-Err-clause-err : goal.returns-in-Err-clause-err
-returns-in-Err-clause-err g c = λ gives. ((c.in-Err.ensures.err gives).0, c.in-Err.ensures.cells gives)
+returns-in-Err-clause-err g c = λ right. (c.in-Err.ensures.cells right).1
 
 pub returns-in_err-take_next-clause-err : goal.returns-in_err-take_next-clause-err
-returns-in_err-take_next-clause-err g c = λ gives.
+returns-in_err-take_next-clause-err g c = λ right.
     let d = g.S.PageSource.pages c.args.source.now in
     let i = c.turns.invariant in
     let e = c.in_err-take_next.field-0.0 in
-    let refused = c.in_err-take_next.ensures.err (i.kept.still_gives gives) (subst (λ (d : Database). IsOver d c.turns.rows.cells) (sym i.kept.same_pages) (i.over gives)) in
+    let refused = c.in_err-take_next.ensures.err (i.kept.still_right right) (subst (λ (d : Database). IsOver d c.turns.rows.cells) (sym i.kept.same_pages) (i.over right)) in
     exits (ListRefused d) e c.from_residual.result c.from_residual.ensures.1
-    (strays_refused d c.args.encoding c.turns.rows (bytes_of c.turns.strays.items) e i.limited (i.taken gives) (subst (λ (d : Database). NextRefused d c.turns.rows e) i.kept.same_pages refused))
+    (strays_refused d c.args.encoding c.turns.rows (bytes_of c.turns.strays.items) e i.limited (i.taken right) (subst (λ (d : Database). NextRefused d c.turns.rows e) i.kept.same_pages refused))
+
+pub returns-in-Err-clause-unread : goal.returns-in-Err-clause-unread
+returns-in-Err-clause-unread g c = λ is gives. (c.in-Err.ensures.cells (g.met.S.PageSource.right c.args.source.now gives)).0 is gives
+
+pub returns-in_err-take_next-clause-unread : goal.returns-in_err-take_next-clause-unread
+returns-in_err-take_next-clause-unread g c =
+    exits (λ e. IsUnreadList e → ¬ g.S.PageSource.gives_pages c.args.source.now) c.in_err-take_next.field-0.0 c.from_residual.result c.from_residual.ensures.1
+    (λ is gives. c.in_err-take_next.ensures.unread is (c.turns.invariant.kept.still_gives gives))

@@ -7,6 +7,6 @@ use Rattle.sqcontents.proofs.check.check_contents.Given as goal
 abbrev pub invariant-items : goal.invariant-items
 invariant-items g l = record {
   kept : KeepsPages g.S.PageSource.pages g.S.PageSource.size g.S.PageSource.reads_right g.S.PageSource.gives_pages l.fn.source l.source;
-  numbers : g.S.PageSource.gives_pages l.fn.source → AreNumbersOf (g.S.PageSource.pages l.fn.source) l.numbers;
-  judged : g.S.PageSource.gives_pages l.fn.source → AreIndexesBelow (g.S.PageSource.pages l.fn.source) (map seen l.items) l.limit l.row l.asides.items;
+  numbers : g.S.PageSource.reads_right l.fn.source → AreNumbersOf (g.S.PageSource.pages l.fn.source) l.numbers;
+  judged : g.S.PageSource.reads_right l.fn.source → AreIndexesBelow (g.S.PageSource.pages l.fn.source) (map seen l.items) l.limit l.row l.asides.items;
 }

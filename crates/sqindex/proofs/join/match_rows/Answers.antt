@@ -34,7 +34,7 @@ pub turns-init : goal.turns-init
 turns-init g c = record {
   kept = record { still_right = λ right. right; still_gives = λ gives. gives; same_pages = refl; same_size = refl };
   sized = sym c.requires.sized;
-  seen = λ gives table ordered upward read.
+  seen = λ right table ordered upward read.
       let key = c.args.key.now in
       let part = c.args.part.now in
       let span = part.span in
@@ -48,29 +48,29 @@ turns-init g c = record {
 }
 
 pub returns-in-Ok-None-clause-ok : goal.returns-in-Ok-None-clause-ok
-returns-in-Ok-None-clause-ok g c = λ gives table ordered upward read.
+returns-in-Ok-None-clause-ok g c = λ right table ordered upward read.
     let d = g.S.PageSource.pages c.args.source.now in
     let i = c.turns.invariant in
-    let was = i.seen gives table ordered upward read in
+    let was = i.seen right table ordered upward read in
     let here = subst (λ (d : Database). IsCursor d table c.turns.rows was.0) (sym i.kept.same_pages) was.1 in
     let last = c.args.part.now.span.last in
-    let gave = subst (λ (f : Option Found). GivesTo (g.S.PageSource.pages c.turns.source) table last c.advance_to.new.self was.0 f) c.in-Ok-None.field-0-is (c.in-Ok-None.ensures.ok (i.kept.still_gives gives) table was.0 here) in
+    let gave = subst (λ (f : Option Found). GivesTo (g.S.PageSource.pages c.turns.source) table last c.advance_to.new.self was.0 f) c.in-Ok-None.field-0-is (c.in-Ok-None.ensures.ok (i.kept.still_right right) table was.0 here) in
     let now = subst (λ (d : Database). GivesTo d table last c.advance_to.new.self was.0 None) i.kept.same_pages gave in
     if_ok c.close.result c.close.ensures.ok (λ new is. matched_to c.args.key.now c.args.part.now ordered d table new was.0 c.turns.join (subst (λ (r : Rows). IsCursor d table r was.0) (sym is.0) now.0) now.1 was.2 is.1 is.2 was.3)
 
 pub returns-in-Ok-None-clause-err : goal.returns-in-Ok-None-clause-err
-returns-in-Ok-None-clause-err g c = λ gives table ordered upward read.
+returns-in-Ok-None-clause-err g c = λ right table ordered upward read.
     let d = g.S.PageSource.pages c.args.source.now in
     let i = c.turns.invariant in
-    let was = i.seen gives table ordered upward read in
+    let was = i.seen right table ordered upward read in
     let here = subst (λ (d : Database). IsCursor d table c.turns.rows was.0) (sym i.kept.same_pages) was.1 in
     let last = c.args.part.now.span.last in
     let e = c.in-Ok-None.ensures in
-    let gave = subst (λ (f : Option Found). GivesTo (g.S.PageSource.pages c.turns.source) table last c.advance_to.new.self was.0 f) c.in-Ok-None.field-0-is (e.ok (i.kept.still_gives gives) table was.0 here) in
+    let gave = subst (λ (f : Option Found). GivesTo (g.S.PageSource.pages c.turns.source) table last c.advance_to.new.self was.0 f) c.in-Ok-None.field-0-is (e.ok (i.kept.still_right right) table was.0 here) in
     let now = subst (λ (d : Database). GivesTo d table last c.advance_to.new.self was.0 None) i.kept.same_pages gave in
     let pages = e.keeps.same_pages ∙ i.kept.same_pages in
     let cursor = subst (λ (d : Database). IsCursor d table c.advance_to.new.self was.0) (sym pages) now.0 in
-    if_err c.close.result (c.close.ensures.err (e.keeps.still_gives (i.kept.still_gives gives)) table was.0 cursor) (λ fault told.
+    if_err c.close.result (c.close.ensures.err (e.keeps.still_right (i.kept.still_right right)) table was.0 cursor) (λ fault told.
     not_closed c.args.key.now c.args.part.now ordered d table was.0 c.turns.join fault now.1 was.2 (subst (λ (d : Database). CloseRefused d table c.args.part.now.entries c.turns.join fault) pages told))
 
 pub returns-in-Ok-None-clause-size : goal.returns-in-Ok-None-clause-size
@@ -79,11 +79,11 @@ returns-in-Ok-None-clause-size g c =
     if_ok c.close.result c.close.ensures.ok (λ new is. ap (λ (r : Rows). r.walk.cells.size) is.0 ∙ c.in-Ok-None.ensures.size ∙ i.sized ∙ c.requires.sized)
 
 pub returns-in-Err-clause-err : goal.returns-in-Err-clause-err
-returns-in-Err-clause-err g c = λ gives table ordered upward read.
+returns-in-Err-clause-err g c = λ right table ordered upward read.
     let i = c.turns.invariant in
-    let was = i.seen gives table ordered upward read in
+    let was = i.seen right table ordered upward read in
     let here = subst (λ (d : Database). IsCursor d table c.turns.rows was.0) (sym i.kept.same_pages) was.1 in
-    subst (λ (d : Database). ReadRefused d table most_bytes (NoRows d table) c.in-Err.refusal) i.kept.same_pages (c.in-Err.ensures.err (i.kept.still_gives gives) table was.0 here)
+    subst (λ (d : Database). ReadRefused d table most_bytes (NoRows d table) c.in-Err.refusal) i.kept.same_pages (c.in-Err.ensures.err (i.kept.still_right right) table was.0 here)
 
 pub turns-preserved : goal.turns-preserved
 turns-preserved g c =
@@ -97,16 +97,16 @@ turns-preserved g c =
         same_size = e.keeps.same_size ∙ i.kept.same_size;
       };
       sized = e.size ∙ i.sized;
-      seen = λ gives table ordered upward read.
+      seen = λ right table ordered upward read.
           let d = g.S.PageSource.pages c.args.source.now in
           let key = c.args.key.now in
           let part = c.args.part.now in
           let last = part.span.last in
           let found = c.in-Ok-Some.found in
           let rows = c.advance_to.new.self in
-          let was = i.seen gives table ordered upward read in
+          let was = i.seen right table ordered upward read in
           let here = subst (λ (d : Database). IsCursor d table c.turns.rows was.0) (sym i.kept.same_pages) was.1 in
-          let gave = subst (λ (f : Option Found). GivesTo (g.S.PageSource.pages c.turns.source) table last rows was.0 f) c.in-Ok-Some.field-0-is (e.ok (i.kept.still_gives gives) table was.0 here) in
+          let gave = subst (λ (f : Option Found). GivesTo (g.S.PageSource.pages c.turns.source) table last rows was.0 f) c.in-Ok-Some.field-0-is (e.ok (i.kept.still_right right) table was.0 here) in
           let now = subst (λ (d : Database). GivesTo d table last rows was.0 (Some found)) i.kept.same_pages gave in
           let x = stored_of found rows.walk.payload.items in
           let rise = (are_seen d table rows (was.0 ++ x ∷ []) now.0.0 now.0.1).rise in
@@ -121,3 +121,11 @@ turns-preserved g c =
                 (get_push was.0 x k row at),
           );
     }
+
+pub returns-in-Ok-None-clause-unread : goal.returns-in-Ok-None-clause-unread
+returns-in-Ok-None-clause-unread g c =
+    let k = c.in-Ok-None.ensures.keeps in
+    if_err c.close.result c.close.ensures.unread (λ e un is gives. un is (k.still_gives (c.turns.invariant.kept.still_gives gives)))
+
+pub returns-in-Err-clause-unread : goal.returns-in-Err-clause-unread
+returns-in-Err-clause-unread g c = λ is gives. c.in-Err.ensures.unread is (c.turns.invariant.kept.still_gives gives)

@@ -12,7 +12,7 @@ abbrev pub invariant-turns : goal.invariant-turns
 invariant-turns g l = record {
   kept : KeepsPages g.S.PageSource.pages g.S.PageSource.size g.S.PageSource.reads_right g.S.PageSource.gives_pages l.fn.source l.source;
   sized : l.rows.walk.cells.size ≡ g.S.PageSource.size l.fn.source;
-  seen : g.S.PageSource.gives_pages l.fn.source → (table : ℕ) → AreByRowid l.key l.part.entries → IsOpen l.part.span → IsReadTo (g.S.PageSource.pages l.fn.source) table l.part.span.above l.fn.rows
+  seen : g.S.PageSource.reads_right l.fn.source → (table : ℕ) → AreByRowid l.key l.part.entries → IsOpen l.part.span → IsReadTo (g.S.PageSource.pages l.fn.source) table l.part.span.above l.fn.rows
       → (given : List Stored) × IsCursor (g.S.PageSource.pages l.fn.source) table l.rows given × IsJoined l.key l.part.entries (rows_in l.part.span given) l.join
       × ((i : ℕ) (row : Stored) → slice_get given i ≡ Some row → up_to l.part.span.last (rowid_of row) ≡ true);
 }

@@ -4,13 +4,16 @@ use Rattle.sqval.specs.Record.{most_bytes}
 use Rattle.sqrows.specs.Cursor.{IsOver}
 use Rattle.sqrows.specs.declared.cells.Cells.{Cells}
 use Rattle.sqindex.specs.declared.walk.Found.{Found}
-use Rattle.sqindex.specs.Indexes.{ReadRefused, NoEntries}
+use Rattle.sqindex.specs.Indexes.{ReadRefused, NoEntries, IsUnreadTree}
 use Rattle.sqindex.specs.internal.Reading.{stored_of, WalkMoves, WalkRefused}
 use Rattle.sqindex.specs.internal.KeyedScanning.{IsKeyedScan, IsBefore, ArePlain}
-use Rattle.sqindex.proofs.CellsTaken.{none_taken, one_taken, unread}
+use Rattle.sqindex.proofs.CellsTaken.{none_taken, one_taken, unread, unread_cell}
 use Rattle.sqindex.proofs.EntriesRead.{other_kind}
 use Rattle.sqindex.proofs.Places.{get_here}
 use Rattle.sqindex.proofs.KeyedScanned.{none_plain, one_plain, all_plain, none_keyed, ended_ok, ended_err}
+use Rattle.sqindex.proofs.UnreadPages.{scan_read}
+use Rattle.sqindex.specs.RowsKept.{IsUnreadTable}
+use Rattle.sqcheck.proofs.checks.ResultsOfCalls.{if_err}
 use Rattle.sqindex.proofs.keyed_rows.scan_keyed.Goals as goal
 
 none_of : (o : Option ℤ) → is_some o ≡ false → o ≡ None
@@ -22,7 +25,7 @@ some_of None e is = cc
 some_of (Some r) e is = cc
 
 pub returns-in-Err-clause-err : goal.returns-in-Err-clause-err
-returns-in-Err-clause-err g c = λ gives. let e = c.in-Err.ensures.err gives in (e.0, λ other rows has. e.1 other has.stored.0 has.stored.1)
+returns-in-Err-clause-err g c = λ right read other rows has. c.in-Err.ensures.err right read other has.stored.0 has.stored.1
 
 pub turns-init : goal.turns-init
 turns-init g c =
@@ -32,50 +35,50 @@ turns-init g c =
       kept = e.keeps;
       sized = e.size.0;
       limited = e.size.1;
-      over = λ gives. (e.ok gives).0;
-      seen = λ gives. ([], none_plain d c.args.table c.in-Ok.walk.cells (none_taken d c.args.table c.in-Ok.walk.cells (e.ok gives).1), none_keyed c.args.key.now, refl);
+      over = λ right. (e.ok right).0;
+      seen = λ right. ([], none_plain d c.args.table c.in-Ok.walk.cells (none_taken d c.args.table c.in-Ok.walk.cells (e.ok right).1), none_keyed c.args.key.now, refl);
     }
 
 pub returns-in-Ok-None-clause-ok : goal.returns-in-Ok-None-clause-ok
-returns-in-Ok-None-clause-ok g c = λ gives.
+returns-in-Ok-None-clause-ok g c = λ right.
     let d = g.S.PageSource.pages c.args.source.now in
     let i = c.turns.invariant in
-    let over = subst (λ (d : Database). IsOver d c.turns.walk.cells) (sym i.kept.same_pages) (i.over gives) in
-    let moves = subst (λ (f : Option Found). WalkMoves (g.S.PageSource.pages c.turns.source) c.turns.walk.cells f c.advance.new.self) c.in-Ok-None.field-0-is (c.in-Ok-None.ensures.ok (i.kept.still_gives gives) over) in
-    let seen = i.seen gives in
+    let over = subst (λ (d : Database). IsOver d c.turns.walk.cells) (sym i.kept.same_pages) (i.over right) in
+    let moves = subst (λ (f : Option Found). WalkMoves (g.S.PageSource.pages c.turns.source) c.turns.walk.cells f c.advance.new.self) c.in-Ok-None.field-0-is (c.in-Ok-None.ensures.ok (i.kept.still_right right) over) in
+    let seen = i.seen right in
     let has = all_plain d c.args.table c.turns.walk.cells c.advance.new.self seen.0 seen.1 (subst (λ (d : Database). WalkMoves d c.turns.walk.cells None c.advance.new.self) i.kept.same_pages moves) in
     ended_ok c.args.key.now d c.args.table seen.0 c.turns.scan c.end.result has seen.2 c.end.ensures
 
 pub returns-in-Ok-None-clause-err : goal.returns-in-Ok-None-clause-err
-returns-in-Ok-None-clause-err g c = λ gives.
+returns-in-Ok-None-clause-err g c = λ right.
     let d = g.S.PageSource.pages c.args.source.now in
     let i = c.turns.invariant in
-    let over = subst (λ (d : Database). IsOver d c.turns.walk.cells) (sym i.kept.same_pages) (i.over gives) in
-    let moves = subst (λ (f : Option Found). WalkMoves (g.S.PageSource.pages c.turns.source) c.turns.walk.cells f c.advance.new.self) c.in-Ok-None.field-0-is (c.in-Ok-None.ensures.ok (i.kept.still_gives gives) over) in
-    let seen = i.seen gives in
+    let over = subst (λ (d : Database). IsOver d c.turns.walk.cells) (sym i.kept.same_pages) (i.over right) in
+    let moves = subst (λ (f : Option Found). WalkMoves (g.S.PageSource.pages c.turns.source) c.turns.walk.cells f c.advance.new.self) c.in-Ok-None.field-0-is (c.in-Ok-None.ensures.ok (i.kept.still_right right) over) in
+    let seen = i.seen right in
     let has = all_plain d c.args.table c.turns.walk.cells c.advance.new.self seen.0 seen.1 (subst (λ (d : Database). WalkMoves d c.turns.walk.cells None c.advance.new.self) i.kept.same_pages moves) in
     ended_err c.args.key.now d c.args.table seen.0 c.turns.scan c.end.result has seen.2 c.end.ensures
 
 pub returns-in-Err-advance-clause-err : goal.returns-in-Err-advance-clause-err
-returns-in-Err-advance-clause-err g c = λ gives.
+returns-in-Err-advance-clause-err g c = λ right.
     let d = g.S.PageSource.pages c.args.source.now in
     let i = c.turns.invariant in
-    let over = subst (λ (d : Database). IsOver d c.turns.walk.cells) (sym i.kept.same_pages) (i.over gives) in
-    let refused = c.in-Err-advance.ensures.err (i.kept.still_gives gives) over in
+    let over = subst (λ (d : Database). IsOver d c.turns.walk.cells) (sym i.kept.same_pages) (i.over right) in
+    let refused = c.in-Err-advance.ensures.err (i.kept.still_right right) over in
     let here = subst (λ (limit : ℕ). WalkRefused d c.turns.walk.cells limit c.in-Err-advance.refusal) i.limited (subst (λ (d : Database). WalkRefused d c.turns.walk.cells c.turns.walk.limit c.in-Err-advance.refusal) i.kept.same_pages refused) in
-    let seen = i.seen gives in
+    let seen = i.seen right in
     subst (ReadRefused d c.args.table most_bytes (NoEntries d c.args.table)) (sym c.of_cell.ensures)
-    (unread d c.args.table c.turns.walk.cells most_bytes seen.0 c.in-Err-advance.refusal (NoEntries d c.args.table) (λ none rows has. none rows has.stored) seen.1.taken here (c.in-Err-advance.ensures.read (i.kept.still_gives gives)))
+    (unread d c.args.table c.turns.walk.cells most_bytes seen.0 c.in-Err-advance.refusal (NoEntries d c.args.table) (λ none rows has. none rows has.stored) seen.1.taken here)
 
 pub returns-then-is_some-clause-err : goal.returns-then-is_some-clause-err
-returns-then-is_some-clause-err g c = λ gives.
+returns-then-is_some-clause-err g c = λ right.
     let d = g.S.PageSource.pages c.args.source.now in
     let i = c.turns.invariant in
     let found = c.in-Ok-Some.found in
     let walk = c.advance.new.self in
-    let over = subst (λ (d : Database). IsOver d c.turns.walk.cells) (sym i.kept.same_pages) (i.over gives) in
-    let moves = subst (λ (f : Option Found). WalkMoves (g.S.PageSource.pages c.turns.source) c.turns.walk.cells f walk) c.in-Ok-Some.field-0-is (c.in-Ok-Some.ensures.ok (i.kept.still_gives gives) over) in
-    let seen = i.seen gives in
+    let over = subst (λ (d : Database). IsOver d c.turns.walk.cells) (sym i.kept.same_pages) (i.over right) in
+    let moves = subst (λ (f : Option Found). WalkMoves (g.S.PageSource.pages c.turns.source) c.turns.walk.cells f walk) c.in-Ok-Some.field-0-is (c.in-Ok-Some.ensures.ok (i.kept.still_right right) over) in
+    let seen = i.seen right in
     let one = one_taken d c.args.table c.turns.walk.cells walk found seen.0 seen.1.taken (subst (λ (d : Database). WalkMoves d c.turns.walk.cells (Some found) walk) i.kept.same_pages moves) in
     other_kind d c.args.table walk.cells seen.0 (stored_of found walk.payload.items) one (some_of found.rowid (sym c.is_some.ensures ∙ c.if-is_some.true))
 
@@ -96,11 +99,11 @@ turns-preserved g c =
       };
       sized = ap (λ (z : Cells). z.size) k.same.0 ∙ e.size.0 ∙ i.sized;
       limited = k.same.1 ∙ e.size.2 ∙ i.limited;
-      over = λ gives. ap (λ (z : Cells). z.usable) k.same.0 ∙ e.size.1 ∙ i.over gives;
-      seen = λ gives.
-          let over = subst (λ (d : Database). IsOver d c.turns.walk.cells) (sym i.kept.same_pages) (i.over gives) in
-          let moves = subst (λ (f : Option Found). WalkMoves (g.S.PageSource.pages c.turns.source) c.turns.walk.cells f walk) c.in-Ok-Some.field-0-is (e.ok (i.kept.still_gives gives) over) in
-          let seen = i.seen gives in
+      over = λ right. ap (λ (z : Cells). z.usable) k.same.0 ∙ e.size.1 ∙ i.over right;
+      seen = λ right.
+          let over = subst (λ (d : Database). IsOver d c.turns.walk.cells) (sym i.kept.same_pages) (i.over right) in
+          let moves = subst (λ (f : Option Found). WalkMoves (g.S.PageSource.pages c.turns.source) c.turns.walk.cells f walk) c.in-Ok-Some.field-0-is (e.ok (i.kept.still_right right) over) in
+          let seen = i.seen right in
           let rows = seen.0 in
           let x = stored_of found walk.payload.items in
           let more = one_plain d c.args.table c.turns.walk.cells walk found rows seen.1 (subst (λ (d : Database). WalkMoves d c.turns.walk.cells (Some found) walk) i.kept.same_pages moves) (none_of found.rowid (sym c.is_some.ensures ∙ c.if-is_some.false)) in
@@ -115,3 +118,14 @@ turns-preserved g c =
             (length rows, x, grow, get_here rows x [], sym k.held),
           );
     }
+
+pub returns-in-Err-clause-unread : goal.returns-in-Err-clause-unread
+returns-in-Err-clause-unread g c = c.in-Err.ensures.unread
+
+pub returns-in-Ok-None-clause-unread : goal.returns-in-Ok-None-clause-unread
+returns-in-Ok-None-clause-unread g c =
+    if_err (λ e. ¬ IsUnreadTable e) (λ e. IsUnreadTable e → ¬ g.S.PageSource.gives_pages c.args.source.now) c.end.result (λ e no is. absurd (no is)) (scan_read c.turns.scan c.end.result c.end.ensures)
+
+pub returns-in-Err-advance-clause-unread : goal.returns-in-Err-advance-clause-unread
+returns-in-Err-advance-clause-unread g c = λ is gives.
+    c.in-Err-advance.ensures.unread (unread_cell c.in-Err-advance.refusal (subst IsUnreadTree c.of_cell.ensures is)) (c.turns.invariant.kept.still_gives gives)

@@ -13,7 +13,7 @@ invariant-turns g l = record {
   sized : l.walk.cells.size ≡ g.S.PageSource.size l.fn.source;
   limited : l.walk.limit ≡ most_bytes;
   many : length l.marks.taken.items ≡ length (held_by l.entries);
-  over : g.S.PageSource.gives_pages l.fn.source → IsOver (g.S.PageSource.pages l.fn.source) l.walk.cells;
-  seen : g.S.PageSource.gives_pages l.fn.source → AreSoundBy l.key (held_by l.entries)
+  over : g.S.PageSource.reads_right l.fn.source → IsOver (g.S.PageSource.pages l.fn.source) l.walk.cells;
+  seen : g.S.PageSource.reads_right l.fn.source → AreSoundBy l.key (held_by l.entries)
       → (rows : List Stored) × AreOfKind (g.S.PageSource.pages l.fn.source) l.table l.key.without_rowid l.walk.cells rows × IsMarkedBy l.key (held_by l.entries) rows l.marks;
 }

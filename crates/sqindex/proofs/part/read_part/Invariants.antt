@@ -11,7 +11,7 @@ invariant-turns g l = record {
   kept : KeepsPages g.S.PageSource.pages g.S.PageSource.size g.S.PageSource.reads_right g.S.PageSource.gives_pages l.fn.source l.source;
   sized : l.walk.cells.size ≡ g.S.PageSource.size l.fn.source;
   limited : l.walk.limit ≡ l.fn.room.longest;
-  over : g.S.PageSource.gives_pages l.fn.source → IsOver (g.S.PageSource.pages l.fn.source) l.walk.cells;
+  over : g.S.PageSource.reads_right l.fn.source → IsOver (g.S.PageSource.pages l.fn.source) l.walk.cells;
   goes : GoesOn l.fn.part.span l.part.span;
   seen : g.S.PageSource.gives_pages l.fn.source
       → (seen : List Stored) × AreTaken (g.S.PageSource.pages l.fn.source) l.index l.walk.cells seen × AreOfSpan l.key l.part.span l.part.entries seen;

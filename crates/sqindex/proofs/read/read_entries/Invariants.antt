@@ -12,6 +12,6 @@ invariant-turns g l = record {
   sized : l.walk.cells.size ≡ g.S.PageSource.size l.fn.source;
   limited : l.walk.limit ≡ l.longest;
   left : l.left + memory_of (held_by l.entries) ≡ l.limit;
-  over : g.S.PageSource.gives_pages l.fn.source → IsOver (g.S.PageSource.pages l.fn.source) l.walk.cells;
-  taken : g.S.PageSource.gives_pages l.fn.source → AreTaken (g.S.PageSource.pages l.fn.source) l.index l.walk.cells (held_by l.entries);
+  over : g.S.PageSource.reads_right l.fn.source → IsOver (g.S.PageSource.pages l.fn.source) l.walk.cells;
+  taken : g.S.PageSource.reads_right l.fn.source → AreTaken (g.S.PageSource.pages l.fn.source) l.index l.walk.cells (held_by l.entries);
 }

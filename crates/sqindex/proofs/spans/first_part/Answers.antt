@@ -15,7 +15,7 @@ if_ok (Ok x) h k f = f x h k
 if_ok (Err e) h k f = tt
 
 pub returns-in-InStep-clause-ok : goal.returns-in-InStep-clause-ok
-returns-in-InStep-clause-ok g c = λ gives table rows xs has starts.
+returns-in-InStep-clause-ok g c = λ right table rows xs has starts.
     let d = g.S.PageSource.pages c.args.source.now in
     let key = c.args.key.now in
     let part = c.args.part in
@@ -26,7 +26,7 @@ returns-in-InStep-clause-ok g c = λ gives table rows xs has starts.
     )
 
 pub returns-in-InRange-clause-ok : goal.returns-in-InRange-clause-ok
-returns-in-InRange-clause-ok g c = λ gives table rows xs has starts.
+returns-in-InRange-clause-ok g c = λ right table rows xs has starts.
     let d = g.S.PageSource.pages c.args.source.now in
     let key = c.args.key.now in
     let part = c.args.part in
@@ -37,8 +37,8 @@ returns-in-InRange-clause-ok g c = λ gives table rows xs has starts.
     )
 
 pub returns-clause-ok : goal.returns-clause-ok
-returns-clause-ok g c = λ gives table rows xs has starts.
-    if_ok c.read_part.result (c.read_part.ensures.ok gives) c.read_part.ensures.span
+returns-clause-ok g c = λ right table rows xs has starts.
+    if_ok c.read_part.result (c.read_part.ensures.ok right) c.read_part.ensures.span
     (λ part is goes. (
       is,
       goes.1 (λ b ends. ap (λ (a : Option ℤ). passed a b) c.all-span.ensures.0),

@@ -16,6 +16,6 @@ begun_anew d table old (Ok rows) is refused = is
 begun_anew d table old (Err e) is refused = refused
 
 pub returns-in-Lost-clause-are : goal.returns-in-Lost-clause-are
-returns-in-Lost-clause-are g c = λ gives.
+returns-in-Lost-clause-are g c = λ right.
     let d = g.S.PageSource.pages c.args.source.now in
-    subst (λ (s : Stage). AreFirstRows d c.args.table s c.args.rows c.begin.result) (sym c.in-Lost.is) (begun_anew d c.args.table c.args.rows c.begin.result (c.begin.ensures.ok gives) (c.begin.ensures.err gives))
+    subst (λ (s : Stage). AreFirstRows d c.args.table s c.args.rows c.begin.result) (sym c.in-Lost.is) (begun_anew d c.args.table c.args.rows c.begin.result (c.begin.ensures.ok right) (c.begin.ensures.err right))

@@ -17,7 +17,7 @@ use Rattle.sqindex.specs.declared.stream.Start.{Start}
 use Rattle.sqindex.specs.declared.walk.Found.{Found}
 use Rattle.sqindex.specs.Stored.{Stored}
 use Rattle.sqindex.specs.Rules.{HasEntries}
-use Rattle.sqindex.specs.Indexes.{ReadRefused, NoEntries}
+use Rattle.sqindex.specs.Indexes.{ReadRefused, NoEntries, IsUnreadTree, IsUnreadIndex}
 use Rattle.sqindex.specs.internal.Reading.{stored_of, WalkMoves, WalkRefused}
 use Rattle.sqindex.specs.internal.KeyedScanning.{ArePlain}
 use Rattle.sqindex.specs.internal.RowsGiven.{IsCursor}
@@ -26,12 +26,14 @@ use Rattle.sqindex.specs.internal.Stepping.{IsStartOf, StartsIndex}
 use Rattle.sqindex.specs.internal.Ends.{HasEnds}
 use Rattle.sqindex.specs.declared.fields.Ends.{Ends}
 use Rattle.sqindex.specs.internal.Streaming.{IsEnded, IsStream, StreamEnds, StreamRefused}
-use Rattle.sqindex.proofs.CellsTaken.{none_taken, one_taken, unread}
+use Rattle.sqindex.proofs.CellsTaken.{none_taken, one_taken, unread, unread_cell}
 use Rattle.sqindex.proofs.EntriesRead.{stored_plain, other_kind}
 use Rattle.sqindex.proofs.EntriesStreamed.{none_streamed, none_before, held_before}
 use Rattle.sqindex.proofs.RowsInStep.{none_in_step}
 use Rattle.sqindex.proofs.Places.{get_here}
 use Rattle.sqindex.proofs.KeyedScanned.{none_plain, one_plain, all_plain}
+use Rattle.sqindex.proofs.UnreadPages.{stream_read}
+use Rattle.sqcheck.proofs.checks.ResultsOfCalls.{if_err}
 use Rattle.sqindex.proofs.stream.order_index.Goals as goal
 
 none_of : (o : Option ℤ) → is_some o ≡ false → o ≡ None
@@ -72,7 +74,7 @@ ended_err d index key limit xs fault old many (Ok count) has w h = tt
 ended_err d index key limit xs fault old many (Err e) has w h = subst (StreamRefused d index key limit) (sym h.2) (xs, has, subst (IsStream key xs) h.1 w)
 
 pub returns-in-Err-clause-err : goal.returns-in-Err-clause-err
-returns-in-Err-clause-err g c = λ gives. let e = c.in-Err.ensures.err gives in (e.0, λ other rows has. e.1 other has.stored.0 has.stored.1)
+returns-in-Err-clause-err g c = λ right read other rows has. c.in-Err.ensures.err right read other has.stored.0 has.stored.1
 
 pub turns-init : goal.turns-init
 turns-init g c =
@@ -84,10 +86,10 @@ turns-init g c =
       limited = e.size.1;
       roomy = c.of-room.ensures;
       beside = sym c.requires.sized;
-      over = λ gives. (e.ok gives).0;
-      seen = λ gives. (
+      over = λ right. (e.ok right).0;
+      seen = λ right. (
         [],
-        none_plain d c.args.index c.in-Ok.walk.cells (none_taken d c.args.index c.in-Ok.walk.cells (e.ok gives).1),
+        none_plain d c.args.index c.in-Ok.walk.cells (none_taken d c.args.index c.in-Ok.walk.cells (e.ok right).1),
         none_streamed c.args.key.now,
         none_before c.none-last.result c.none-last.ensures,
         refl,
@@ -96,12 +98,12 @@ turns-init g c =
     }
 
 pub returns-in-Ok-None-clause-ok : goal.returns-in-Ok-None-clause-ok
-returns-in-Ok-None-clause-ok g c = λ gives table cursor.
+returns-in-Ok-None-clause-ok g c = λ right table cursor.
     let d = g.S.PageSource.pages c.args.source.now in
     let i = c.turns.invariant in
-    let over = subst (λ (d : Database). IsOver d c.turns.walk.cells) (sym i.kept.same_pages) (i.over gives) in
-    let moves = subst (λ (f : Option Found). WalkMoves (g.S.PageSource.pages c.turns.source) c.turns.walk.cells f c.advance.new.self) c.in-Ok-None.field-0-is (c.in-Ok-None.ensures.ok (i.kept.still_gives gives) over) in
-    let seen = i.seen gives in
+    let over = subst (λ (d : Database). IsOver d c.turns.walk.cells) (sym i.kept.same_pages) (i.over right) in
+    let moves = subst (λ (f : Option Found). WalkMoves (g.S.PageSource.pages c.turns.source) c.turns.walk.cells f c.advance.new.self) c.in-Ok-None.field-0-is (c.in-Ok-None.ensures.ok (i.kept.still_right right) over) in
+    let seen = i.seen right in
     let has = all_plain d c.args.index c.turns.walk.cells c.advance.new.self seen.0 seen.1 (subst (λ (d : Database). WalkMoves d c.turns.walk.cells None c.advance.new.self) i.kept.same_pages moves) in
     ended_ok d table c.args.index c.args.key.now seen.0 c.turns.fault c.turns.start c.turns.i c.end.result has seen.2 seen.4 (seen.5 table cursor) c.end.ensures
 
@@ -110,35 +112,35 @@ returns-in-Ok-None-clause-room g c =
     ended_room c.args.limit (g.S.PageSource.size c.args.source.now) c.turns.fault c.turns.start c.turns.i c.end.result c.turns.invariant.roomy c.turns.invariant.beside c.end.ensures
 
 pub returns-in-Ok-None-clause-err : goal.returns-in-Ok-None-clause-err
-returns-in-Ok-None-clause-err g c = λ gives.
+returns-in-Ok-None-clause-err g c = λ right.
     let d = g.S.PageSource.pages c.args.source.now in
     let i = c.turns.invariant in
-    let over = subst (λ (d : Database). IsOver d c.turns.walk.cells) (sym i.kept.same_pages) (i.over gives) in
-    let moves = subst (λ (f : Option Found). WalkMoves (g.S.PageSource.pages c.turns.source) c.turns.walk.cells f c.advance.new.self) c.in-Ok-None.field-0-is (c.in-Ok-None.ensures.ok (i.kept.still_gives gives) over) in
-    let seen = i.seen gives in
+    let over = subst (λ (d : Database). IsOver d c.turns.walk.cells) (sym i.kept.same_pages) (i.over right) in
+    let moves = subst (λ (f : Option Found). WalkMoves (g.S.PageSource.pages c.turns.source) c.turns.walk.cells f c.advance.new.self) c.in-Ok-None.field-0-is (c.in-Ok-None.ensures.ok (i.kept.still_right right) over) in
+    let seen = i.seen right in
     let has = all_plain d c.args.index c.turns.walk.cells c.advance.new.self seen.0 seen.1 (subst (λ (d : Database). WalkMoves d c.turns.walk.cells None c.advance.new.self) i.kept.same_pages moves) in
     ended_err d c.args.index c.args.key.now c.args.limit seen.0 c.turns.fault c.turns.start c.turns.i c.end.result has seen.2 c.end.ensures
 
 pub returns-in-Err-advance-clause-err : goal.returns-in-Err-advance-clause-err
-returns-in-Err-advance-clause-err g c = λ gives.
+returns-in-Err-advance-clause-err g c = λ right.
     let d = g.S.PageSource.pages c.args.source.now in
     let i = c.turns.invariant in
-    let over = subst (λ (d : Database). IsOver d c.turns.walk.cells) (sym i.kept.same_pages) (i.over gives) in
-    let refused = c.in-Err-advance.ensures.err (i.kept.still_gives gives) over in
+    let over = subst (λ (d : Database). IsOver d c.turns.walk.cells) (sym i.kept.same_pages) (i.over right) in
+    let refused = c.in-Err-advance.ensures.err (i.kept.still_right right) over in
     let here = subst (λ (limit : ℕ). WalkRefused d c.turns.walk.cells limit c.in-Err-advance.refusal) i.limited (subst (λ (d : Database). WalkRefused d c.turns.walk.cells c.turns.walk.limit c.in-Err-advance.refusal) i.kept.same_pages refused) in
-    let seen = i.seen gives in
+    let seen = i.seen right in
     subst (ReadRefused d c.args.index c.args.limit (NoEntries d c.args.index)) (sym c.of_cell.ensures)
-    (unread d c.args.index c.turns.walk.cells c.args.limit seen.0 c.in-Err-advance.refusal (NoEntries d c.args.index) (λ none entries has. none entries has.stored) seen.1.taken here (c.in-Err-advance.ensures.read (i.kept.still_gives gives)))
+    (unread d c.args.index c.turns.walk.cells c.args.limit seen.0 c.in-Err-advance.refusal (NoEntries d c.args.index) (λ none entries has. none entries has.stored) seen.1.taken here)
 
 pub returns-then-is_some-clause-err : goal.returns-then-is_some-clause-err
-returns-then-is_some-clause-err g c = λ gives.
+returns-then-is_some-clause-err g c = λ right.
     let d = g.S.PageSource.pages c.args.source.now in
     let i = c.turns.invariant in
     let found = c.in-Ok-Some.found in
     let walk = c.advance.new.self in
-    let over = subst (λ (d : Database). IsOver d c.turns.walk.cells) (sym i.kept.same_pages) (i.over gives) in
-    let moves = subst (λ (f : Option Found). WalkMoves (g.S.PageSource.pages c.turns.source) c.turns.walk.cells f walk) c.in-Ok-Some.field-0-is (c.in-Ok-Some.ensures.ok (i.kept.still_gives gives) over) in
-    let seen = i.seen gives in
+    let over = subst (λ (d : Database). IsOver d c.turns.walk.cells) (sym i.kept.same_pages) (i.over right) in
+    let moves = subst (λ (f : Option Found). WalkMoves (g.S.PageSource.pages c.turns.source) c.turns.walk.cells f walk) c.in-Ok-Some.field-0-is (c.in-Ok-Some.ensures.ok (i.kept.still_right right) over) in
+    let seen = i.seen right in
     let one = one_taken d c.args.index c.turns.walk.cells walk found seen.0 seen.1.taken (subst (λ (d : Database). WalkMoves d c.turns.walk.cells (Some found) walk) i.kept.same_pages moves) in
     other_kind d c.args.index walk.cells seen.0 (stored_of found walk.payload.items) one (some_of found.rowid (sym c.is_some.ensures ∙ c.if-is_some.true))
 
@@ -183,11 +185,11 @@ turns-preserved g c =
       limited = k.same.1 ∙ e.size.2 ∙ i.limited;
       roomy = ap (λ (r : Room). r.longest) t.room ∙ i.roomy;
       beside = t.size ∙ i.beside;
-      over = λ gives. ap (λ (z : Cells). z.usable) k.same.0 ∙ e.size.1 ∙ i.over gives;
-      seen = λ gives.
-          let over = subst (λ (d : Database). IsOver d c.turns.walk.cells) (sym i.kept.same_pages) (i.over gives) in
-          let moves = subst (λ (f : Option Found). WalkMoves (g.S.PageSource.pages c.turns.source) c.turns.walk.cells f walk) c.in-Ok-Some.field-0-is (e.ok (i.kept.still_gives gives) over) in
-          let seen = i.seen gives in
+      over = λ right. ap (λ (z : Cells). z.usable) k.same.0 ∙ e.size.1 ∙ i.over right;
+      seen = λ right.
+          let over = subst (λ (d : Database). IsOver d c.turns.walk.cells) (sym i.kept.same_pages) (i.over right) in
+          let moves = subst (λ (f : Option Found). WalkMoves (g.S.PageSource.pages c.turns.source) c.turns.walk.cells f walk) c.in-Ok-Some.field-0-is (e.ok (i.kept.still_right right) over) in
+          let seen = i.seen right in
           let xs = seen.0 in
           let x = stored_of found walk.payload.items in
           let more = one_plain d c.args.index c.turns.walk.cells walk found xs seen.1 (subst (λ (d : Database). WalkMoves d c.turns.walk.cells (Some found) walk) i.kept.same_pages moves) (none_of found.rowid (sym c.is_some.ensures ∙ c.if-is_some.false)) in
@@ -199,7 +201,7 @@ turns-preserved g c =
           let starts : (table : ℕ) → IsCursor d table c.args.rows [] → IsStartOf d table c.args.key.now new.stage new.part new.rows (xs ++ x ∷ []) = λ table cursor.
           let old = c.turns.start in
           let was = subst (λ (d : Database). IsStartOf d table c.args.key.now old.stage old.part old.rows xs) (sym pages) (seen.5 table cursor) in
-          let now = subst (λ (d : Database). IsStartOf d table c.args.key.now new.stage new.part new.rows (xs ++ plain found c.deref-in-turns-2.result.now ∷ [])) pages (t.starts (e.keeps.still_gives (i.kept.still_gives gives)) table xs was) in
+          let now = subst (λ (d : Database). IsStartOf d table c.args.key.now new.stage new.part new.rows (xs ++ plain found c.deref-in-turns-2.result.now ∷ [])) pages (t.starts (e.keeps.still_right (i.kept.still_right right)) table xs was) in
           subst (λ (z : Stored). IsStartOf d table c.args.key.now new.stage new.part new.rows (xs ++ z ∷ [])) (sym plain')
           (subst (λ (b : List ℕ). IsStartOf d table c.args.key.now new.stage new.part new.rows (xs ++ plain found b ∷ [])) same' now) in
           let streamed = c.see-fault.ensures xs seen.3 seen.2 in
@@ -213,3 +215,14 @@ turns-preserved g c =
             starts,
           );
     }
+
+pub returns-in-Err-clause-unread : goal.returns-in-Err-clause-unread
+returns-in-Err-clause-unread g c = c.in-Err.ensures.unread
+
+pub returns-in-Err-advance-clause-unread : goal.returns-in-Err-advance-clause-unread
+returns-in-Err-advance-clause-unread g c = λ is gives.
+    c.in-Err-advance.ensures.unread (unread_cell c.in-Err-advance.refusal (subst IsUnreadTree c.of_cell.ensures is)) (c.turns.invariant.kept.still_gives gives)
+
+pub returns-in-Ok-None-clause-unread : goal.returns-in-Ok-None-clause-unread
+returns-in-Ok-None-clause-unread g c =
+    if_err (λ e. ¬ IsUnreadIndex e) (λ e. IsUnreadIndex e → ¬ g.S.PageSource.gives_pages c.args.source.now) c.end.result (λ e no is. absurd (no is)) (stream_read c.turns.fault c.turns.start c.turns.i c.end.result c.end.ensures)

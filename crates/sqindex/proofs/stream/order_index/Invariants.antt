@@ -15,7 +15,7 @@ invariant-turns g l = record {
   limited : l.walk.limit ≡ l.limit;
   roomy : l.start.room.longest ≡ l.limit;
   beside : l.start.rows.walk.cells.size ≡ g.S.PageSource.size l.fn.source;
-  over : g.S.PageSource.gives_pages l.fn.source → IsOver (g.S.PageSource.pages l.fn.source) l.walk.cells;
+  over : g.S.PageSource.reads_right l.fn.source → IsOver (g.S.PageSource.pages l.fn.source) l.walk.cells;
   seen : g.S.PageSource.gives_pages l.fn.source
       → (xs : List Stored) × ArePlain (g.S.PageSource.pages l.fn.source) l.index l.walk.cells xs × IsStream l.key xs l.fault × IsBefore xs (before_of l.last) × (length xs ≡ l.i)
       × ((table : ℕ) → IsCursor (g.S.PageSource.pages l.fn.source) table l.fn.rows [] → IsStartOf (g.S.PageSource.pages l.fn.source) table l.key l.start.stage l.start.part l.start.rows xs);

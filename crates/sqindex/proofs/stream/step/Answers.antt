@@ -11,18 +11,18 @@ use Rattle.sqindex.proofs.RowsGiven.{given_ahead}
 use Rattle.sqindex.proofs.stream.step.Goals as goal
 
 pub returns-in-Ok-None-clause-goes : goal.returns-in-Ok-None-clause-goes
-returns-in-Ok-None-clause-goes g c = λ gives table given w. (c.in-Ok-None.ensures.ok gives table given w).1
+returns-in-Ok-None-clause-goes g c = λ right table given w. (c.in-Ok-None.ensures.ok right table given w).1
 
 pub returns-then-not-is_of-clause-goes : goal.returns-then-not-is_of-clause-goes
-returns-then-not-is_of-clause-goes g c = λ gives table given w. (c.in-Ok-Some.ensures.ok gives table given w).1
+returns-then-not-is_of-clause-goes g c = λ right table given w. (c.in-Ok-Some.ensures.ok right table given w).1
 
 pub returns-clause-goes : goal.returns-clause-goes
-returns-clause-goes g c = λ gives table given w.
+returns-clause-goes g c = λ right table given w.
     let d = g.S.PageSource.pages c.args.source.now in
     let found = c.in-Ok-Some.found in
     let rows = c.look.new.self in
     let x = stored_of found rows.walk.payload.items in
-    let at = c.in-Ok-Some.ensures.ok gives table given w in
+    let at = c.in-Ok-Some.ensures.ok right table given w in
     let ahead = subst (λ (f : Option Found). LooksAt f rows.ahead) c.in-Ok-Some.field-0-is at.0 in
     let gave = given_ahead d table rows given at.1 found ahead in
     let its = c.is_of.ensures c.if-not-is_of.false in

@@ -12,7 +12,7 @@ invariant-turns g l = record {
   kept : KeepsPages g.S.PageSource.pages g.S.PageSource.size g.S.PageSource.reads_right g.S.PageSource.gives_pages l.fn.source l.source;
   sized : l.walk.cells.size ≡ g.S.PageSource.size l.fn.source;
   limited : l.walk.limit ≡ most_bytes;
-  over : g.S.PageSource.gives_pages l.fn.source → IsOver (g.S.PageSource.pages l.fn.source) l.walk.cells;
+  over : g.S.PageSource.reads_right l.fn.source → IsOver (g.S.PageSource.pages l.fn.source) l.walk.cells;
   seen : g.S.PageSource.gives_pages l.fn.source
       → (rows : List Stored) × AreSeen (g.S.PageSource.pages l.fn.source) l.table l.walk.cells l.last rows × IsScanned l.rules rows l.scan;
 }

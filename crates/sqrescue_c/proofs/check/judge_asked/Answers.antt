@@ -3,6 +3,7 @@ use Rattle.sqview.specs.LogView.{pages_of}
 use Rattle.sqpast.specs.declared.past_error.PastError.TheVariants.{CommitOverwritten}
 use Rattle.sqrescue_c.specs.Checks.{IsAskedVerdict, AreAskedUnjudged}
 use Rattle.sqrescue_c.proofs.ReportedFindings.{asked, unjudged, without, unjudged_without, carried, refusal}
+use Rattle.sqview.proofs.judgments.VerdictOnFiles.{given}
 use Rattle.sqrescue_c.proofs.check.judge_asked.Goals as goal
 
 pub returns-in-Ok : goal.returns-in-Ok
@@ -17,7 +18,7 @@ returns-in-Ok c =
       refused = refusal c.judge_view_with.result (AreAskedUnjudged c.args.flags c.args.frame files.db.now files.wal.now files.journal.now)
           c.with_status.result c.with_status.ensures.err
           (unjudged c.args.flags c.args.frame files.db.now files.wal.now files.journal.now view.page_size (pages_of (λ file. file.now) view)
-          c.in-Ok.ensures.shown c.judge_view_with.result (rw c.options_of.ensures at (c.judge_view_with.ensures.refused (tt, tt))));
+          c.in-Ok.ensures.shown c.judge_view_with.result (rw c.options_of.ensures at (given c.judge_view_with.result (tt, tt) (c.judge_view_with.ensures.refused (tt, tt)))));
     }
 
 pub returns-in-Err-Refused : goal.returns-in-Err-Refused

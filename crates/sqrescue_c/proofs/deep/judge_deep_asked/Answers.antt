@@ -2,6 +2,7 @@ use Rattle.std.specs.Prelude.{true}
 use Rattle.std.proofs.Common.{refl, arith}
 use Rattle.sqview.specs.LogView.{pages_of}
 use Rattle.sqpast.specs.declared.past_error.PastError.TheVariants.{CommitOverwritten}
+use Rattle.sqview.proofs.judgments.VerdictOnFiles.{given}
 use Rattle.sqdeepjudge.proofs.SchemaFindings.{both_parts}
 use Rattle.sqrescue_c.specs.Deeps.{IsAskedDeep, AreDeepUnjudged}
 use Rattle.sqrescue_c.proofs.DeepFindings.{asked, counted_asked, cut_asked, unjudged, without, unjudged_without}
@@ -26,7 +27,7 @@ returns-in-Ok c =
       refused = refusal c.judge_deep.result (AreDeepUnjudged c.args.flags c.args.frame files.db.now files.wal.now files.journal.now)
           c.with_status.result c.with_status.ensures.err
           (unjudged c.args.flags c.args.frame files.db.now files.wal.now files.journal.now view.page_size d
-          c.in-Ok.ensures.shown c.judge_deep.result (c.judge_deep.ensures.refused (tt, tt)));
+          c.in-Ok.ensures.shown c.judge_deep.result (given c.judge_deep.result (tt, tt) (c.judge_deep.ensures.refused (tt, tt))));
     }
 
 pub returns-in-Err-Refused : goal.returns-in-Err-Refused

@@ -1,6 +1,6 @@
 use Rattle.std.proofs.Common.{false}
 use Rattle.sqview.specs.declared.view.View.{View}
-use Rattle.sqview.proofs.judgments.VerdictOnFiles.{is_read, of_files_at, unjudged_files_at, found_without_at, unjudged_without_at}
+use Rattle.sqview.proofs.judgments.VerdictOnFiles.{failed, is_read, of_files_at, unjudged_files_at, found_without_at, unjudged_without_at}
 use Rattle.sqview.proofs.verdict.judge_files_at.Goals as goal
 
 pub returns-in-Ok : goal.returns-in-Ok
@@ -9,8 +9,9 @@ returns-in-Ok g c =
     record {
       found = λ right.
           of_files_at c.args.limits bytes (bytes c.args.db) (bytes c.args.wal) (bytes c.args.journal) c.in-Ok.view false c.args.frame c.judge_view.result (c.in-Ok.ensures.right right tt) (c.judge_view.ensures.found (c.in-Ok.ensures.still_right right));
-      refused = λ gives.
-          unjudged_files_at c.args.limits bytes (bytes c.args.db) (bytes c.args.wal) (bytes c.args.journal) c.in-Ok.view c.args.frame c.judge_view.result (c.in-Ok.ensures.answer gives) (c.judge_view.ensures.refused (c.in-Ok.ensures.still_gives gives));
+      refused = λ right.
+          failed c.judge_view.result (λ gives. c.in-Ok.ensures.still_gives gives)
+          (unjudged_files_at c.args.limits bytes (bytes c.args.db) (bytes c.args.wal) (bytes c.args.journal) c.in-Ok.view c.args.frame (c.in-Ok.ensures.right right tt)) (c.judge_view.ensures.refused (c.in-Ok.ensures.still_right right));
     }
 
 pub returns-in-Err : goal.returns-in-Err
@@ -19,6 +20,6 @@ returns-in-Err g c =
     record {
       found = λ right. rw c.without_view.ensures
           (found_without_at c.args.limits (bytes c.args.db) (bytes c.args.wal) (bytes c.args.journal) c.args.frame c.in-Err.error (λ other. c.in-Err.ensures.right right (is_read (View g.row.F.Denot) c.in-Err.error other)));
-      refused = λ gives. rw c.without_view.ensures
-          (unjudged_without_at c.args.limits (bytes c.args.db) (bytes c.args.wal) (bytes c.args.journal) c.args.frame c.in-Err.error (c.in-Err.ensures.answer gives));
+      refused = λ right. rw c.without_view.ensures
+          (unjudged_without_at c.args.limits (bytes c.args.db) (bytes c.args.wal) (bytes c.args.journal) c.args.frame c.in-Err.error (λ gives. c.in-Err.ensures.answer gives) (λ other. c.in-Err.ensures.right right (is_read (View g.row.F.Denot) c.in-Err.error other)));
     }

@@ -4,13 +4,13 @@ use Rattle.sqdiff.specs.declared.side.Side.{Side}
 use Rattle.sqdiff.specs.declared.diff.Kind.TheVariants.{Changed}
 use Rattle.sqdiff.specs.declared.turn.Turn.TheVariants.{Same, Told}
 use Rattle.sqdiff.specs.internal.Turns.{Turns}
-use Rattle.sqdiff.proofs.RefusalsOfRows.{no_record_of_both}
+use Rattle.sqdiff.proofs.RefusalsOfRows.{no_record_of_both, read_rows}
 use Rattle.sqdiff.proofs.TurnsOfWalk.{passed, takes_same, takes_changed}
 use Rattle.sqdiff.proofs.diff.Diff.take_both.Goals as goal
 
 pub returns-in-Err-clause-err : goal.returns-in-Err-clause-err
 returns-in-Err-clause-err c = λ d e standing.
-    no_record_of_both d e c.args.self.now c.args.id c.in-Err.refusal c.requires.at.0 c.requires.at.1 c.in-Err.ensures.err
+    read_rows c.args.self.now c.in-Err.refusal c.in-Err.ensures.err (no_record_of_both d e c.args.self.now c.args.id c.in-Err.refusal c.requires.at.0 c.requires.at.1 c.in-Err.ensures.err)
 
 pub returns-then-alike-clause-ok : goal.returns-then-alike-clause-ok
 returns-then-alike-clause-ok c = λ d e standing.

@@ -5,9 +5,9 @@ use Rattle.sqrows.proofs.moves.WayBack.{moved_from}
 use Rattle.sqrows.proofs.cells.Cells.advance.Goals as goal
 
 pub returns-in-Ok-Some-clause-ok : goal.returns-in-Ok-Some-clause-ok
-returns-in-Ok-Some-clause-ok g c = λ gives over xs.
+returns-in-Ok-Some-clause-ok g c = λ right over xs.
     let found = rw c.in-Ok-Some.field-0-is at c.in-Ok-Some.ensures.found in
-    let keeps = rw c.in-Ok-Some.field-0-is at (c.in-Ok-Some.ensures.ok gives over) in
+    let keeps = rw c.in-Ok-Some.field-0-is at (c.in-Ok-Some.ensures.ok right over) in
     let d = g.S.PageSource.pages c.args.source.now in
     let index : c.seek.new.self.top.index + 1 ≡ suc c.seek.new.self.top.index = omega arith in (
       λ left. moves d c.seek.new.self _ c.in-Ok-Some.i found.0 found.1 refl index refl refl refl refl refl xs ((keeps xs).0 left),
@@ -19,5 +19,5 @@ returns-in-Ok-Some-clause-own g c = λ _.
     let found = rw c.in-Ok-Some.field-0-is at c.in-Ok-Some.ensures.found in own_kind c.seek.new.self.top.kind c.seek.new.self.top.index c.in-Ok-Some.i found.1
 
 pub returns-in-Ok-None-clause-ok : goal.returns-in-Ok-None-clause-ok
-returns-in-Ok-None-clause-ok g c = λ gives over xs.
-    let none = rw c.in-Ok-None.field-0-is at (c.in-Ok-None.ensures.ok gives over) in none xs
+returns-in-Ok-None-clause-ok g c = λ right over xs.
+    let none = rw c.in-Ok-None.field-0-is at (c.in-Ok-None.ensures.ok right over) in none xs

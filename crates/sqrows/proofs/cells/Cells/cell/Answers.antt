@@ -13,4 +13,4 @@ returns-in-Some-clause-ok c = (
 )
 
 pub returns-in-None-clause-err : goal.returns-in-None-clause-err
-returns-in-None-clause-err c = (refl, λ e at. c.in-None.ensures.cell at.cell at.is)
+returns-in-None-clause-err c = (refl, λ e at. c.in-None.ensures.cell at.cell at.is, refl)

@@ -9,7 +9,7 @@ invariant-steps g l = record {
   kept : KeepsPages g.S.PageSource.pages g.S.PageSource.size g.S.PageSource.reads_right g.S.PageSource.gives_pages l.fn.source l.source;
   size : l.self.size ≡ l.fn.self.size;
   usable : l.self.usable ≡ l.fn.self.usable;
-  left : g.S.PageSource.gives_pages l.fn.source → IsOver (g.S.PageSource.pages l.fn.source) l.fn.self → KeepsLeft (g.S.PageSource.pages l.fn.source) l.fn.self l.self;
+  left : g.S.PageSource.reads_right l.fn.source → IsOver (g.S.PageSource.pages l.fn.source) l.fn.self → KeepsLeft (g.S.PageSource.pages l.fn.source) l.fn.self l.self;
 }
 
 abbrev pub decreases-steps : goal.decreases-steps
