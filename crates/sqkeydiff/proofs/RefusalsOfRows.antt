@@ -6,6 +6,8 @@ use Rattle.sqval.specs.declared.error.RecordError.{RecordError}
 use Rattle.sqval.specs.declared.error.RecordError.TheVariants as records
 use Rattle.sqval.proofs.payload.UniquenessOfReading.{refused_not}
 use Rattle.sqpage.specs.Lists.{In}
+use Rattle.sqpage.specs.declared.fault.Fault.TheVariants as faults
+use Rattle.sqrows.specs.Payloads.{Unless}
 use Rattle.sqrows.specs.declared.payload.PayloadError.TheVariants.{TooLong, Chain}
 use Rattle.sqrows.specs.declared.rows.Rows.{Rows}
 use Rattle.sqrows.specs.declared.rows.RowsError.{RowsError}
@@ -18,6 +20,7 @@ use Rattle.sqdiff.specs.declared.error.SideError.{SideError}
 use Rattle.sqdiff.specs.declared.error.SideError.TheVariants.{Rows as Unread, Record, Unordered}
 use Rattle.sqdiff.specs.declared.error.DiffError.{DiffError}
 use Rattle.sqdiff.specs.declared.error.DiffError.TheVariants.{Old, New}
+use Rattle.sqdiff.specs.DiffCursor.{IsUnreadSide, UnlessDiff}
 use Rattle.sqkeydiff.specs.declared.key.KeyOrder.{KeyOrder}
 use Rattle.sqkeydiff.specs.declared.side.Place.{Place}
 use Rattle.sqkeydiff.specs.declared.side.Place.TheVariants.{Between, At, End}
@@ -108,3 +111,19 @@ no_record_of_both d e diff k l (Old (Unread error)) is too refused = absurd refu
 no_record_of_both d e diff k l (New (Unread error)) is too refused = absurd refused
 no_record_of_both d e diff k l (Old Unordered) is too refused = absurd refused
 no_record_of_both d e diff k l (New Unordered) is too refused = absurd refused
+
+-- ---- Where a page couldn't be read.
+
+pub read_key : {P g : Type 0} (cursor : Rows) (error : SideError) → IsNoKey cursor error → P → Unless (IsUnreadSide error) g P
+read_key cursor (Record error) no cause = (λ none. absurd none, λ _. cause)
+read_key cursor (Unread (Tree e)) no cause = (λ unread. (let both : faults.NoMemory ≡ faults.Source = sym no ∙ unread in cc), λ _. cause)
+read_key cursor (Unread (Payload e)) no cause = absurd no
+read_key cursor Unordered no cause = absurd no
+
+pub read_rows : {P : Type 0} (diff : KeyDiff) (error : DiffError) → IsNoRecord diff error → P → UnlessDiff (Unit {0}) (Unit {0}) error P
+read_rows diff (Old (Record error)) no cause = (λ none. absurd none, λ _. cause)
+read_rows diff (New (Record error)) no cause = (λ none. absurd none, λ _. cause)
+read_rows diff (Old (Unread error)) no cause = absurd no
+read_rows diff (New (Unread error)) no cause = absurd no
+read_rows diff (Old Unordered) no cause = absurd no
+read_rows diff (New Unordered) no cause = absurd no

@@ -117,12 +117,14 @@ next_turn d d' e e' old mid new t p q first then =
     let standing = subst (λ (x : Database). AreStanding d' x mid) (sym q) (subst (λ (x : Database). AreStanding x e mid) (sym p) first.standing) in
     then_turn d e old mid new t first (subst (λ (x : Database). Turns d x mid new t) q (subst (λ (x : Database). Turns x e' mid new t) p (then standing)))
 
+pub next_standing : (d d' e e' : Database) (old mid : KeyDiff) → d' ≡ d → e' ≡ e → Turns d e old mid Same → AreStanding d' e' mid
+next_standing d d' e e' old mid p q first = subst (λ (x : Database). AreStanding d' x mid) (sym q) (subst (λ (x : Database). AreStanding x e mid) (sym p) first.standing)
+
 pub next_refused : (d d' e e' : Database) (old mid : KeyDiff) (error : DiffError) → d' ≡ d → e' ≡ e → Turns d e old mid Same
     → mid.old_side.rows.limit ≡ old.old_side.rows.limit → mid.new_side.rows.limit ≡ old.new_side.rows.limit
-    → (AreStanding d' e' mid → KeyDiffRefused d' e' mid error) → KeyDiffRefused d e old error
+    → KeyDiffRefused d' e' mid error → KeyDiffRefused d e old error
 next_refused d d' e e' old mid error p q first same and refused =
-    let standing = subst (λ (x : Database). AreStanding d' x mid) (sym q) (subst (λ (x : Database). AreStanding x e mid) (sym p) first.standing) in
-    let told = subst (λ (x : Database). KeyDiffRefused d x mid error) q (subst (λ (x : Database). KeyDiffRefused x e' mid error) p (refused standing)) in
+    let told = subst (λ (x : Database). KeyDiffRefused d x mid error) q (subst (λ (x : Database). KeyDiffRefused x e' mid error) p refused) in
     diff_refused_before d e old mid error first.same first.old_passes first.new_passes same and told
 
 -- A side before its first row.

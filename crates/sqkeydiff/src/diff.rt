@@ -5,7 +5,7 @@ ghost use Rattle.sqpage.specs.Source.{KeepsPages};
 ghost use Rattle.sqrows.specs.Rows.{Row as SpecRow};
 ghost use Rattle.sqrows.specs.RowCursor.{IsAtRow};
 ghost use Rattle.sqdiff.specs.Changes.{Change};
-ghost use Rattle.sqdiff.specs.DiffCursor.{AreNotBegun};
+ghost use Rattle.sqdiff.specs.DiffCursor.{AreNotBegun, UnlessDiff};
 ghost use Rattle.sqkeydiff.specs.KeyChanges.{HasKeyChanges};
 ghost use Rattle.sqkeydiff.specs.KeyCursor.{AreStanding, KeyChangesLeft, KeyChangesMove, KeyDiffRefused};
 
@@ -41,13 +41,14 @@ impl KeyDiff {
         limit: u64,
     ) -> Result<KeyDiff, DiffError>
         // What is left are the changes between the tables.
-        ensures ok { S.gives_pages old_source.old → T.gives_pages new_source.old → IfOk result (λ diff.
+        ensures ok { S.reads_right old_source.old → T.reads_right new_source.old → IfOk result (λ diff.
             AreStanding (S.pages old_source.old) (T.pages new_source.old) diff × ((cs : List Change)
             → HasKeyChanges key (S.pages old_source.old) roots.0 (T.pages new_source.old) roots.1 cs
             ↔ KeyChangesLeft (S.pages old_source.old) (T.pages new_source.old) diff cs)) }
-        // One of them has no rows, unless memory ran out.
-        ensures err { S.gives_pages old_source.old → T.gives_pages new_source.old → IfErr result
-            (AreNotBegun (S.pages old_source.old) roots.0 (T.pages new_source.old) roots.1) }
+        // One of them has no rows, unless a page couldn't be read or memory ran out.
+        ensures err { S.reads_right old_source.old → T.reads_right new_source.old → IfErr result
+            (λ e. UnlessDiff (S.gives_pages old_source.old) (T.gives_pages new_source.old) e
+            (AreNotBegun (S.pages old_source.old) roots.0 (T.pages new_source.old) roots.1 e)) }
         ensures size { IfOk result (λ diff. (diff.old_side.rows.cells.size ≡ S.size old_source.old)
             × (diff.new_side.rows.cells.size ≡ T.size new_source.old)) }
         ensures same { IfOk result (λ diff. (diff.key ≡ key) × (diff.old_side.rows.limit ≡ limit)
@@ -84,14 +85,15 @@ impl KeyDiff {
             × (T.size new_source.old ≡ self.old.new_side.rows.cells.size) }
         // It is at the first of those that were left, and the others are left now; or none was left. So where a walk
         // ends, the keys of both tables ascend, and these are the changes between them.
-        ensures ok { S.gives_pages old_source.old → T.gives_pages new_source.old
+        ensures ok { S.reads_right old_source.old → T.reads_right new_source.old
             → AreStanding (S.pages old_source.old) (T.pages new_source.old) self.old → IfOk result (λ found.
             AreStanding (S.pages old_source.old) (T.pages new_source.old) self.new × ((cs : List Change)
             → KeyChangesLeft (S.pages old_source.old) (T.pages new_source.old) self.old cs
             ↔ KeyChangesMove (S.pages old_source.old) (T.pages new_source.old) found cs self.new)) }
-        ensures err { S.gives_pages old_source.old → T.gives_pages new_source.old
-            → AreStanding (S.pages old_source.old) (T.pages new_source.old) self.old
-            → IfErr result (KeyDiffRefused (S.pages old_source.old) (T.pages new_source.old) self.old) }
+        ensures err { S.reads_right old_source.old → T.reads_right new_source.old
+            → AreStanding (S.pages old_source.old) (T.pages new_source.old) self.old → IfErr result
+            (λ e. UnlessDiff (S.gives_pages old_source.old) (T.gives_pages new_source.old) e
+            (KeyDiffRefused (S.pages old_source.old) (T.pages new_source.old) self.old e)) }
         ensures same { (self.new.old_side.rows.cells.size ≡ self.old.old_side.rows.cells.size)
             × (self.new.new_side.rows.cells.size ≡ self.old.new_side.rows.cells.size)
             × (self.new.old_side.rows.limit ≡ self.old.old_side.rows.limit)

@@ -1,6 +1,8 @@
 //! The rows of one of both tables, as far as they are passed (own).
 ghost use Rattle.std.specs.Prelude.{◌≡◌, IfErr, IfOk, List, OnOk, MatchBool, MatchOption, Some, None};
 ghost use Rattle.sqpage.specs.Source.{KeepsPages};
+ghost use Rattle.sqrows.specs.Payloads.{Unless};
+ghost use Rattle.sqdiff.specs.DiffCursor.{IsUnreadSide};
 ghost use Rattle.sqlite_value.specs.declared.value.Value.{Value};
 ghost use Rattle.sqkeydiff.specs.KeyChanges.{IsAbove};
 ghost use Rattle.sqkeydiff.specs.KeyCursor.{Stands, SideRefused};
@@ -97,11 +99,11 @@ impl Side {
         key: KeyOrder,
     ) -> Result<(), SideError>
         requires sized { S.size source.old ≡ self.old.rows.cells.size }
-        ensures ok { S.gives_pages source.old → Stands (S.pages source.old) key self.old
+        ensures ok { S.reads_right source.old → Stands (S.pages source.old) key self.old
             → OnOk result (Looks (S.pages source.old) key self.old self.new) }
         ensures seen { OnOk result (IsSeen self.new.place) }
-        ensures err { S.gives_pages source.old → Stands (S.pages source.old) key self.old
-            → IfErr result (SideRefused (S.pages source.old) key self.old) }
+        ensures err { S.reads_right source.old → Stands (S.pages source.old) key self.old → IfErr result
+            (λ e. Unless (IsUnreadSide e) (S.gives_pages source.old) (SideRefused (S.pages source.old) key self.old e)) }
         ensures same { (self.new.rows.cells.size ≡ self.old.rows.cells.size)
             × (self.new.rows.limit ≡ self.old.rows.limit) × (self.new.last ≡ self.old.last) }
         ensures keeps { KeepsPages S.pages S.size S.reads_right S.gives_pages source.old source.new }

@@ -2,6 +2,7 @@
 ghost use Rattle.std.specs.Prelude.{◌≡◌, IfOk, IfErr};
 ghost use Rattle.sqval.specs.Database.{Database};
 ghost use Rattle.sqpage.specs.Source.{KeepsPages};
+ghost use Rattle.sqdiff.specs.DiffCursor.{UnlessDiff};
 ghost use Rattle.sqkeydiff.specs.KeyCursor.{AreStanding, KeyDiffRefused};
 ghost use Rattle.sqkeydiff.specs.internal.Turns.{IsSeen, IsNext, AreAlike, IsNoRecord, AreMet, Turns};
 
@@ -78,7 +79,8 @@ impl KeyDiff {
     fn take(&mut self) -> Result<Turn, DiffError>
         requires seen { IsSeen self.old.old_side.place × IsSeen self.old.new_side.place }
         ensures ok { (d e : Database) → AreStanding d e self.old → IfOk result (Turns d e self.old self.new) }
-        ensures err { (d e : Database) → AreStanding d e self.old → IfErr result (KeyDiffRefused d e self.old) }
+        ensures err { (d e : Database) → AreStanding d e self.old → IfErr result
+            (λ error. UnlessDiff (Unit {0}) (Unit {0}) error (KeyDiffRefused d e self.old error)) }
         ensures same { (self.new.old_side.rows ≡ self.old.old_side.rows)
             × (self.new.new_side.rows ≡ self.old.new_side.rows) × (self.new.key ≡ self.old.key) }
     {
@@ -100,7 +102,8 @@ impl KeyDiff {
     fn take_both(&mut self) -> Result<Turn, DiffError>
         requires met { AreMet self.old.key.order self.old.old_side.place self.old.new_side.place }
         ensures ok { (d e : Database) → AreStanding d e self.old → IfOk result (Turns d e self.old self.new) }
-        ensures err { (d e : Database) → AreStanding d e self.old → IfErr result (KeyDiffRefused d e self.old) }
+        ensures err { (d e : Database) → AreStanding d e self.old → IfErr result
+            (λ error. UnlessDiff (Unit {0}) (Unit {0}) error (KeyDiffRefused d e self.old error)) }
         ensures same { (self.new.old_side.rows ≡ self.old.old_side.rows)
             × (self.new.new_side.rows ≡ self.old.new_side.rows) × (self.new.key ≡ self.old.key) }
     {
@@ -125,12 +128,13 @@ impl KeyDiff {
     ) -> Result<Turn, DiffError>
         requires sized { (S.size old_source.old ≡ self.old.old_side.rows.cells.size)
             × (T.size new_source.old ≡ self.old.new_side.rows.cells.size) }
-        ensures ok { S.gives_pages old_source.old → T.gives_pages new_source.old
+        ensures ok { S.reads_right old_source.old → T.reads_right new_source.old
             → AreStanding (S.pages old_source.old) (T.pages new_source.old) self.old
             → IfOk result (Turns (S.pages old_source.old) (T.pages new_source.old) self.old self.new) }
-        ensures err { S.gives_pages old_source.old → T.gives_pages new_source.old
-            → AreStanding (S.pages old_source.old) (T.pages new_source.old) self.old
-            → IfErr result (KeyDiffRefused (S.pages old_source.old) (T.pages new_source.old) self.old) }
+        ensures err { S.reads_right old_source.old → T.reads_right new_source.old
+            → AreStanding (S.pages old_source.old) (T.pages new_source.old) self.old → IfErr result
+            (λ e. UnlessDiff (S.gives_pages old_source.old) (T.gives_pages new_source.old) e
+            (KeyDiffRefused (S.pages old_source.old) (T.pages new_source.old) self.old e)) }
         ensures same { (self.new.old_side.rows.cells.size ≡ self.old.old_side.rows.cells.size)
             × (self.new.new_side.rows.cells.size ≡ self.old.new_side.rows.cells.size)
             × (self.new.old_side.rows.limit ≡ self.old.old_side.rows.limit)

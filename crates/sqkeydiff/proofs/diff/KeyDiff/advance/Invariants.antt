@@ -14,5 +14,5 @@ invariant-turns g l = record {
   old_limit : l.self.old_side.rows.limit ≡ l.fn.self.old_side.rows.limit;
   new_limit : l.self.new_side.rows.limit ≡ l.fn.self.new_side.rows.limit;
   same_key : l.self.key ≡ l.fn.self.key;
-  walked : g.S.PageSource.gives_pages l.fn.old_source → g.T.PageSource.gives_pages l.fn.new_source → AreStanding (g.S.PageSource.pages l.fn.old_source) (g.T.PageSource.pages l.fn.new_source) l.fn.self → Turns (g.S.PageSource.pages l.fn.old_source) (g.T.PageSource.pages l.fn.new_source) l.fn.self l.self Same;
+  walked : g.S.PageSource.reads_right l.fn.old_source → g.T.PageSource.reads_right l.fn.new_source → AreStanding (g.S.PageSource.pages l.fn.old_source) (g.T.PageSource.pages l.fn.new_source) l.fn.self → Turns (g.S.PageSource.pages l.fn.old_source) (g.T.PageSource.pages l.fn.new_source) l.fn.self l.self Same;
 }

@@ -3,14 +3,14 @@ use Rattle.sqdiff.specs.declared.diff.Kind.TheVariants.{Changed}
 use Rattle.sqkeydiff.specs.declared.side.Side.{Side}
 use Rattle.sqkeydiff.specs.declared.turn.Turn.TheVariants.{Same, Told}
 use Rattle.sqkeydiff.specs.internal.Turns.{Turns}
-use Rattle.sqkeydiff.proofs.RefusalsOfRows.{no_record_of_both}
+use Rattle.sqkeydiff.proofs.RefusalsOfRows.{no_record_of_both, read_rows}
 use Rattle.sqkeydiff.proofs.TurnsOfWalk.{passed, takes_same, takes_changed}
 use Rattle.sqkeydiff.proofs.diff.KeyDiff.take_both.Goals as goal
 
 pub returns-in-Err-clause-err : goal.returns-in-Err-clause-err
 returns-in-Err-clause-err c = λ d e standing.
     let met = c.requires.met in
-    no_record_of_both d e c.args.self.now met.0 met.1 c.in-Err.refusal met.2 met.3 c.in-Err.ensures.err
+    read_rows c.args.self.now c.in-Err.refusal c.in-Err.ensures.err (no_record_of_both d e c.args.self.now met.0 met.1 c.in-Err.refusal met.2 met.3 c.in-Err.ensures.err)
 
 pub returns-then-alike-clause-ok : goal.returns-then-alike-clause-ok
 returns-then-alike-clause-ok c = λ d e standing.
