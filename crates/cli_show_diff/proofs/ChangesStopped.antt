@@ -13,7 +13,7 @@ use Rattle.sqtables.specs.declared.columns.Columns.{Columns}
 use Rattle.cli_show_rows.specs.declared.stop.Stop.{Stop}
 use Rattle.cli_show_rows.specs.declared.stop.Stop.TheVariants.{Fault, Record, TooLong, NotUnderstood, Default, Behind, Encoding, NotNamed, LeftOut, NoSuchTable, NoMemory, Write}
 use Rattle.sqdiff.specs.Changes.{Change, inserted, deleted, changed, Rise, rowids}
-use Rattle.sqdiff.specs.DiffCursor.{AreRefused, AreNotBegun}
+use Rattle.sqdiff.specs.DiffCursor.{AreRefused, AreNotBegun, IsUnreadSide, UnlessDiff}
 use Rattle.sqkeydiff.specs.KeyChanges.{Ascend, keys_of}
 use Rattle.sqkeydiff.specs.KeyCursor.{AreRefused as AreKeysRefused}
 use Rattle.sqkeydiff.specs.declared.key.KeyOrder.{KeyOrder}
@@ -37,65 +37,67 @@ module _ (d e : Database) (writing : Writing) (key : Option KeyOrder) (columns :
   -- the rows of one of both tables aren't read
   side_stops : (own : Database) → ((row : Row) (cell : Entry) → IsRowIn own cell row → IsRowIn d cell row ⊎ IsRowIn e cell row)
       → (limit : ℕ) (last : Option ℤ) (error : SideError) (root : ℕ) (has_order : Bool) (rows : List Row) → limit ≡ most_bytes
-      → AreRefused own limit last error rows → Rise last (rowids rows) → StopsBefore d e writing key columns all (stop_of_side error root has_order)
+      → ((¬ IsUnreadSide error) → AreRefused own limit last error rows) → Rise last (rowids rows) → StopsBefore d e writing key columns all (stop_of_side error root has_order)
   side_stops own which limit last (Unread (Tree f)) root has_order rows same h rise = h
   side_stops own which limit last (Unread (Payload (Chain f))) root has_order rows same h rise = h
   side_stops own which limit last (Unread (Payload PayloadTooLong)) root has_order rows same h rise =
-      (h.0, h.1, which h.0 h.1 h.3, subst (λ (l : ℕ). IsAbove l h.1) same h.4)
-  side_stops own which limit last (NoRecord records.TooLarge) root has_order rows same h rise = (h.0, h.1, h.3, h.4)
-  side_stops own which limit last (NoRecord records.HeaderSize) root has_order rows same h rise = absurd h
-  side_stops own which limit last (NoRecord records.TypeCut) root has_order rows same h rise = absurd h
-  side_stops own which limit last (NoRecord records.InternalType) root has_order rows same h rise = absurd h
-  side_stops own which limit last (NoRecord records.BodyCut) root has_order rows same h rise = absurd h
-  side_stops own which limit last (NoRecord records.TrailingBytes) root has_order rows same h rise = absurd h
-  side_stops own which limit last (NoRecord records.NoMemory) root has_order rows same h rise = absurd h
-  side_stops own which limit last Unordered root true rows same h rise = absurd (h rise)
-  side_stops own which limit last Unordered root false rows same h rise = absurd (h rise)
+      let k = h (λ none. none) in (k.0, k.1, which k.0 k.1 k.3, subst (λ (l : ℕ). IsAbove l k.1) same k.4)
+  side_stops own which limit last (NoRecord records.TooLarge) root has_order rows same h rise = let k = h (λ none. none) in (k.0, k.1, k.3, k.4)
+  side_stops own which limit last (NoRecord records.HeaderSize) root has_order rows same h rise = absurd (h (λ none. none))
+  side_stops own which limit last (NoRecord records.TypeCut) root has_order rows same h rise = absurd (h (λ none. none))
+  side_stops own which limit last (NoRecord records.InternalType) root has_order rows same h rise = absurd (h (λ none. none))
+  side_stops own which limit last (NoRecord records.BodyCut) root has_order rows same h rise = absurd (h (λ none. none))
+  side_stops own which limit last (NoRecord records.TrailingBytes) root has_order rows same h rise = absurd (h (λ none. none))
+  side_stops own which limit last (NoRecord records.NoMemory) root has_order rows same h rise = absurd (h (λ none. none))
+  side_stops own which limit last Unordered root true rows same h rise = absurd (h (λ none. none) rise)
+  side_stops own which limit last Unordered root false rows same h rise = absurd (h (λ none. none) rise)
 
   -- the same by key
   side_stops_by_key : (own : Database) → ((row : Row) (cell : Entry) → IsRowIn own cell row → IsRowIn d cell row ⊎ IsRowIn e cell row)
       → (limit : ℕ) (by : KeyOrder) (last : Option (List Value)) (error : SideError) (root : ℕ) (has_order : Bool) (rows : List Row) → limit ≡ most_bytes
-      → AreKeysRefused own limit by last error rows → Ascend by.order last (keys_of by.width rows)
+      → ((¬ IsUnreadSide error) → AreKeysRefused own limit by last error rows) → Ascend by.order last (keys_of by.width rows)
       → StopsBefore d e writing key columns all (stop_of_side error root has_order)
   side_stops_by_key own which limit by last (Unread (Tree f)) root has_order rows same h rise = h
   side_stops_by_key own which limit by last (Unread (Payload (Chain f))) root has_order rows same h rise = h
   side_stops_by_key own which limit by last (Unread (Payload PayloadTooLong)) root has_order rows same h rise =
-      (h.0, h.1, which h.0 h.1 h.3, subst (λ (l : ℕ). IsAbove l h.1) same h.4)
-  side_stops_by_key own which limit by last (NoRecord records.TooLarge) root has_order rows same h rise = (h.0, h.1, h.3, h.4)
-  side_stops_by_key own which limit by last (NoRecord records.HeaderSize) root has_order rows same h rise = absurd h
-  side_stops_by_key own which limit by last (NoRecord records.TypeCut) root has_order rows same h rise = absurd h
-  side_stops_by_key own which limit by last (NoRecord records.InternalType) root has_order rows same h rise = absurd h
-  side_stops_by_key own which limit by last (NoRecord records.BodyCut) root has_order rows same h rise = absurd h
-  side_stops_by_key own which limit by last (NoRecord records.TrailingBytes) root has_order rows same h rise = absurd h
-  side_stops_by_key own which limit by last (NoRecord records.NoMemory) root has_order rows same h rise = absurd h
-  side_stops_by_key own which limit by last Unordered root true rows same h rise = absurd (h rise)
-  side_stops_by_key own which limit by last Unordered root false rows same h rise = absurd (h rise)
+      let k = h (λ none. none) in (k.0, k.1, which k.0 k.1 k.3, subst (λ (l : ℕ). IsAbove l k.1) same k.4)
+  side_stops_by_key own which limit by last (NoRecord records.TooLarge) root has_order rows same h rise = let k = h (λ none. none) in (k.0, k.1, k.3, k.4)
+  side_stops_by_key own which limit by last (NoRecord records.HeaderSize) root has_order rows same h rise = absurd (h (λ none. none))
+  side_stops_by_key own which limit by last (NoRecord records.TypeCut) root has_order rows same h rise = absurd (h (λ none. none))
+  side_stops_by_key own which limit by last (NoRecord records.InternalType) root has_order rows same h rise = absurd (h (λ none. none))
+  side_stops_by_key own which limit by last (NoRecord records.BodyCut) root has_order rows same h rise = absurd (h (λ none. none))
+  side_stops_by_key own which limit by last (NoRecord records.TrailingBytes) root has_order rows same h rise = absurd (h (λ none. none))
+  side_stops_by_key own which limit by last (NoRecord records.NoMemory) root has_order rows same h rise = absurd (h (λ none. none))
+  side_stops_by_key own which limit by last Unordered root true rows same h rise = absurd (h (λ none. none) rise)
+  side_stops_by_key own which limit by last Unordered root false rows same h rise = absurd (h (λ none. none) rise)
 
-  pub diff_stops : (diff : TableDiff) (error : DiffError) (roots : ℕ × ℕ) (has_order : Bool) → (old_rows diff).limit ≡ most_bytes
-      → (new_rows diff).limit ≡ most_bytes → DiffRefused d e diff error → ChangesLeft d e diff all
+  pub diff_stops : {g h : Type 0} (diff : TableDiff) (error : DiffError) (roots : ℕ × ℕ) (has_order : Bool) → (old_rows diff).limit ≡ most_bytes
+      → (new_rows diff).limit ≡ most_bytes → UnlessDiff g h error (DiffRefused d e diff error) → ChangesLeft d e diff all
       → StopsBefore d e writing key columns all (stop_of_diff error roots has_order)
   diff_stops (Rowids diff) (Old error) roots has_order old_limit new_limit refused left =
-      side_stops d (λ row cell is. inl is) diff.old_side.rows.limit diff.old_side.last error roots.0 has_order left.0 old_limit (refused left.0 left.2) left.4
+      side_stops d (λ row cell is. inl is) diff.old_side.rows.limit diff.old_side.last error roots.0 has_order left.0 old_limit (λ read. refused.1 read left.0 left.2) left.4
   diff_stops (Rowids diff) (New error) roots has_order old_limit new_limit refused left =
-      side_stops e (λ row cell is. inr is) diff.new_side.rows.limit diff.new_side.last error roots.1 has_order left.1 new_limit (refused left.1 left.3) left.5
+      side_stops e (λ row cell is. inr is) diff.new_side.rows.limit diff.new_side.last error roots.1 has_order left.1 new_limit (λ read. refused.1 read left.1 left.3) left.5
   diff_stops (Keys diff) (Old error) roots has_order old_limit new_limit refused left =
-      side_stops_by_key d (λ row cell is. inl is) diff.old_side.rows.limit diff.key diff.old_side.last error roots.0 has_order left.0 old_limit (refused left.0 left.2) left.4
+      side_stops_by_key d (λ row cell is. inl is) diff.old_side.rows.limit diff.key diff.old_side.last error roots.0 has_order left.0 old_limit (λ read. refused.1 read left.0 left.2) left.4
   diff_stops (Keys diff) (New error) roots has_order old_limit new_limit refused left =
-      side_stops_by_key e (λ row cell is. inr is) diff.new_side.rows.limit diff.key diff.new_side.last error roots.1 has_order left.1 new_limit (refused left.1 left.3) left.5
+      side_stops_by_key e (λ row cell is. inr is) diff.new_side.rows.limit diff.key diff.new_side.last error roots.1 has_order left.1 new_limit (λ read. refused.1 read left.1 left.3) left.5
 
   -- one of both isn't begun
-  begin_stops_at : (old_root new_root : ℕ) (error : DiffError) (roots : ℕ × ℕ) (has_order : Bool) → AreNotBegun d old_root e new_root error
+  begin_stops_at : {g k : Type 0} (old_root new_root : ℕ) (error : DiffError) (roots : ℕ × ℕ) (has_order : Bool) → UnlessDiff g k error (AreNotBegun d old_root e new_root error)
       → (old new : List Row) → HasRows d old_root old → HasRows e new_root new → StopsBefore d e writing key columns all (stop_of_diff error roots has_order)
-  begin_stops_at old_root new_root (Old (Unread (Tree f))) roots has_order h old new is too = λ other. h.1 other old is
-  begin_stops_at old_root new_root (New (Unread (Tree f))) roots has_order h old new is too = λ other. h.1 other new too
-  begin_stops_at old_root new_root (Old (Unread (Payload p))) roots has_order h old new is too = absurd h
-  begin_stops_at old_root new_root (New (Unread (Payload p))) roots has_order h old new is too = absurd h
-  begin_stops_at old_root new_root (Old (NoRecord error)) roots has_order h old new is too = absurd h
-  begin_stops_at old_root new_root (New (NoRecord error)) roots has_order h old new is too = absurd h
-  begin_stops_at old_root new_root (Old Unordered) roots has_order h old new is too = absurd h
-  begin_stops_at old_root new_root (New Unordered) roots has_order h old new is too = absurd h
+  begin_stops_at old_root new_root (Old (Unread (Tree f))) roots has_order h old new is too = λ read other. (h.1 read).1 other old is
+  begin_stops_at old_root new_root (New (Unread (Tree f))) roots has_order h old new is too = λ read other. (h.1 read).1 other new too
+  begin_stops_at old_root new_root (Old (Unread (Payload (Chain f)))) roots has_order h old new is too = λ read. absurd (h.1 read)
+  begin_stops_at old_root new_root (Old (Unread (Payload PayloadTooLong))) roots has_order h old new is too = absurd (h.1 (λ none. none))
+  begin_stops_at old_root new_root (New (Unread (Payload (Chain f)))) roots has_order h old new is too = λ read. absurd (h.1 read)
+  begin_stops_at old_root new_root (New (Unread (Payload PayloadTooLong))) roots has_order h old new is too = absurd (h.1 (λ none. none))
+  begin_stops_at old_root new_root (Old (NoRecord error)) roots has_order h old new is too = absurd (h.1 (λ none. none))
+  begin_stops_at old_root new_root (New (NoRecord error)) roots has_order h old new is too = absurd (h.1 (λ none. none))
+  begin_stops_at old_root new_root (Old Unordered) roots has_order h old new is too = absurd (h.1 (λ none. none))
+  begin_stops_at old_root new_root (New Unordered) roots has_order h old new is too = absurd (h.1 (λ none. none))
 
-  pub begin_stops : (by : Option KeyOrder) (old_root new_root : ℕ) (error : DiffError) (roots : ℕ × ℕ) (has_order : Bool) → AreNotBegun d old_root e new_root error
+  pub begin_stops : {g k : Type 0} (by : Option KeyOrder) (old_root new_root : ℕ) (error : DiffError) (roots : ℕ × ℕ) (has_order : Bool) → UnlessDiff g k error (AreNotBegun d old_root e new_root error)
       → HasChangesBy by d old_root e new_root all → StopsBefore d e writing key columns all (stop_of_diff error roots has_order)
   begin_stops None old_root new_root error roots has_order h has = begin_stops_at old_root new_root error roots has_order h has.0 has.1 has.2 has.3
   begin_stops (Some by) old_root new_root error roots has_order h has = begin_stops_at old_root new_root error roots has_order h has.0 has.1 has.2 has.3

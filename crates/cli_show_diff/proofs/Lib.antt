@@ -16,3 +16,4 @@ pub mod LeftCounted
 pub mod FramesPrinted
 -- Names that are asked for, as they are borrowed and as bytes.
 pub mod NamesAsked
+pub mod UnreadStops

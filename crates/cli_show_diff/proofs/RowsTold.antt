@@ -13,7 +13,7 @@ use Rattle.sqrows.specs.declared.rows.RowsError.TheVariants.{Tree, Payload}
 use Rattle.sqrows.specs.declared.payload.PayloadError.TheVariants.{TooLong as PayloadTooLong, Chain}
 use Rattle.sqrows.specs.Trees.{Entry, IsTree}
 use Rattle.sqrows.specs.Cursor.{IsLeft}
-use Rattle.sqrows.specs.RowCursor.{RowsLeft, RowsRefused, HasNoPayload, IsAbove}
+use Rattle.sqrows.specs.RowCursor.{IsUnreadRow, RowsLeft, RowsRefused, HasNoPayload, IsAbove}
 use Rattle.sqrows.specs.Stops.{HoldsAt, IsNoRecord, TreeRefused}
 use Rattle.sqrows.specs.internal.Passing.{ArePassed, Passes}
 use Rattle.sqrows.proofs.PassedRows.{none_passed, one_passed, come_first, holds_at, tree_fault}
@@ -81,7 +81,7 @@ module _ (d : Database) (root : ℕ) (comes : Bool) (style : Style) where
 
   row_stops : (cursor : Rows) (rows : List Row) (stop : Stop) → cursor.limit ≡ most_bytes → ArePassed d root cursor rows
       → RowStops d style.writing style.key style.columns.now cursor stop → StopsAt d root style.writing style.key style.columns.now (length rows) stop
-  row_stops cursor rows (Fault f) limit passed h = (h.0, λ other. holds_at d root cursor rows (HasNoPayload d) passed (h.1 other))
+  row_stops cursor rows (Fault f) limit passed h = λ read other. holds_at d root cursor rows (HasNoPayload d) passed (h read other)
   row_stops cursor rows (Record error) limit passed h = holds_at d root cursor rows (IsNoRecord d error) passed h
   row_stops cursor rows TooLong limit passed h =
       subst (λ (l : ℕ). HoldsAt d root (length rows) (IsAbove l)) limit (holds_at d root cursor rows (IsAbove cursor.limit) passed h)
@@ -111,11 +111,11 @@ module _ (d : Database) (root : ℕ) (comes : Bool) (style : Style) where
   none_told f out refused = ([], [], (λ xs tree. ([], xs, refl, refl)), ([], refl, refl), Appends-nil out, tree_fault d root 0 f refused)
 
 -- why the next row isn't read, or its text isn't written
-pub read_stops : (d : Database) (writing : Writing) (key : Option KeyOrder) (columns : Columns) (cursor : Rows) (error : RowsError) → RowsRefused d cursor error
+pub read_stops : (d : Database) (writing : Writing) (key : Option KeyOrder) (columns : Columns) (cursor : Rows) (error : RowsError) → ((¬ IsUnreadRow error) → RowsRefused d cursor error)
     → RowStops d writing key columns cursor (stop_of_row error)
-read_stops d writing key columns cursor (Tree f) h = (h.0, λ other xs left. absurd (h.1 other xs left))
-read_stops d writing key columns cursor (Payload (Chain f)) h = h
-read_stops d writing key columns cursor (Payload PayloadTooLong) h = h
+read_stops d writing key columns cursor (Tree f) h = λ read other xs left. absurd ((h read).1 other xs left)
+read_stops d writing key columns cursor (Payload (Chain f)) h = λ read. (h read).1
+read_stops d writing key columns cursor (Payload PayloadTooLong) h = h (λ none. none)
 
 pub write_stops : (d : Database) (writing : Writing) (key : Option KeyOrder) (columns : Columns) (comes : Bool) (old new : Rows) (row : Row) (stop : Stop) → Passes d old new row
     → IsUnwritten writing key columns (side_of comes row) stop → RowStops d writing key columns old stop

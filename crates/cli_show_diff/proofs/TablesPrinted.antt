@@ -1,5 +1,5 @@
 -- The changes of a table as they were printed.
-use Rattle.std.proofs.Common.{◌≡◌, ℕ, Bool, List, Option, Bor, Result, Ok, Err, OnOk, inr, refl, subst, sym}
+use Rattle.std.proofs.Common.{◌≡◌, ◌⊎◌, ℕ, Bool, List, Option, Bor, Result, Ok, Err, OnOk, inl, inr, refl, subst, sym}
 use Rattle.std.specs.Prelude.{IfErr, Some, None, is_some}
 use Rattle.std.specs.Io.KnownBytes.{Appends}
 use Rattle.sqval.specs.Database.{Database}
@@ -7,8 +7,9 @@ use Rattle.sqdeep.specs.declared.text.Encoding.{Encoding}
 use Rattle.sqdeep.specs.Records.{encoding_of}
 use Rattle.sqtables.specs.declared.list.Object.{Object}
 use Rattle.cli_row_text.specs.Inserts.{rowid_name}
+use Rattle.cli_show_rows.specs.Stops.{IsUnreadStop}
 use Rattle.cli_show_rows.specs.declared.stop.Stop.{Stop}
-use Rattle.cli_show_rows.specs.declared.stop.Stop.TheVariants.{NoMemory}
+use Rattle.cli_show_rows.specs.declared.stop.Stop.TheVariants.{Fault, Record, TooLong, NotUnderstood, Default, Behind, Encoding as TextEncoding, NotNamed, LeftOut, NoSuchTable, NoMemory, Write}
 use Rattle.cli_change_text.specs.declared.style.Style.{Style}
 use Rattle.cli_change_text.specs.declared.style.Writing.{Writing}
 use Rattle.sqkeydiff.specs.declared.key.KeyOrder.{KeyOrder}
@@ -21,10 +22,26 @@ pub named_some : (name : Option (Bor (List ℕ))) → is_some name ≡ is_some (
 named_some (Some name) = refl
 named_some None = refl
 
--- out of memory before anything was printed
-pub unbegun : (encoding : Encoding) (by : Option KeyOrder → Type 0) (table : Object) (writing : Writing) (stop : Stop) (out : Option (List ℕ)) → stop ≡ NoMemory
+-- out of memory, or a page that couldn't be read, before anything was printed
+unread_begun : (encoding : Encoding) (by : Option KeyOrder → Type 0) (table : Object) (writing : Writing) (stop : Stop) (out : Option (List ℕ)) → IsUnreadStop stop
     → IsUnbegun encoding by table writing stop out out
-unbegun encoding by table writing stop out is = subst (λ (s : Stop). IsUnbegun encoding by table writing s out out) (sym is) refl
+unread_begun encoding by table writing (Fault e) out is = (is, refl)
+unread_begun encoding by table writing (Record e) out is = absurd is
+unread_begun encoding by table writing TooLong out is = absurd is
+unread_begun encoding by table writing NotUnderstood out is = absurd is
+unread_begun encoding by table writing Default out is = absurd is
+unread_begun encoding by table writing Behind out is = absurd is
+unread_begun encoding by table writing TextEncoding out is = absurd is
+unread_begun encoding by table writing NotNamed out is = absurd is
+unread_begun encoding by table writing (LeftOut n) out is = absurd is
+unread_begun encoding by table writing NoSuchTable out is = absurd is
+unread_begun encoding by table writing NoMemory out is = absurd is
+unread_begun encoding by table writing (Write e) out is = absurd is
+
+pub unbegun : (encoding : Encoding) (by : Option KeyOrder → Type 0) (table : Object) (writing : Writing) (stop : Stop) (out : Option (List ℕ)) → (stop ≡ NoMemory) ⊎ IsUnreadStop stop
+    → IsUnbegun encoding by table writing stop out out
+unbegun encoding by table writing stop out (inr is) = unread_begun encoding by table writing stop out is
+unbegun encoding by table writing stop out (inl is) = subst (λ (s : Stop). IsUnbegun encoding by table writing s out out) (sym is) refl
 
 module _ {T : Type 0} (d e : Database) (old new : Object) (writing : Writing) (before after : Option (List ℕ)) (style : Style) where
   pub kept_printed : (answer : Result T Stop) → OnOk answer ((t : List ℕ) × AreBothTold d old.root e new.root style t × Appends before after t)

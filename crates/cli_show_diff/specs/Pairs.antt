@@ -12,7 +12,7 @@ use Rattle.cli_schema_text.specs.Comments.{unnamed_text}
 use Rattle.cli_schema_text.specs.Names.{can_be_named}
 use Rattle.sqdeep.specs.Records.{encoding_of}
 use Rattle.cli_show_rows.specs.Dumps.{IsMakingPrinted, form_in}
-use Rattle.cli_show_rows.specs.Stops.{IsTableStopped, IsUnheaded, IsWriteError}
+use Rattle.cli_show_rows.specs.Stops.{IsTableStopped, IsUnheaded, IsWriteError, IsUnreadStop}
 use Rattle.cli_show_rows.specs.Tables.{IsTablePrinted}
 use Rattle.cli_change_text.specs.declared.style.Writing.TheVariants.{Line, Object as AsObject, Removal, Arrival}
 use Rattle.cli_show_diff.specs.declared.form.ChangeForm.{ChangeForm}
@@ -79,6 +79,7 @@ IsMadeStopped d Lines table stop before after = IsSideStopped d table true Line 
 IsMadeStopped d (Json commit) table stop before after = IsSideStopped d table true (AsObject commit) stop before after
 IsMadeStopped d Sql table stop before after =
     IsUnheaded stop before after
+    ⊎ (IsUnreadStop stop × (before ≡ after))
     ⊎ ((mid : Option (List ℕ)) × IsMakingPrinted (encoding_of d) table before mid × (can_be_named table.name.items ≡ true)
     × IsTableStopped d table (form_in d InSql) stop mid after)
 

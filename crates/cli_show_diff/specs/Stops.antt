@@ -25,9 +25,10 @@ abbrev pub HasLongRow : Database → Database → Type 0
 HasLongRow d e = (row : Row) × (cell : Entry) × (IsRowIn d cell row ⊎ IsRowIn e cell row) × IsAbove most_bytes cell
 
 -- Why these changes, which are left, aren't printed: the first one can't be written; memory ran out, or the writer failed; or a
--- row has more than 1 GiB. For any other stop there are no changes: a tree isn't sound, or its rowids or keys don't rise.
+-- row has more than 1 GiB. If a page couldn't be read, nothing is said of them. For any other stop there are no changes: a tree
+-- isn't sound, or its rowids or keys don't rise.
 abbrev pub StopsBefore : Database → Database → Writing → (key : Option KeyOrder) → Columns → List Change → Stop → Type 0
-StopsBefore d e writing key columns cs (Fault f) = ¬ (f.fault ≢ faults.NoMemory)
+StopsBefore d e writing key columns cs (Fault f) = f.fault ≢ faults.Source → ¬ (f.fault ≢ faults.NoMemory)
 StopsBefore d e writing key columns cs (Record records.TooLarge) = (row : Row) × (bytes : List ℕ) × IsRecord row.values bytes × (most_bytes < length bytes)
 StopsBefore d e writing key columns cs (Record error) = ⊥
 StopsBefore d e writing key columns cs TooLong = HasLongRow d e
@@ -45,8 +46,8 @@ AreBothToldUntil d old_root e new_root style stop before after =
 abbrev pub HasUnwritable : Database → Writing → (key : Option KeyOrder) → Columns → Stop → Entry → Type 0
 HasUnwritable d writing key columns stop cell = (row : Row) × IsRowIn d cell row × IsUnwritable writing key columns row stop
 
--- Why row k of a table isn't printed: the tree isn't sound there, the row has no payload, a longer one than 1 GiB or no record, or
--- can't be written; or memory ran out, or the writer failed.
+-- Why row k of a table isn't printed: a page couldn't be read, the tree isn't sound there, the row has no payload, a longer one
+-- than 1 GiB or no record, or can't be written; or memory ran out, or the writer failed.
 abbrev pub StopsAt : Database → (root : ℕ) → Writing → (key : Option KeyOrder) → Columns → (k : ℕ) → Stop → Type 0
 StopsAt d root writing key columns k (Fault f) = FaultAt d root k f
 StopsAt d root writing key columns k (Record error) = HoldsAt d root k (IsNoRecord d error)

@@ -3,6 +3,7 @@ use Rattle.std.specs.Prelude.{◌≡◌, ◌⊎◌, ℕ, Bool, false, List, [], 
 use Rattle.std.specs.List.{list_all}
 use Rattle.std.specs.Io.KnownBytes.{Appends}
 use Rattle.sqval.specs.Database.{Database}
+use Rattle.sqpage.specs.declared.fault.Fault.TheVariants as faults
 use Rattle.sqtables.specs.declared.columns.Columns.{Columns}
 use Rattle.sqtables.specs.declared.list.Object.{Object}
 use Rattle.sqdeep.specs.declared.text.Encoding.{Encoding}
@@ -10,7 +11,7 @@ use Rattle.sqdeep.specs.Records.{encoding_of}
 use Rattle.cli_row_text.specs.Inserts.{insert_text}
 use Rattle.cli_schema_text.specs.Names.{can_be_named}
 use Rattle.cli_show_rows.specs.declared.stop.Stop.{Stop}
-use Rattle.cli_show_rows.specs.declared.stop.Stop.TheVariants.{NoMemory, NotUnderstood}
+use Rattle.cli_show_rows.specs.declared.stop.Stop.TheVariants.{Fault, NoMemory, NotUnderstood}
 use Rattle.cli_show_rows.specs.Schemas.{AreColumnsIn}
 use Rattle.cli_show_rows.specs.Tables.{IsNameFor}
 use Rattle.cli_change_text.specs.declared.style.Style.{Style}
@@ -75,9 +76,10 @@ IsUnnamed Line columns rowid key = ⊥
 IsUnnamed (AsObject commit) columns rowid key = ⊥
 IsUnnamed _ columns rowid key = (columns.names.items ≡ []) ⊎ (are_nameable columns ≡ false) ⊎ ((rowid ≡ None) × (columns.alias ≡ None) × (key ≡ None))
 
--- Nothing was printed of a table that a script can't name, or for want of memory.
+-- Nothing was printed of a table that a script can't name, or because a page couldn't be read or memory ran out.
 abbrev pub IsUnbegun : Encoding → (by : Option KeyOrder → Type 0) → Object → Writing → Stop → (before after : Option (List ℕ)) → Type 0
 IsUnbegun encoding by table writing NoMemory before after = before ≡ after
+IsUnbegun encoding by table writing (Fault e) before after = (e.fault ≡ faults.Source) × (before ≡ after)
 IsUnbegun encoding by table writing NotUnderstood before after =
     (columns : Columns) × (rowid : Option (List ℕ)) × (key : Option KeyOrder) × AreColumnsIn encoding table.sql.items columns × IsNameFor columns rowid × by key
     × IsUnnamed writing columns rowid key × (before ≡ after)

@@ -5,6 +5,7 @@ ghost use Rattle.sqval.specs.Record.{most_bytes};
 ghost use Rattle.sqpage.specs.Source.{KeepsPages};
 ghost use Rattle.sqdiff.specs.Changes.{Change};
 ghost use Rattle.sqdiff.specs.declared.diff.Kind.{Kind};
+ghost use Rattle.cli_show_rows.specs.Stops.{IsUnreadStop};
 ghost use Rattle.cli_change_text.specs.Changes.{IsTextIn};
 ghost use Rattle.cli_change_text.specs.Refusals.{IsKept};
 ghost use Rattle.cli_show_diff.specs.Told.{AreBothTold};
@@ -33,6 +34,7 @@ fn write_inserted<W: Write>(
         × Appends (W.contents out.old) (W.contents out.new) t) }
     ensures err { IfErr result (FoundRefused diff.now Kind.Inserted style.entry.writing style.entry.key
         style.entry.columns.now) }
+    ensures read { IfErr result (λ stop. ¬ IsUnreadStop stop) }
     ensures kept { IfErr result (λ stop. IsKept stop (W.contents out.old) (W.contents out.new)) }
 {
     match diff.new_row() {
@@ -53,6 +55,7 @@ fn write_deleted<W: Write>(
         × Appends (W.contents out.old) (W.contents out.new) t) }
     ensures err { IfErr result (FoundRefused diff.now Kind.Deleted style.entry.writing style.entry.key
         style.entry.columns.now) }
+    ensures read { IfErr result (λ stop. ¬ IsUnreadStop stop) }
     ensures kept { IfErr result (λ stop. IsKept stop (W.contents out.old) (W.contents out.new)) }
 {
     match diff.old_row() {
@@ -73,6 +76,7 @@ fn write_both<W: Write>(
         × Appends (W.contents out.old) (W.contents out.new) t) }
     ensures err { IfErr result (FoundRefused diff.now Kind.Changed style.entry.writing style.entry.key
         style.entry.columns.now) }
+    ensures read { IfErr result (λ stop. ¬ IsUnreadStop stop) }
     ensures kept { IfErr result (λ stop. IsKept stop (W.contents out.old) (W.contents out.new)) }
 {
     let old = match diff.old_row() {
@@ -98,6 +102,7 @@ fn write_found<W: Write>(
         × Appends (W.contents out.old) (W.contents out.new) t) }
     ensures err { IfErr result (FoundRefused diff.now kind style.entry.writing style.entry.key
         style.entry.columns.now) }
+    ensures read { IfErr result (λ stop. ¬ IsUnreadStop stop) }
     ensures kept { IfErr result (λ stop. IsKept stop (W.contents out.old) (W.contents out.new)) }
 {
     match kind {
@@ -137,15 +142,17 @@ fn print_next<S: PageSource, T: PageSource, W: Write>(
     requires sized { (S.size old.old ≡ (old_rows diff.old).cells.size)
         × (T.size new.old ≡ (new_rows diff.old).cells.size) }
     requires limited { ((old_rows diff.old).limit ≡ most_bytes) × ((new_rows diff.old).limit ≡ most_bytes) }
-    ensures ok { S.gives_pages old.old → T.gives_pages new.old → AreStanding (S.pages old.old)
+    ensures ok { S.reads_right old.old → T.reads_right new.old → AreStanding (S.pages old.old)
         (T.pages new.old) diff.old
         → IfOk result (λ found. AreStanding (S.pages old.old) (T.pages new.old) diff.new
         × TellsNext (S.pages old.old) (T.pages new.old) found walk.entry.style diff.old diff.new
         (W.contents out.old) (W.contents out.new)) }
-    ensures err { S.gives_pages old.old → T.gives_pages new.old → AreStanding (S.pages old.old)
+    ensures err { S.reads_right old.old → T.reads_right new.old → AreStanding (S.pages old.old)
         (T.pages new.old) diff.old
         → IfErr result (NextRefused (S.pages old.old)
         (T.pages new.old) walk.entry.style.writing walk.entry.style.key walk.entry.style.columns.now diff.old) }
+    ensures unread { AreStanding (S.pages old.old) (T.pages new.old) diff.old
+        → IfErr result (λ stop. IsUnreadStop stop → S.gives_pages old.old → ¬ T.gives_pages new.old) }
     ensures kept { IfErr result (λ stop. IsKept stop (W.contents out.old) (W.contents out.new)) }
     ensures same { ((old_rows diff.new).cells.size ≡ (old_rows diff.old).cells.size)
         × ((new_rows diff.new).cells.size ≡ (new_rows diff.old).cells.size)
@@ -181,12 +188,13 @@ pub(crate) fn print_both<S: PageSource, T: PageSource, W: Write>(
     style: Style<'_>,
     out: &mut W,
 ) -> Result<(), Stop>
-    ensures ok { S.gives_pages old.old → T.gives_pages new.old → OnOk result ((t : List ℕ)
+    ensures ok { S.reads_right old.old → T.reads_right new.old → OnOk result ((t : List ℕ)
         × AreBothTold (S.pages old.old) roots.0 (T.pages new.old) roots.1 style.entry t
         × Appends (W.contents out.old) (W.contents out.new) t) }
-    ensures err { S.gives_pages old.old → T.gives_pages new.old → IfErr result (λ stop.
+    ensures err { S.reads_right old.old → T.reads_right new.old → IfErr result (λ stop.
         AreBothToldUntil (S.pages old.old) roots.0 (T.pages new.old) roots.1 style.entry stop
         (W.contents out.old) (W.contents out.new)) }
+    ensures unread { IfErr result (λ stop. IsUnreadStop stop → S.gives_pages old.old → ¬ T.gives_pages new.old) }
     ensures keeps { KeepsPages S.pages S.size S.reads_right S.gives_pages old.old old.new
         × KeepsPages T.pages T.size T.reads_right T.gives_pages new.old new.new }
 {

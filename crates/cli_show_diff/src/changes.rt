@@ -2,7 +2,7 @@
 ghost use Rattle.std.specs.Prelude.{◌≡◌, ◌≢◌, ◌+◌, ◌++◌, OnOk, IfOk, IfErr, IfSome, MatchOption, Some, length};
 ghost use Rattle.std.specs.Io.KnownBytes.{Appends};
 ghost use Rattle.sqpage.specs.Source.{KeepsPages};
-ghost use Rattle.cli_show_rows.specs.Stops.{IsEnded, SchemaRefused};
+ghost use Rattle.cli_show_rows.specs.Stops.{IsEnded, IsUnreadStop, SchemaRefused};
 ghost use Rattle.cli_show_rows.specs.internal.Stopping.{IsCounted};
 ghost use Rattle.cli_show_rows.specs.Strays.{bytes_of};
 ghost use Rattle.cli_show_diff.specs.Frames.{IsStopToldIn, left_text_of, strays_in};
@@ -44,11 +44,12 @@ pub(crate) struct Found {
 
 /// The objects of a database, and the encoding of its texts. One without pages has neither.
 fn objects_of<S: PageSource>(alloc: Global, source: &mut S) -> Result<Found, Stop>
-    ensures ok { S.gives_pages source.old → IfOk result (λ found.
+    ensures ok { S.reads_right source.old → IfOk result (λ found.
         HasObjectsOf (S.pages source.old) found.encoding found.objects.items) }
-    ensures strays { S.gives_pages source.old → IfOk result (λ found.
+    ensures strays { S.reads_right source.old → IfOk result (λ found.
         HasStraysOf (S.pages source.old) found.encoding (bytes_of found.strays.items)) }
-    ensures err { S.gives_pages source.old → IfErr result (SchemaRefused (S.pages source.old)) }
+    ensures err { S.reads_right source.old → IfErr result (SchemaRefused (S.pages source.old)) }
+    ensures unread { IfErr result (λ stop. IsUnreadStop stop → ¬ S.gives_pages source.old) }
     ensures keeps { KeepsPages S.pages S.size S.reads_right S.gives_pages source.old source.new }
 {
     if source.count() == 0 {
@@ -96,10 +97,11 @@ fn print_tables<S: PageSource, T: PageSource, W: Write>(
     form: ChangeForm,
     out: &mut W,
 ) -> Result<(), Stop>
-    ensures ok { S.gives_pages old.old → T.gives_pages new.old → OnOk result (AreTablesPrinted (S.pages old.old)
+    ensures ok { S.reads_right old.old → T.reads_right new.old → OnOk result (AreTablesPrinted (S.pages old.old)
         (T.pages new.old) of.entry.0 of.entry.1 form (W.contents out.old) (W.contents out.new)) }
-    ensures err { S.gives_pages old.old → T.gives_pages new.old → IfErr result (λ stop. AreTablesStopped
+    ensures err { S.reads_right old.old → T.reads_right new.old → IfErr result (λ stop. AreTablesStopped
         (S.pages old.old) (T.pages new.old) of.entry.0 of.entry.1 form stop (W.contents out.old) (W.contents out.new)) }
+    ensures unread { IfErr result (λ stop. IsUnreadStop stop → S.gives_pages old.old → ¬ T.gives_pages new.old) }
     ensures keeps { KeepsPages S.pages S.size S.reads_right S.gives_pages old.old old.new
         × KeepsPages T.pages T.size T.reads_right T.gives_pages new.old new.new }
 {
@@ -132,10 +134,11 @@ fn print_all<S: PageSource, T: PageSource, W: Write>(
     form: ChangeForm,
     out: &mut W,
 ) -> Result<(), Stop>
-    ensures ok { S.gives_pages old.old → T.gives_pages new.old → OnOk result (AreAllPrinted (S.pages old.old)
+    ensures ok { S.reads_right old.old → T.reads_right new.old → OnOk result (AreAllPrinted (S.pages old.old)
         (T.pages new.old) schemas.entry form (W.contents out.old) (W.contents out.new)) }
-    ensures err { S.gives_pages old.old → T.gives_pages new.old → IfErr result (λ stop. AreAllStopped (S.pages old.old)
+    ensures err { S.reads_right old.old → T.reads_right new.old → IfErr result (λ stop. AreAllStopped (S.pages old.old)
         (T.pages new.old) schemas.entry form stop (W.contents out.old) (W.contents out.new)) }
+    ensures unread { IfErr result (λ stop. IsUnreadStop stop → S.gives_pages old.old → ¬ T.gives_pages new.old) }
     ensures keeps { KeepsPages S.pages S.size S.reads_right S.gives_pages old.old old.new
         × KeepsPages T.pages T.size T.reads_right T.gives_pages new.old new.new }
 {
@@ -164,10 +167,11 @@ fn print_named<S: PageSource, T: PageSource, W: Write>(
     form: ChangeForm,
     out: &mut W,
 ) -> Result<(), Stop>
-    ensures ok { S.gives_pages old.old → T.gives_pages new.old → OnOk result (IsNamedPrinted (S.pages old.old)
+    ensures ok { S.reads_right old.old → T.reads_right new.old → OnOk result (IsNamedPrinted (S.pages old.old)
         (T.pages new.old) of.entry.0 of.entry.1.now form (W.contents out.old) (W.contents out.new)) }
-    ensures err { S.gives_pages old.old → T.gives_pages new.old → IfErr result (λ stop. IsNamedStopped (S.pages old.old)
+    ensures err { S.reads_right old.old → T.reads_right new.old → IfErr result (λ stop. IsNamedStopped (S.pages old.old)
         (T.pages new.old) of.entry.0 of.entry.1.now form stop (W.contents out.old) (W.contents out.new)) }
+    ensures unread { IfErr result (λ stop. IsUnreadStop stop → S.gives_pages old.old → ¬ T.gives_pages new.old) }
     ensures keeps { KeepsPages S.pages S.size S.reads_right S.gives_pages old.old old.new
         × KeepsPages T.pages T.size T.reads_right T.gives_pages new.old new.new }
 {
@@ -191,11 +195,12 @@ fn print_each<S: PageSource, T: PageSource, W: Write>(
     form: ChangeForm,
     out: &mut W,
 ) -> Result<(), Stop>
-    ensures ok { S.gives_pages old.old → T.gives_pages new.old → OnOk result (AreNamedPrinted (S.pages old.old)
+    ensures ok { S.reads_right old.old → T.reads_right new.old → OnOk result (AreNamedPrinted (S.pages old.old)
         (T.pages new.old) of.entry.0 (texts_of of.entry.1.names.now) form (W.contents out.old) (W.contents out.new)) }
-    ensures err { S.gives_pages old.old → T.gives_pages new.old → IfErr result (λ stop. AreNamedStopped
+    ensures err { S.reads_right old.old → T.reads_right new.old → IfErr result (λ stop. AreNamedStopped
         (S.pages old.old) (T.pages new.old) of.entry.0 (texts_of of.entry.1.names.now) form stop
         (W.contents out.old) (W.contents out.new)) }
+    ensures unread { IfErr result (λ stop. IsUnreadStop stop → S.gives_pages old.old → ¬ T.gives_pages new.old) }
     ensures keeps { KeepsPages S.pages S.size S.reads_right S.gives_pages old.old old.new
         × KeepsPages T.pages T.size T.reads_right T.gives_pages new.old new.new }
 {
@@ -230,13 +235,14 @@ fn print_asked<S: PageSource, T: PageSource, W: Write>(
     asked: Asked<'_>,
     out: &mut W,
 ) -> Result<(), Stop>
-    ensures ok { S.gives_pages old.old → T.gives_pages new.old → OnOk result (AreAskedPrinted (S.pages old.old)
+    ensures ok { S.reads_right old.old → T.reads_right new.old → OnOk result (AreAskedPrinted (S.pages old.old)
         (T.pages new.old) asked.entry.schemas (texts_of asked.entry.selected.names.now) asked.entry.form
         (W.contents out.old) (W.contents out.new)) }
-    ensures err { S.gives_pages old.old → T.gives_pages new.old → IfErr result (λ stop. AreAskedStopped
+    ensures err { S.reads_right old.old → T.reads_right new.old → IfErr result (λ stop. AreAskedStopped
         (S.pages old.old)
         (T.pages new.old) asked.entry.schemas (texts_of asked.entry.selected.names.now) asked.entry.form stop
         (W.contents out.old) (W.contents out.new)) }
+    ensures unread { IfErr result (λ stop. IsUnreadStop stop → S.gives_pages old.old → ¬ T.gives_pages new.old) }
     ensures keeps { KeepsPages S.pages S.size S.reads_right S.gives_pages old.old old.new
         × KeepsPages T.pages T.size T.reads_right T.gives_pages new.old new.new }
 {
@@ -289,12 +295,13 @@ fn print_begun<S: PageSource, T: PageSource, W: Write>(
     opening: &[u8],
     out: &mut W,
 ) -> Result<(), Stop>
-    ensures ok { S.gives_pages old.old → T.gives_pages new.old → OnOk result (AreBegunPrinted (S.pages old.old)
+    ensures ok { S.reads_right old.old → T.reads_right new.old → OnOk result (AreBegunPrinted (S.pages old.old)
         (T.pages new.old) asked.entry.schemas (texts_of asked.entry.selected.names.now) asked.entry.form
         opening.now (W.contents out.old) (W.contents out.new)) }
-    ensures err { S.gives_pages old.old → T.gives_pages new.old → IfErr result (λ stop. AreBegunStopped
+    ensures err { S.reads_right old.old → T.reads_right new.old → IfErr result (λ stop. AreBegunStopped
         (S.pages old.old) (T.pages new.old) asked.entry.schemas (texts_of asked.entry.selected.names.now)
         asked.entry.form opening.now stop (W.contents out.old) (W.contents out.new)) }
+    ensures unread { IfErr result (λ stop. IsUnreadStop stop → S.gives_pages old.old → ¬ T.gives_pages new.old) }
     ensures keeps { KeepsPages S.pages S.size S.reads_right S.gives_pages old.old old.new
         × KeepsPages T.pages T.size T.reads_right T.gives_pages new.old new.new }
 {
@@ -379,13 +386,14 @@ fn print_framed<S: PageSource, T: PageSource, W: Write>(
     asked: Asked<'_>,
     out: &mut W,
 ) -> Result<(), Stop>
-    ensures ok { S.gives_pages old.old → T.gives_pages new.old → OnOk result (AreFramedPrinted (S.pages old.old)
+    ensures ok { S.reads_right old.old → T.reads_right new.old → OnOk result (AreFramedPrinted (S.pages old.old)
         (T.pages new.old) asked.entry.schemas (texts_of asked.entry.selected.names.now) asked.entry.form
         asked.entry.encoding (strays_of asked.entry) (W.contents out.old) (W.contents out.new)) }
-    ensures err { S.gives_pages old.old → T.gives_pages new.old → IfErr result (λ stop. AreFramedStopped
+    ensures err { S.reads_right old.old → T.reads_right new.old → IfErr result (λ stop. AreFramedStopped
         (S.pages old.old) (T.pages new.old) asked.entry.schemas (texts_of asked.entry.selected.names.now)
         asked.entry.form asked.entry.encoding (strays_of asked.entry) stop
         (W.contents out.old) (W.contents out.new)) }
+    ensures unread { IfErr result (λ stop. IsUnreadStop stop → S.gives_pages old.old → ¬ T.gives_pages new.old) }
     ensures keeps { KeepsPages S.pages S.size S.reads_right S.gives_pages old.old old.new
         × KeepsPages T.pages T.size T.reads_right T.gives_pages new.old new.new }
 {
@@ -427,12 +435,14 @@ pub fn print_changes<S: PageSource, T: PageSource, W: Write>(
     out: &mut W,
 ) -> Result<(), Stop>
     // What is printed are the changes of the tables, each once.
-    ensures ok { S.gives_pages old.old → T.gives_pages new.old → OnOk result (AreChangesPrinted (S.pages old.old)
+    ensures ok { S.reads_right old.old → T.reads_right new.old → OnOk result (AreChangesPrinted (S.pages old.old)
         (T.pages new.old) (texts_of selected.entry.names.now) form (W.contents out.old) (W.contents out.new)) }
     // The first of them are, and this is why the next one isn't.
-    ensures err { S.gives_pages old.old → T.gives_pages new.old → IfErr result (λ stop. AreChangesStopped
+    ensures err { S.reads_right old.old → T.reads_right new.old → IfErr result (λ stop. AreChangesStopped
         (S.pages old.old) (T.pages new.old) (texts_of selected.entry.names.now) form stop
         (W.contents out.old) (W.contents out.new)) }
+    // That a page couldn't be read is told only where a read failed.
+    ensures unread { IfErr result (λ stop. IsUnreadStop stop → S.gives_pages old.old → ¬ T.gives_pages new.old) }
     ensures keeps { KeepsPages S.pages S.size S.reads_right S.gives_pages old.old old.new
         × KeepsPages T.pages T.size T.reads_right T.gives_pages new.old new.new }
 {

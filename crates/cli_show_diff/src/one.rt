@@ -4,6 +4,7 @@ ghost use Rattle.std.specs.Io.KnownBytes.{Appends};
 ghost use Rattle.sqval.specs.Record.{most_bytes};
 ghost use Rattle.sqpage.specs.Source.{KeepsPages};
 ghost use Rattle.sqrows.specs.Cursor.{IsOver};
+ghost use Rattle.cli_show_rows.specs.Stops.{IsUnreadStop};
 ghost use Rattle.cli_change_text.specs.Refusals.{IsKept};
 ghost use Rattle.cli_show_diff.specs.Told.{IsOneTold};
 ghost use Rattle.cli_show_diff.specs.Stops.{IsOneToldUntil};
@@ -29,12 +30,13 @@ fn print_next<S: PageSource, W: Write>(
     out: &mut W,
 ) -> Result<bool, Stop>
     requires sized { S.size source.old ≡ rows.old.cells.size }
-    ensures ok { S.gives_pages source.old → IsOver (S.pages source.old) rows.old.cells → IfOk result (λ found.
+    ensures ok { S.reads_right source.old → IsOver (S.pages source.old) rows.old.cells → IfOk result (λ found.
         TellsRow (S.pages source.old) found comes style.entry rows.old rows.new
         (W.contents out.old) (W.contents out.new)) }
-    ensures err { S.gives_pages source.old → IsOver (S.pages source.old) rows.old.cells
+    ensures err { S.reads_right source.old → IsOver (S.pages source.old) rows.old.cells
         → IfErr result (RowStops (S.pages source.old) style.entry.writing style.entry.key style.entry.columns.now
         rows.old) }
+    ensures unread { IfErr result (λ stop. IsUnreadStop stop → ¬ S.gives_pages source.old) }
     ensures kept { IfErr result (λ stop. IsKept stop (W.contents out.old) (W.contents out.new)) }
     ensures size { (rows.new.cells.size ≡ rows.old.cells.size) × (rows.new.cells.usable ≡ rows.old.cells.usable)
         × (rows.new.limit ≡ rows.old.limit) }
@@ -65,10 +67,11 @@ pub(crate) fn print_one<S: PageSource, W: Write>(
     style: Style<'_>,
     out: &mut W,
 ) -> Result<(), Stop>
-    ensures ok { S.gives_pages source.old → OnOk result ((t : List ℕ) × IsOneTold (S.pages source.old) root comes
+    ensures ok { S.reads_right source.old → OnOk result ((t : List ℕ) × IsOneTold (S.pages source.old) root comes
         style.entry t × Appends (W.contents out.old) (W.contents out.new) t) }
-    ensures err { S.gives_pages source.old → IfErr result (λ stop. IsOneToldUntil (S.pages source.old) root comes
+    ensures err { S.reads_right source.old → IfErr result (λ stop. IsOneToldUntil (S.pages source.old) root comes
         style.entry stop (W.contents out.old) (W.contents out.new)) }
+    ensures unread { IfErr result (λ stop. IsUnreadStop stop → ¬ S.gives_pages source.old) }
     ensures keeps { KeepsPages S.pages S.size S.reads_right S.gives_pages source.old source.new }
 {
     let mut rows = match Rows::new(alloc, source, root, MOST_BYTES as u64) {

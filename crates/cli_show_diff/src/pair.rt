@@ -5,7 +5,7 @@ ghost use Rattle.sqpage.specs.Source.{KeepsPages};
 ghost use Rattle.cli_row_text.specs.declared.form.Notation.{Notation};
 ghost use Rattle.sqdeep.specs.Records.{encoding_of as named_encoding};
 ghost use Rattle.cli_show_rows.specs.Dumps.{IsMakingPrinted, form_in};
-ghost use Rattle.cli_show_rows.specs.Stops.{IsTableStopped};
+ghost use Rattle.cli_show_rows.specs.Stops.{IsTableStopped, IsUnreadStop};
 ghost use Rattle.cli_show_rows.specs.Tables.{IsTablePrinted};
 ghost use Rattle.cli_show_diff.specs.Pairs.{AreKept, IsBothPrinted, IsBothStopped, IsGonePrinted, IsGoneStopped};
 ghost use Rattle.cli_show_diff.specs.declared.form.ChangeForm.{ChangeForm};
@@ -77,11 +77,12 @@ fn print_script<S: PageSource, T: PageSource, W: Write>(
     tables: (&Object, &Object),
     out: &mut W,
 ) -> Result<(), Stop>
-    ensures ok { S.gives_pages old.old → T.gives_pages new.old → OnOk result (IsScriptPrinted (S.pages old.old)
+    ensures ok { S.reads_right old.old → T.reads_right new.old → OnOk result (IsScriptPrinted (S.pages old.old)
         (T.pages new.old) tables.entry.0.now tables.entry.1.now (W.contents out.old) (W.contents out.new)) }
-    ensures err { S.gives_pages old.old → T.gives_pages new.old → IfErr result (λ stop. IsScriptStopped
+    ensures err { S.reads_right old.old → T.reads_right new.old → IfErr result (λ stop. IsScriptStopped
         (S.pages old.old) (T.pages new.old) tables.entry.0.now tables.entry.1.now stop (W.contents out.old)
         (W.contents out.new)) }
+    ensures unread { IfErr result (λ stop. IsUnreadStop stop → S.gives_pages old.old → ¬ T.gives_pages new.old) }
     ensures keeps { KeepsPages S.pages S.size S.reads_right S.gives_pages old.old old.new
         × KeepsPages T.pages T.size T.reads_right T.gives_pages new.old new.new }
 {
@@ -99,12 +100,13 @@ fn print_script_named<S: PageSource, T: PageSource, W: Write>(
     tables: (&Object, &Object),
     out: &mut W,
 ) -> Result<(), Stop>
-    ensures ok { S.gives_pages old.old → T.gives_pages new.old → OnOk result (IsBothPrinted (S.pages old.old)
+    ensures ok { S.reads_right old.old → T.reads_right new.old → OnOk result (IsBothPrinted (S.pages old.old)
         (T.pages new.old) tables.entry.0.now tables.entry.1.now ChangeForm.Sql (W.contents out.old)
         (W.contents out.new)) }
-    ensures err { S.gives_pages old.old → T.gives_pages new.old → IfErr result (λ stop. IsBothStopped (S.pages old.old)
+    ensures err { S.reads_right old.old → T.reads_right new.old → IfErr result (λ stop. IsBothStopped (S.pages old.old)
         (T.pages new.old) tables.entry.0.now tables.entry.1.now ChangeForm.Sql stop (W.contents out.old)
         (W.contents out.new)) }
+    ensures unread { IfErr result (λ stop. IsUnreadStop stop → S.gives_pages old.old → ¬ T.gives_pages new.old) }
     ensures keeps { KeepsPages S.pages S.size S.reads_right S.gives_pages old.old old.new
         × KeepsPages T.pages T.size T.reads_right T.gives_pages new.old new.new }
 {
@@ -127,10 +129,11 @@ fn print_both_ways<S: PageSource, T: PageSource, W: Write>(
     form: ChangeForm,
     out: &mut W,
 ) -> Result<(), Stop>
-    ensures ok { S.gives_pages old.old → T.gives_pages new.old → OnOk result (IsBothPrinted (S.pages old.old)
+    ensures ok { S.reads_right old.old → T.reads_right new.old → OnOk result (IsBothPrinted (S.pages old.old)
         (T.pages new.old) tables.entry.0.now tables.entry.1.now form (W.contents out.old) (W.contents out.new)) }
-    ensures err { S.gives_pages old.old → T.gives_pages new.old → IfErr result (λ stop. IsBothStopped (S.pages old.old)
+    ensures err { S.reads_right old.old → T.reads_right new.old → IfErr result (λ stop. IsBothStopped (S.pages old.old)
         (T.pages new.old) tables.entry.0.now tables.entry.1.now form stop (W.contents out.old) (W.contents out.new)) }
+    ensures unread { IfErr result (λ stop. IsUnreadStop stop → S.gives_pages old.old → ¬ T.gives_pages new.old) }
     ensures keeps { KeepsPages S.pages S.size S.reads_right S.gives_pages old.old old.new
         × KeepsPages T.pages T.size T.reads_right T.gives_pages new.old new.new }
 {
@@ -156,11 +159,12 @@ fn print_gone<S: PageSource, W: Write>(
     form: ChangeForm,
     out: &mut W,
 ) -> Result<(), Stop>
-    ensures ok { S.gives_pages source.old → OnOk result (IsGonePrinted (S.pages source.old) form table.now
+    ensures ok { S.reads_right source.old → OnOk result (IsGonePrinted (S.pages source.old) form table.now
         (W.contents out.old) (W.contents out.new)) }
-    ensures err { S.gives_pages source.old → IfErr result (λ stop. IsGoneStopped
+    ensures err { S.reads_right source.old → IfErr result (λ stop. IsGoneStopped
         (S.pages source.old) form table.now stop
         (W.contents out.old) (W.contents out.new)) }
+    ensures unread { IfErr result (λ stop. IsUnreadStop stop → ¬ S.gives_pages source.old) }
     ensures keeps { KeepsPages S.pages S.size S.reads_right S.gives_pages source.old source.new }
 {
     match form {
@@ -188,12 +192,13 @@ fn print_made_in<S: PageSource, W: Write>(
     encoding: Encoding,
     out: &mut W,
 ) -> Result<(), Stop>
-    ensures ok { S.gives_pages source.old → encoding ≡ named_encoding (S.pages source.old)
+    ensures ok { S.reads_right source.old → encoding ≡ named_encoding (S.pages source.old)
         → OnOk result (IsMadePrinted (S.pages source.old) ChangeForm.Sql table.now
         (W.contents out.old) (W.contents out.new)) }
-    ensures err { S.gives_pages source.old → encoding ≡ named_encoding (S.pages source.old)
+    ensures err { S.reads_right source.old → encoding ≡ named_encoding (S.pages source.old)
         → IfErr result (λ stop. IsMadeStopped (S.pages source.old) ChangeForm.Sql
         table.now stop (W.contents out.old) (W.contents out.new)) }
+    ensures unread { IfErr result (λ stop. IsUnreadStop stop → ¬ S.gives_pages source.old) }
     ensures keeps { KeepsPages S.pages S.size S.reads_right S.gives_pages source.old source.new }
 {
     match print_making(alloc, encoding, table, out) {
@@ -217,10 +222,11 @@ fn print_made_named<S: PageSource, W: Write>(
     table: &Object,
     out: &mut W,
 ) -> Result<(), Stop>
-    ensures ok { S.gives_pages source.old → OnOk result (IsMadePrinted (S.pages source.old) ChangeForm.Sql table.now
+    ensures ok { S.reads_right source.old → OnOk result (IsMadePrinted (S.pages source.old) ChangeForm.Sql table.now
         (W.contents out.old) (W.contents out.new)) }
-    ensures err { S.gives_pages source.old → IfErr result (λ stop. IsMadeStopped (S.pages source.old) ChangeForm.Sql
+    ensures err { S.reads_right source.old → IfErr result (λ stop. IsMadeStopped (S.pages source.old) ChangeForm.Sql
         table.now stop (W.contents out.old) (W.contents out.new)) }
+    ensures unread { IfErr result (λ stop. IsUnreadStop stop → ¬ S.gives_pages source.old) }
     ensures keeps { KeepsPages S.pages S.size S.reads_right S.gives_pages source.old source.new }
 {
     match encoding_of(alloc, source) {
@@ -237,11 +243,12 @@ fn print_made<S: PageSource, W: Write>(
     form: ChangeForm,
     out: &mut W,
 ) -> Result<(), Stop>
-    ensures ok { S.gives_pages source.old → OnOk result (IsMadePrinted (S.pages source.old) form table.now
+    ensures ok { S.reads_right source.old → OnOk result (IsMadePrinted (S.pages source.old) form table.now
         (W.contents out.old) (W.contents out.new)) }
-    ensures err { S.gives_pages source.old → IfErr result (λ stop. IsMadeStopped
+    ensures err { S.reads_right source.old → IfErr result (λ stop. IsMadeStopped
         (S.pages source.old) form table.now stop
         (W.contents out.old) (W.contents out.new)) }
+    ensures unread { IfErr result (λ stop. IsUnreadStop stop → ¬ S.gives_pages source.old) }
     ensures keeps { KeepsPages S.pages S.size S.reads_right S.gives_pages source.old source.new }
 {
     match form {
@@ -266,11 +273,12 @@ fn print_gone_if<S: PageSource, W: Write>(
     form: ChangeForm,
     out: &mut W,
 ) -> Result<(), Stop>
-    ensures ok { S.gives_pages source.old → OnOk result (IsGoneIfPrinted (S.pages source.old) form table.entry
+    ensures ok { S.reads_right source.old → OnOk result (IsGoneIfPrinted (S.pages source.old) form table.entry
         (W.contents out.old) (W.contents out.new)) }
-    ensures err { S.gives_pages source.old → IfErr result (λ stop. IsGoneIfStopped
+    ensures err { S.reads_right source.old → IfErr result (λ stop. IsGoneIfStopped
         (S.pages source.old) form table.entry stop
         (W.contents out.old) (W.contents out.new)) }
+    ensures unread { IfErr result (λ stop. IsUnreadStop stop → ¬ S.gives_pages source.old) }
     ensures keeps { KeepsPages S.pages S.size S.reads_right S.gives_pages source.old source.new }
 {
     match table {
@@ -286,11 +294,12 @@ fn print_made_if<S: PageSource, W: Write>(
     form: ChangeForm,
     out: &mut W,
 ) -> Result<(), Stop>
-    ensures ok { S.gives_pages source.old → OnOk result (IsMadeIfPrinted (S.pages source.old) form table.entry
+    ensures ok { S.reads_right source.old → OnOk result (IsMadeIfPrinted (S.pages source.old) form table.entry
         (W.contents out.old) (W.contents out.new)) }
-    ensures err { S.gives_pages source.old → IfErr result (λ stop. IsMadeIfStopped
+    ensures err { S.reads_right source.old → IfErr result (λ stop. IsMadeIfStopped
         (S.pages source.old) form table.entry stop
         (W.contents out.old) (W.contents out.new)) }
+    ensures unread { IfErr result (λ stop. IsUnreadStop stop → ¬ S.gives_pages source.old) }
     ensures keeps { KeepsPages S.pages S.size S.reads_right S.gives_pages source.old source.new }
 {
     match table {
@@ -308,10 +317,11 @@ fn print_anew<S: PageSource, T: PageSource, W: Write>(
     form: ChangeForm,
     out: &mut W,
 ) -> Result<(), Stop>
-    ensures ok { S.gives_pages old.old → T.gives_pages new.old → OnOk result (IsAnewPrinted (S.pages old.old)
+    ensures ok { S.reads_right old.old → T.reads_right new.old → OnOk result (IsAnewPrinted (S.pages old.old)
         (T.pages new.old) pair.entry form (W.contents out.old) (W.contents out.new)) }
-    ensures err { S.gives_pages old.old → T.gives_pages new.old → IfErr result (λ stop. IsAnewStopped (S.pages old.old)
+    ensures err { S.reads_right old.old → T.reads_right new.old → IfErr result (λ stop. IsAnewStopped (S.pages old.old)
         (T.pages new.old) pair.entry form stop (W.contents out.old) (W.contents out.new)) }
+    ensures unread { IfErr result (λ stop. IsUnreadStop stop → S.gives_pages old.old → ¬ T.gives_pages new.old) }
     ensures keeps { KeepsPages S.pages S.size S.reads_right S.gives_pages old.old old.new
         × KeepsPages T.pages T.size T.reads_right T.gives_pages new.old new.new }
 {
@@ -330,10 +340,11 @@ pub(crate) fn print_pair<S: PageSource, T: PageSource, W: Write>(
     form: ChangeForm,
     out: &mut W,
 ) -> Result<(), Stop>
-    ensures ok { S.gives_pages old.old → T.gives_pages new.old → OnOk result (IsPairPrinted (S.pages old.old)
+    ensures ok { S.reads_right old.old → T.reads_right new.old → OnOk result (IsPairPrinted (S.pages old.old)
         (T.pages new.old) pair.entry form (W.contents out.old) (W.contents out.new)) }
-    ensures err { S.gives_pages old.old → T.gives_pages new.old → IfErr result (λ stop. IsPairStopped (S.pages old.old)
+    ensures err { S.reads_right old.old → T.reads_right new.old → IfErr result (λ stop. IsPairStopped (S.pages old.old)
         (T.pages new.old) pair.entry form stop (W.contents out.old) (W.contents out.new)) }
+    ensures unread { IfErr result (λ stop. IsUnreadStop stop → S.gives_pages old.old → ¬ T.gives_pages new.old) }
     ensures keeps { KeepsPages S.pages S.size S.reads_right S.gives_pages old.old old.new
         × KeepsPages T.pages T.size T.reads_right T.gives_pages new.old new.new }
 {

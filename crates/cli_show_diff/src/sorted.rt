@@ -2,6 +2,7 @@
 ghost use Rattle.std.specs.Prelude.{◌≡◌, ◌≢◌, ◌≤◌, ◌⊎◌, IfOk, IfErr, MatchOption, None, false, length, true};
 ghost use Rattle.sqval.specs.Bytes.{word};
 ghost use Rattle.sqpage.specs.Source.{KeepsPages};
+ghost use Rattle.cli_show_rows.specs.Stops.{IsUnreadStop};
 ghost use Rattle.cli_show_rows.specs.declared.stop.Stop.{Stop};
 ghost use Rattle.sqdeep.specs.Records.{encoding_of};
 ghost use Rattle.sqdeep.specs.Texts.{encoding_named};
@@ -40,9 +41,10 @@ fn numbers_in(bytes: &[u8]) -> Numbers
 
 /// The same of a database.
 fn numbers_of<S: PageSource>(alloc: Global, source: &mut S) -> Result<Numbers, Stop>
-    ensures ok { S.gives_pages source.old → IfOk result (λ numbers. (numbers.format ≡ format_of (S.pages source.old))
+    ensures ok { S.reads_right source.old → IfOk result (λ numbers. (numbers.format ≡ format_of (S.pages source.old))
         × (numbers.encoding ≡ encoding_of (S.pages source.old))) }
-    ensures err { S.gives_pages source.old → IfErr result (λ stop. stop ≡ Stop.NoMemory) }
+    ensures err { IfErr result (λ stop. (stop ≡ Stop.NoMemory) ⊎ IsUnreadStop stop) }
+    ensures unread { IfErr result (λ stop. IsUnreadStop stop → ¬ S.gives_pages source.old) }
     ensures keeps { KeepsPages S.pages S.size S.reads_right S.gives_pages source.old source.new }
 {
     if source.count() == 0 {
@@ -66,8 +68,9 @@ fn numbers_of<S: PageSource>(alloc: Global, source: &mut S) -> Result<Numbers, S
 
 /// The encoding of a database.
 pub(crate) fn encoding_of<S: PageSource>(alloc: Global, source: &mut S) -> Result<Encoding, Stop>
-    ensures ok { S.gives_pages source.old → IfOk result (λ encoding. encoding ≡ encoding_of (S.pages source.old)) }
-    ensures err { S.gives_pages source.old → IfErr result (λ stop. stop ≡ Stop.NoMemory) }
+    ensures ok { S.reads_right source.old → IfOk result (λ encoding. encoding ≡ encoding_of (S.pages source.old)) }
+    ensures err { IfErr result (λ stop. (stop ≡ Stop.NoMemory) ⊎ IsUnreadStop stop) }
+    ensures unread { IfErr result (λ stop. IsUnreadStop stop → ¬ S.gives_pages source.old) }
     ensures keeps { KeepsPages S.pages S.size S.reads_right S.gives_pages source.old source.new }
 {
     match numbers_of(alloc, source) {
@@ -152,9 +155,10 @@ pub(crate) fn sorted_in<S: PageSource>(
     source: &mut S,
     text: &[u8],
 ) -> Result<Sorted, Stop>
-    ensures ok { S.gives_pages source.old → IfOk result (λ sorted. IsSortedIn (S.pages source.old) text.now sorted.key
+    ensures ok { S.reads_right source.old → IfOk result (λ sorted. IsSortedIn (S.pages source.old) text.now sorted.key
         × (sorted.encoding ≡ encoding_of (S.pages source.old))) }
-    ensures err { S.gives_pages source.old → IfErr result (λ stop. stop ≡ Stop.NoMemory) }
+    ensures err { IfErr result (λ stop. (stop ≡ Stop.NoMemory) ⊎ IsUnreadStop stop) }
+    ensures unread { IfErr result (λ stop. IsUnreadStop stop → ¬ S.gives_pages source.old) }
     ensures keeps { KeepsPages S.pages S.size S.reads_right S.gives_pages source.old source.new }
 {
     let numbers = match numbers_of(alloc, source) {
@@ -197,10 +201,11 @@ pub(crate) fn sorted_between<S: PageSource, T: PageSource>(
     new: &mut T,
     text: &[u8],
 ) -> Result<Sorted, Stop>
-    ensures ok { S.gives_pages old.old → T.gives_pages new.old → IfOk result (λ sorted.
+    ensures ok { S.reads_right old.old → T.reads_right new.old → IfOk result (λ sorted.
         AreSortedBy (S.pages old.old) (T.pages new.old) text.now sorted.key
         × (sorted.encoding ≡ encoding_of (S.pages old.old))) }
-    ensures err { S.gives_pages old.old → T.gives_pages new.old → IfErr result (λ stop. stop ≡ Stop.NoMemory) }
+    ensures err { IfErr result (λ stop. (stop ≡ Stop.NoMemory) ⊎ IsUnreadStop stop) }
+    ensures unread { IfErr result (λ stop. IsUnreadStop stop → S.gives_pages old.old → ¬ T.gives_pages new.old) }
     ensures keeps { KeepsPages S.pages S.size S.reads_right S.gives_pages old.old old.new
         × KeepsPages T.pages T.size T.reads_right T.gives_pages new.old new.new }
 {

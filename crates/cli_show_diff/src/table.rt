@@ -6,6 +6,7 @@ ghost use Rattle.cli_show_diff.specs.Tables.{IsKeptPrinted, IsSidePrinted, IsUnn
 ghost use Rattle.cli_show_diff.specs.Tables.{IsKeptStopped, IsSideStopped, IsStyleOf, are_nameable, condition_start};
 ghost use Rattle.sqdeep.specs.Records.{encoding_of};
 ghost use Rattle.cli_show_diff.specs.Sorted.{AreSortedBy, IsSortedIn};
+ghost use Rattle.cli_show_rows.specs.Stops.{IsUnreadStop};
 ghost use Rattle.cli_show_rows.specs.declared.stop.Stop.{Stop};
 
 use crate::both::print_both;
@@ -132,15 +133,16 @@ fn print_kept_in<S: PageSource, T: PageSource, W: Write>(
     out: &mut W,
 ) -> Result<(), Stop>
     requires of { IsStyleOf style.encoding tables.0.now style.writing style }
-    ensures ok { S.gives_pages old.old → T.gives_pages new.old → style.entry.encoding ≡ encoding_of (S.pages old.old)
+    ensures ok { S.reads_right old.old → T.reads_right new.old → style.entry.encoding ≡ encoding_of (S.pages old.old)
         → AreSortedBy (S.pages old.old) (T.pages new.old) tables.entry.0.now.sql.items style.entry.key
         → OnOk result (IsKeptPrinted (S.pages old.old) (T.pages new.old)
         tables.entry.0.now tables.entry.1.now style.entry.writing (W.contents out.old) (W.contents out.new)) }
-    ensures err { S.gives_pages old.old → T.gives_pages new.old → style.entry.encoding ≡ encoding_of (S.pages old.old)
+    ensures err { S.reads_right old.old → T.reads_right new.old → style.entry.encoding ≡ encoding_of (S.pages old.old)
         → AreSortedBy (S.pages old.old) (T.pages new.old) tables.entry.0.now.sql.items style.entry.key
         → IfErr result (λ stop. IsKeptStopped (S.pages old.old)
         (T.pages new.old) tables.entry.0.now tables.entry.1.now style.entry.writing stop
         (W.contents out.old) (W.contents out.new)) }
+    ensures unread { IfErr result (λ stop. IsUnreadStop stop → S.gives_pages old.old → ¬ T.gives_pages new.old) }
     ensures keeps { KeepsPages S.pages S.size S.reads_right S.gives_pages old.old old.new
         × KeepsPages T.pages T.size T.reads_right T.gives_pages new.old new.new }
 {
@@ -156,15 +158,16 @@ fn print_kept_by<S: PageSource, T: PageSource, W: Write>(
     by: (Writing, Sorted),
     out: &mut W,
 ) -> Result<(), Stop>
-    ensures ok { S.gives_pages old.old → T.gives_pages new.old → by.1.encoding ≡ encoding_of (S.pages old.old)
+    ensures ok { S.reads_right old.old → T.reads_right new.old → by.1.encoding ≡ encoding_of (S.pages old.old)
         → AreSortedBy (S.pages old.old) (T.pages new.old) tables.entry.0.now.sql.items by.1.key
         → OnOk result (IsKeptPrinted (S.pages old.old) (T.pages new.old)
         tables.entry.0.now tables.entry.1.now by.0 (W.contents out.old) (W.contents out.new)) }
-    ensures err { S.gives_pages old.old → T.gives_pages new.old → by.1.encoding ≡ encoding_of (S.pages old.old)
+    ensures err { S.reads_right old.old → T.reads_right new.old → by.1.encoding ≡ encoding_of (S.pages old.old)
         → AreSortedBy (S.pages old.old) (T.pages new.old) tables.entry.0.now.sql.items by.1.key
         → IfErr result (λ stop. IsKeptStopped (S.pages old.old)
         (T.pages new.old) tables.entry.0.now tables.entry.1.now by.0 stop (W.contents out.old)
         (W.contents out.new)) }
+    ensures unread { IfErr result (λ stop. IsUnreadStop stop → S.gives_pages old.old → ¬ T.gives_pages new.old) }
     ensures keeps { KeepsPages S.pages S.size S.reads_right S.gives_pages old.old old.new
         × KeepsPages T.pages T.size T.reads_right T.gives_pages new.old new.new }
 {
@@ -204,11 +207,12 @@ pub(crate) fn print_kept<S: PageSource, T: PageSource, W: Write>(
     writing: Writing,
     out: &mut W,
 ) -> Result<(), Stop>
-    ensures ok { S.gives_pages old.old → T.gives_pages new.old → OnOk result (IsKeptPrinted (S.pages old.old)
+    ensures ok { S.reads_right old.old → T.reads_right new.old → OnOk result (IsKeptPrinted (S.pages old.old)
         (T.pages new.old) tables.entry.0.now tables.entry.1.now writing (W.contents out.old) (W.contents out.new)) }
-    ensures err { S.gives_pages old.old → T.gives_pages new.old → IfErr result (λ stop. IsKeptStopped (S.pages old.old)
+    ensures err { S.reads_right old.old → T.reads_right new.old → IfErr result (λ stop. IsKeptStopped (S.pages old.old)
         (T.pages new.old) tables.entry.0.now tables.entry.1.now writing stop (W.contents out.old)
         (W.contents out.new)) }
+    ensures unread { IfErr result (λ stop. IsUnreadStop stop → S.gives_pages old.old → ¬ T.gives_pages new.old) }
     ensures keeps { KeepsPages S.pages S.size S.reads_right S.gives_pages old.old old.new
         × KeepsPages T.pages T.size T.reads_right T.gives_pages new.old new.new }
 {
@@ -228,14 +232,15 @@ fn print_side_in<S: PageSource, W: Write>(
     out: &mut W,
 ) -> Result<(), Stop>
     requires of { IsStyleOf style.encoding table.now style.writing style }
-    ensures ok { S.gives_pages source.old → style.entry.encoding ≡ encoding_of (S.pages source.old)
+    ensures ok { S.reads_right source.old → style.entry.encoding ≡ encoding_of (S.pages source.old)
         → IsSortedIn (S.pages source.old) table.now.sql.items style.entry.key
         → OnOk result (IsSidePrinted (S.pages source.old) table.now comes
         style.entry.writing (W.contents out.old) (W.contents out.new)) }
-    ensures err { S.gives_pages source.old → style.entry.encoding ≡ encoding_of (S.pages source.old)
+    ensures err { S.reads_right source.old → style.entry.encoding ≡ encoding_of (S.pages source.old)
         → IsSortedIn (S.pages source.old) table.now.sql.items style.entry.key
         → IfErr result (λ stop. IsSideStopped (S.pages source.old) table.now comes
         style.entry.writing stop (W.contents out.old) (W.contents out.new)) }
+    ensures unread { IfErr result (λ stop. IsUnreadStop stop → ¬ S.gives_pages source.old) }
     ensures keeps { KeepsPages S.pages S.size S.reads_right S.gives_pages source.old source.new }
 {
     print_one(alloc, source, table.root, comes, style, out)
@@ -250,14 +255,15 @@ fn print_side_by<S: PageSource, W: Write>(
     by: (Writing, Sorted),
     out: &mut W,
 ) -> Result<(), Stop>
-    ensures ok { S.gives_pages source.old → by.1.encoding ≡ encoding_of (S.pages source.old)
+    ensures ok { S.reads_right source.old → by.1.encoding ≡ encoding_of (S.pages source.old)
         → IsSortedIn (S.pages source.old) table.now.sql.items by.1.key
         → OnOk result (IsSidePrinted (S.pages source.old) table.now comes by.0
         (W.contents out.old) (W.contents out.new)) }
-    ensures err { S.gives_pages source.old → by.1.encoding ≡ encoding_of (S.pages source.old)
+    ensures err { S.reads_right source.old → by.1.encoding ≡ encoding_of (S.pages source.old)
         → IsSortedIn (S.pages source.old) table.now.sql.items by.1.key
         → IfErr result (λ stop. IsSideStopped (S.pages source.old) table.now comes
         by.0 stop (W.contents out.old) (W.contents out.new)) }
+    ensures unread { IfErr result (λ stop. IsUnreadStop stop → ¬ S.gives_pages source.old) }
     ensures keeps { KeepsPages S.pages S.size S.reads_right S.gives_pages source.old source.new }
 {
     let (writing, Sorted { key, encoding }) = by;
@@ -292,10 +298,11 @@ pub(crate) fn print_side<S: PageSource, W: Write>(
     writing: Writing,
     out: &mut W,
 ) -> Result<(), Stop>
-    ensures ok { S.gives_pages source.old → OnOk result (IsSidePrinted (S.pages source.old) table.now comes writing
+    ensures ok { S.reads_right source.old → OnOk result (IsSidePrinted (S.pages source.old) table.now comes writing
         (W.contents out.old) (W.contents out.new)) }
-    ensures err { S.gives_pages source.old → IfErr result (λ stop. IsSideStopped (S.pages source.old) table.now comes
+    ensures err { S.reads_right source.old → IfErr result (λ stop. IsSideStopped (S.pages source.old) table.now comes
         writing stop (W.contents out.old) (W.contents out.new)) }
+    ensures unread { IfErr result (λ stop. IsUnreadStop stop → ¬ S.gives_pages source.old) }
     ensures keeps { KeepsPages S.pages S.size S.reads_right S.gives_pages source.old source.new }
 {
     match sorted_in(alloc, source, &table.sql) {

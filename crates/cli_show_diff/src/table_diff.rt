@@ -5,7 +5,7 @@ ghost use Rattle.sqpage.specs.Source.{KeepsPages};
 ghost use Rattle.sqrows.specs.Rows.{Row as SpecRow};
 ghost use Rattle.sqrows.specs.RowCursor.{IsAtRow};
 ghost use Rattle.sqdiff.specs.Changes.{Change};
-ghost use Rattle.sqdiff.specs.DiffCursor.{AreNotBegun};
+ghost use Rattle.sqdiff.specs.DiffCursor.{AreNotBegun, UnlessDiff};
 ghost use Rattle.cli_show_diff.specs.Sorted.{HasChangesBy};
 ghost use Rattle.cli_show_diff.specs.internal.TableDiffs.{AreStanding, ChangesLeft, ChangesMove, DiffRefused};
 ghost use Rattle.cli_show_diff.specs.internal.TableDiffs.{new_rows, old_rows};
@@ -33,11 +33,12 @@ fn by_rowid<S: PageSource, T: PageSource>(
     new: &mut T,
     roots: (u32, u32),
 ) -> Result<TableDiff, DiffError>
-    ensures ok { S.gives_pages old.old → T.gives_pages new.old → IfOk result (λ diff. AreStanding (S.pages old.old)
+    ensures ok { S.reads_right old.old → T.reads_right new.old → IfOk result (λ diff. AreStanding (S.pages old.old)
         (T.pages new.old) diff × ((cs : List Change) → HasChangesBy None (S.pages old.old) roots.0 (T.pages new.old)
         roots.1 cs ↔ ChangesLeft (S.pages old.old) (T.pages new.old) diff cs)) }
-    ensures err { S.gives_pages old.old → T.gives_pages new.old → IfErr result
-        (AreNotBegun (S.pages old.old) roots.0 (T.pages new.old) roots.1) }
+    ensures err { S.reads_right old.old → T.reads_right new.old → IfErr result
+        (λ e. UnlessDiff (S.gives_pages old.old) (T.gives_pages new.old) e
+        (AreNotBegun (S.pages old.old) roots.0 (T.pages new.old) roots.1 e)) }
     ensures size { IfOk result (λ diff. ((old_rows diff).cells.size ≡ S.size old.old)
         × ((new_rows diff).cells.size ≡ T.size new.old)) }
     ensures limit { IfOk result (λ diff. ((old_rows diff).limit ≡ most_bytes) × ((new_rows diff).limit ≡ most_bytes)) }
@@ -58,11 +59,12 @@ fn by_key<S: PageSource, T: PageSource>(
     roots: (u32, u32),
     key: KeyOrder,
 ) -> Result<TableDiff, DiffError>
-    ensures ok { S.gives_pages old.old → T.gives_pages new.old → IfOk result (λ diff. AreStanding (S.pages old.old)
+    ensures ok { S.reads_right old.old → T.reads_right new.old → IfOk result (λ diff. AreStanding (S.pages old.old)
         (T.pages new.old) diff × ((cs : List Change) → HasChangesBy (Some key) (S.pages old.old) roots.0
         (T.pages new.old) roots.1 cs ↔ ChangesLeft (S.pages old.old) (T.pages new.old) diff cs)) }
-    ensures err { S.gives_pages old.old → T.gives_pages new.old → IfErr result
-        (AreNotBegun (S.pages old.old) roots.0 (T.pages new.old) roots.1) }
+    ensures err { S.reads_right old.old → T.reads_right new.old → IfErr result
+        (λ e. UnlessDiff (S.gives_pages old.old) (T.gives_pages new.old) e
+        (AreNotBegun (S.pages old.old) roots.0 (T.pages new.old) roots.1 e)) }
     ensures size { IfOk result (λ diff. ((old_rows diff).cells.size ≡ S.size old.old)
         × ((new_rows diff).cells.size ≡ T.size new.old)) }
     ensures limit { IfOk result (λ diff. ((old_rows diff).limit ≡ most_bytes) × ((new_rows diff).limit ≡ most_bytes)) }
@@ -85,11 +87,12 @@ impl TableDiff {
         roots: (u32, u32),
         key: Option<KeyOrder>,
     ) -> Result<TableDiff, DiffError>
-        ensures ok { S.gives_pages old.old → T.gives_pages new.old → IfOk result (λ diff. AreStanding (S.pages old.old)
+        ensures ok { S.reads_right old.old → T.reads_right new.old → IfOk result (λ diff. AreStanding (S.pages old.old)
             (T.pages new.old) diff × ((cs : List Change) → HasChangesBy key (S.pages old.old) roots.0 (T.pages new.old)
             roots.1 cs ↔ ChangesLeft (S.pages old.old) (T.pages new.old) diff cs)) }
-        ensures err { S.gives_pages old.old → T.gives_pages new.old → IfErr result
-            (AreNotBegun (S.pages old.old) roots.0 (T.pages new.old) roots.1) }
+        ensures err { S.reads_right old.old → T.reads_right new.old → IfErr result
+            (λ e. UnlessDiff (S.gives_pages old.old) (T.gives_pages new.old) e
+            (AreNotBegun (S.pages old.old) roots.0 (T.pages new.old) roots.1 e)) }
         ensures size { IfOk result (λ diff. ((old_rows diff).cells.size ≡ S.size old.old)
             × ((new_rows diff).cells.size ≡ T.size new.old)) }
         ensures limit { IfOk result (λ diff. ((old_rows diff).limit ≡ most_bytes)
@@ -112,14 +115,15 @@ impl TableDiff {
     ) -> Result<Option<Kind>, DiffError>
         requires sized { (S.size old.old ≡ (old_rows self.old).cells.size)
             × (T.size new.old ≡ (new_rows self.old).cells.size) }
-        ensures ok { S.gives_pages old.old → T.gives_pages new.old
+        ensures ok { S.reads_right old.old → T.reads_right new.old
             → AreStanding (S.pages old.old) (T.pages new.old) self.old
             → IfOk result (λ found. AreStanding (S.pages old.old) (T.pages new.old) self.new × ((cs : List Change)
             → ChangesLeft (S.pages old.old) (T.pages new.old) self.old cs
             ↔ ChangesMove (S.pages old.old) (T.pages new.old) found cs self.new)) }
-        ensures err { S.gives_pages old.old → T.gives_pages new.old
+        ensures err { S.reads_right old.old → T.reads_right new.old
             → AreStanding (S.pages old.old) (T.pages new.old) self.old
-            → IfErr result (DiffRefused (S.pages old.old) (T.pages new.old) self.old) }
+            → IfErr result (λ e. UnlessDiff (S.gives_pages old.old) (T.gives_pages new.old) e
+            (DiffRefused (S.pages old.old) (T.pages new.old) self.old e)) }
         ensures same { ((old_rows self.new).cells.size ≡ (old_rows self.old).cells.size)
             × ((new_rows self.new).cells.size ≡ (new_rows self.old).cells.size)
             × ((old_rows self.new).limit ≡ (old_rows self.old).limit)

@@ -1,6 +1,7 @@
 //! The changes of tables, one behind the other.
 ghost use Rattle.std.specs.Prelude.{◌≡◌, OnOk, IfErr, IsTrue, MatchOption, IfSome, false};
 ghost use Rattle.sqpage.specs.Source.{KeepsPages};
+ghost use Rattle.cli_show_rows.specs.Stops.{IsUnreadStop};
 ghost use Rattle.cli_show_diff.specs.Turns.{AreTurnsPrinted, AreTurnsStopped, IsAmong, IsInTurn, IsPairOf};
 ghost use Rattle.cli_show_diff.specs.Turns.{IsAtPrinted, IsAtStopped};
 
@@ -73,10 +74,11 @@ fn print_at<S: PageSource, T: PageSource, W: Write>(
     form: ChangeForm,
     out: &mut W,
 ) -> Result<(), Stop>
-    ensures ok { S.gives_pages old.old → T.gives_pages new.old → OnOk result (IsAtPrinted (S.pages old.old)
+    ensures ok { S.reads_right old.old → T.reads_right new.old → OnOk result (IsAtPrinted (S.pages old.old)
         (T.pages new.old) at.entry.1 form at.entry.0.now (W.contents out.old) (W.contents out.new)) }
-    ensures err { S.gives_pages old.old → T.gives_pages new.old → IfErr result (λ stop. IsAtStopped (S.pages old.old)
+    ensures err { S.reads_right old.old → T.reads_right new.old → IfErr result (λ stop. IsAtStopped (S.pages old.old)
         (T.pages new.old) at.entry.1 form at.entry.0.now stop (W.contents out.old) (W.contents out.new)) }
+    ensures unread { IfErr result (λ stop. IsUnreadStop stop → S.gives_pages old.old → ¬ T.gives_pages new.old) }
     ensures keeps { KeepsPages S.pages S.size S.reads_right S.gives_pages old.old old.new
         × KeepsPages T.pages T.size T.reads_right T.gives_pages new.old new.new }
 {
@@ -95,11 +97,12 @@ pub(crate) fn print_turn<S: PageSource, T: PageSource, W: Write>(
     form: ChangeForm,
     out: &mut W,
 ) -> Result<(), Stop>
-    ensures ok { S.gives_pages old.old → T.gives_pages new.old → OnOk result (AreTurnsPrinted (S.pages old.old)
+    ensures ok { S.reads_right old.old → T.reads_right new.old → OnOk result (AreTurnsPrinted (S.pages old.old)
         (T.pages new.old) turn.entry form turn.entry.objects.now (W.contents out.old) (W.contents out.new)) }
-    ensures err { S.gives_pages old.old → T.gives_pages new.old → IfErr result (λ stop. AreTurnsStopped
+    ensures err { S.reads_right old.old → T.reads_right new.old → IfErr result (λ stop. AreTurnsStopped
         (S.pages old.old)
         (T.pages new.old) turn.entry form turn.entry.objects.now stop (W.contents out.old) (W.contents out.new)) }
+    ensures unread { IfErr result (λ stop. IsUnreadStop stop → S.gives_pages old.old → ¬ T.gives_pages new.old) }
     ensures keeps { KeepsPages S.pages S.size S.reads_right S.gives_pages old.old old.new
         × KeepsPages T.pages T.size T.reads_right T.gives_pages new.old new.new }
 {

@@ -69,7 +69,7 @@ print_written print_errors.Behind before after t h = h
 print_written (print_errors.Write e) before after t h = tt
 
 -- that a page couldn't be read, as it is told
-unread_row : (e : RowsError) → IsUnreadStop (stop_of_row e) → IsUnreadRow e
+pub unread_row : (e : RowsError) → IsUnreadStop (stop_of_row e) → IsUnreadRow e
 unread_row (row_errors.Tree e) is = is
 unread_row (row_errors.Payload (payload_errors.Chain e)) is = is
 unread_row (row_errors.Payload payload_errors.TooLong) none = none

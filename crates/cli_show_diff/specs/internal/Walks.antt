@@ -71,9 +71,9 @@ TellsRow d true comes style old new before after =
     × IsTextIn style (side_of comes row) t × Appends before after t × Passes d old new row
 TellsRow d false comes style old new before after = RowsLeft d old [] × (before ≡ after)
 
--- a fault of the tree at the next row, or of its payload
+-- a fault of the tree at the next row, or of its payload, unless a page couldn't be read
 abbrev pub RowsFault : Database → Rows → CheckError → Type 0
-RowsFault d cursor f = (f.fault ≢ faults.Source) × (f.fault ≢ faults.NoMemory → NextHolds d cursor (HasNoPayload d))
+RowsFault d cursor f = f.fault ≢ faults.Source → f.fault ≢ faults.NoMemory → NextHolds d cursor (HasNoPayload d)
 
 -- Why the next row isn't.
 abbrev pub RowStops : Database → Writing → (key : Option KeyOrder) → Columns → Rows → Stop → Type 0

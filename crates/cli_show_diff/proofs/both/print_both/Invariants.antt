@@ -14,7 +14,7 @@ invariant-turns g l = record {
   old_limit : (old_rows l.diff).limit ≡ most_bytes;
   new_limit : (new_rows l.diff).limit ≡ most_bytes;
   same : l.told ≡ record l.style { before = l.told.before };
-  standing : g.S.PageSource.gives_pages l.fn.old → g.T.PageSource.gives_pages l.fn.new → AreStanding (g.S.PageSource.pages l.fn.old) (g.T.PageSource.pages l.fn.new) l.diff;
-  written : g.S.PageSource.gives_pages l.fn.old → g.T.PageSource.gives_pages l.fn.new
+  standing : g.S.PageSource.reads_right l.fn.old → g.T.PageSource.reads_right l.fn.new → AreStanding (g.S.PageSource.pages l.fn.old) (g.T.PageSource.pages l.fn.new) l.diff;
+  written : g.S.PageSource.reads_right l.fn.old → g.T.PageSource.reads_right l.fn.new
       → AreWritten (g.S.PageSource.pages l.fn.old) l.roots.0 (g.T.PageSource.pages l.fn.new) l.roots.1 l.style l.told.before.now l.diff (g.W.Write.contents l.fn.out) (g.W.Write.contents l.out);
 }

@@ -9,6 +9,8 @@ use Rattle.cli_show_diff.specs.internal.TableDiffs.{new_rows, old_rows}
 use Rattle.cli_show_diff.specs.internal.Walks.{FoundRefused, IsOnlyChange}
 use Rattle.cli_show_diff.proofs.ChangesFound.{only_changed, own_old, own_new, record_refused, unwritten}
 use Rattle.cli_show_diff.proofs.Answered.{on_ok, on_err}
+use Rattle.cli_show_rows.specs.Stops.{IsUnreadStop}
+use Rattle.cli_show_diff.proofs.UnreadStops.{unwritten_read}
 use Rattle.cli_show_diff.proofs.both.write_both.Goals as goal
 
 pub returns-clause-ok : goal.returns-clause-ok
@@ -39,3 +41,11 @@ pub returns-in-Err-new_row-clause-err : goal.returns-in-Err-new_row-clause-err
 returns-in-Err-new_row-clause-err g c =
     let style = c.args.style in
     record_refused c.args.diff.now Changed style.writing style.key style.columns.now (new_rows c.args.diff.now) (own_new c.args.diff.now) c.in-Err-new_row.error c.in-Err-new_row.ensures.err
+
+pub returns-clause-read : goal.returns-clause-read
+returns-clause-read g c =
+    let was : Row = record { rowid = c.in-Ok.row.rowid; values = c.in-Ok.row.values } in
+    let is : Row = record { rowid = c.in-Ok-new_row.row.rowid; values = c.in-Ok-new_row.row.values } in
+    let style = c.args.style in
+    on_err c.write_changed.result (IsUnwritten style.writing style.key style.columns.now (changed was is)) (λ stop. ¬ IsUnreadStop stop)
+    (unwritten_read style.writing style.key style.columns.now (changed was is)) c.write_changed.ensures.err

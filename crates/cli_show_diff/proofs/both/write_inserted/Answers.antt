@@ -9,6 +9,8 @@ use Rattle.cli_show_diff.specs.internal.TableDiffs.{new_rows}
 use Rattle.cli_show_diff.specs.internal.Walks.{FoundRefused, IsOnlyChange}
 use Rattle.cli_show_diff.proofs.ChangesFound.{only_inserted, own_inserted, record_refused, unwritten}
 use Rattle.cli_show_diff.proofs.Answered.{on_ok, on_err}
+use Rattle.cli_show_rows.specs.Stops.{IsUnreadStop}
+use Rattle.cli_show_diff.proofs.UnreadStops.{unwritten_read}
 use Rattle.cli_show_diff.proofs.both.write_inserted.Goals as goal
 
 pub returns-in-Ok-clause-ok : goal.returns-in-Ok-clause-ok
@@ -31,3 +33,10 @@ pub returns-in-Err-clause-err : goal.returns-in-Err-clause-err
 returns-in-Err-clause-err g c =
     let style = c.args.style in
     record_refused c.args.diff.now Inserted style.writing style.key style.columns.now (new_rows c.args.diff.now) (own_inserted c.args.diff.now) c.in-Err.error c.in-Err.ensures.err
+
+pub returns-in-Ok-clause-read : goal.returns-in-Ok-clause-read
+returns-in-Ok-clause-read g c =
+    let row : Row = record { rowid = c.in-Ok.row.rowid; values = c.in-Ok.row.values } in
+    let style = c.args.style in
+    on_err c.write_one_side.result (IsUnwritten style.writing style.key style.columns.now (inserted row)) (λ stop. ¬ IsUnreadStop stop)
+    (unwritten_read style.writing style.key style.columns.now (inserted row)) c.write_one_side.ensures.err

@@ -5,7 +5,7 @@ use Rattle.cli_show_diff.proofs.Answered.{on_err, on_ok}
 use Rattle.cli_show_diff.proofs.changes.print_begun.Goals as goal
 
 pub returns-in-Ok-clause-ok : goal.returns-in-Ok-clause-ok
-returns-in-Ok-clause-ok g c = λ gives too.
+returns-in-Ok-clause-ok g c = λ right too.
     let d = g.S.PageSource.pages c.args.old.now in
     let e = g.T.PageSource.pages c.args.new.now in
     let old = g.W.Write.contents c.args.out.now in
@@ -14,10 +14,10 @@ returns-in-Ok-clause-ok g c = λ gives too.
     let asked = c.args.asked in
     let names = texts_of asked.selected.names.now in
     on_ok c.print_asked.result (AreAskedPrinted d e asked.schemas names asked.form mid new) (AreBegunPrinted d e asked.schemas names asked.form c.args.opening.now old new)
-    (λ w. (mid, c.in-Ok.ensures.bytes, w)) (c.print_asked.ensures.ok gives too)
+    (λ w. (mid, c.in-Ok.ensures.bytes, w)) (c.print_asked.ensures.ok right too)
 
 pub returns-in-Ok-clause-err : goal.returns-in-Ok-clause-err
-returns-in-Ok-clause-err g c = λ gives too.
+returns-in-Ok-clause-err g c = λ right too.
     let d = g.S.PageSource.pages c.args.old.now in
     let e = g.T.PageSource.pages c.args.new.now in
     let old = g.W.Write.contents c.args.out.now in
@@ -26,4 +26,4 @@ returns-in-Ok-clause-err g c = λ gives too.
     let asked = c.args.asked in
     let names = texts_of asked.selected.names.now in
     on_err c.print_asked.result (λ stop. AreAskedStopped d e asked.schemas names asked.form stop mid new) (λ stop. AreBegunStopped d e asked.schemas names asked.form c.args.opening.now stop old new)
-    (λ stop w. inr (mid, c.in-Ok.ensures.bytes, w)) (c.print_asked.ensures.err gives too)
+    (λ stop w. inr (mid, c.in-Ok.ensures.bytes, w)) (c.print_asked.ensures.err right too)

@@ -25,20 +25,20 @@ loop-name-preserved g c =
         same_pages = k.1.same_pages ∙ i.kept_new.same_pages;
         same_size = k.1.same_size ∙ i.kept_new.same_size;
       };
-      taken = λ gives too.
+      taken = λ right too.
           let before = g.W.Write.contents c.args.out.now in
           let mid = g.W.Write.contents c.loop-name.out in
           let after = g.W.Write.contents c.print_named.new.out in
-          let found = c.in-Ok.ensures.ok (i.kept_old.still_gives gives) (i.kept_new.still_gives too) in
+          let found = c.in-Ok.ensures.ok (i.kept_old.still_right right) (i.kept_new.still_right too) in
           let name = c.as_bytes.result.now in
           let of_old = subst (λ (p : Database). IsNamedPrinted p (g.T.PageSource.pages c.loop-name.new) schemas name c.args.form mid after) i.kept_old.same_pages found in
           let of_both = subst (λ (p : Database). IsNamedPrinted d p schemas name c.args.form mid after) i.kept_new.same_pages of_old in
           let it = subst (λ (n : List ℕ). IsNamedPrinted d e schemas n c.args.form mid after) c.as_bytes.ensures.value of_both in
-          names_more d e schemas c.args.form names c.loop-name.name-index _ before mid after c.loop-name-test.true (i.taken gives too) it;
+          names_more d e schemas c.args.form names c.loop-name.name-index _ before mid after c.loop-name-test.true (i.taken right too) it;
     }
 
 pub returns-in-Err-clause-err : goal.returns-in-Err-clause-err
-returns-in-Err-clause-err g c = λ gives too.
+returns-in-Err-clause-err g c = λ right too.
     let i = c.loop-name.invariant in
     let d = g.S.PageSource.pages c.args.old.now in
     let e = g.T.PageSource.pages c.args.new.now in
@@ -50,8 +50,11 @@ returns-in-Err-clause-err g c = λ gives too.
     let after = g.W.Write.contents c.print_named.new.out in
     let stop = c.in-Err.stop in
     let name = c.as_bytes.result.now in
-    let found = c.in-Err.ensures.err (i.kept_old.still_gives gives) (i.kept_new.still_gives too) in
+    let found = c.in-Err.ensures.err (i.kept_old.still_right right) (i.kept_new.still_right too) in
     let of_old = subst (λ (p : Database). IsNamedStopped p (g.T.PageSource.pages c.loop-name.new) schemas name c.args.form stop mid after) i.kept_old.same_pages found in
     let of_both = subst (λ (p : Database). IsNamedStopped d p schemas name c.args.form stop mid after) i.kept_new.same_pages of_old in
     let it = subst (λ (n : List ℕ). IsNamedStopped d e schemas n c.args.form stop mid after) c.as_bytes.ensures.value of_both in
-    (at, _, mid, text_at names at _ c.loop-name-test.true, first_texts d e schemas c.args.form names at before mid (i.taken gives too), it)
+    (at, _, mid, text_at names at _ c.loop-name-test.true, first_texts d e schemas c.args.form names at before mid (i.taken right too), it)
+
+pub returns-in-Err-clause-unread : goal.returns-in-Err-clause-unread
+returns-in-Err-clause-unread g c = λ is gives too. c.in-Err.ensures.unread is (c.loop-name.invariant.kept_old.still_gives gives) (c.loop-name.invariant.kept_new.still_gives too)

@@ -11,6 +11,6 @@ invariant-turns g l = record {
   sized : l.rows.cells.size ≡ g.S.PageSource.size l.fn.source;
   limited : l.rows.limit ≡ most_bytes;
   same : l.told ≡ record l.style { before = l.told.before };
-  over : g.S.PageSource.gives_pages l.fn.source → IsOver (g.S.PageSource.pages l.fn.source) l.rows.cells;
-  written : g.S.PageSource.gives_pages l.fn.source → AreRowsWritten (g.S.PageSource.pages l.fn.source) l.root l.comes l.style l.told.before.now l.rows (g.W.Write.contents l.fn.out) (g.W.Write.contents l.out);
+  over : g.S.PageSource.reads_right l.fn.source → IsOver (g.S.PageSource.pages l.fn.source) l.rows.cells;
+  written : g.S.PageSource.reads_right l.fn.source → AreRowsWritten (g.S.PageSource.pages l.fn.source) l.root l.comes l.style l.told.before.now l.rows (g.W.Write.contents l.fn.out) (g.W.Write.contents l.out);
 }

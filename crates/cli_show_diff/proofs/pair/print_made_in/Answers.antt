@@ -14,7 +14,7 @@ use Rattle.cli_show_diff.proofs.Answered.{on_err, on_ok}
 use Rattle.cli_show_diff.proofs.pair.print_made_in.Goals as goal
 
 pub returns-clause-ok : goal.returns-clause-ok
-returns-clause-ok g c = λ gives encoded.
+returns-clause-ok g c = λ right encoded.
     let d = g.S.PageSource.pages c.args.source.now in
     let old = g.W.Write.contents c.args.out.now in
     let mid = g.W.Write.contents c.print_making.new.out in
@@ -23,12 +23,12 @@ returns-clause-ok g c = λ gives encoded.
     let can = can_be_named table.name.items in
     let so = sym (c.can_be_named.ensures ∙ ap (λ n. can_be_named n) c.as_slice.ensures.value) ∙ c.if-not-can_be_named.false in
     let made = subst (λ (e : Encoding). IsMakingPrinted e table old mid) encoded c.in-Ok.ensures.ok in
-    let rows = subst (λ (e : Encoding). OnOk c.print_table.result (IsTablePrinted d table (form_of InSql e) mid new)) encoded (c.print_table.ensures.ok gives) in
+    let rows = subst (λ (e : Encoding). OnOk c.print_table.result (IsTablePrinted d table (form_of InSql e) mid new)) encoded (c.print_table.ensures.ok right) in
     on_ok c.print_table.result (IsTablePrinted d table (form_in d InSql) mid new) (IsMadePrinted d Sql table old new)
     (λ w. (mid, made, when_true can (IsTablePrinted d table (form_in d InSql) mid new) (mid ≡ new) so w)) rows
 
 pub returns-clause-err : goal.returns-clause-err
-returns-clause-err g c = λ gives encoded.
+returns-clause-err g c = λ right encoded.
     let d = g.S.PageSource.pages c.args.source.now in
     let old = g.W.Write.contents c.args.out.now in
     let mid = g.W.Write.contents c.print_making.new.out in
@@ -36,12 +36,12 @@ returns-clause-err g c = λ gives encoded.
     let table = c.args.table.now in
     let so = sym (c.can_be_named.ensures ∙ ap (λ n. can_be_named n) c.as_slice.ensures.value) ∙ c.if-not-can_be_named.false in
     let made = subst (λ (e : Encoding). IsMakingPrinted e table old mid) encoded c.in-Ok.ensures.ok in
-    let rows = subst (λ (e : Encoding). IfErr c.print_table.result (λ stop. IsTableStopped d table (form_of InSql e) stop mid new)) encoded (c.print_table.ensures.err gives) in
+    let rows = subst (λ (e : Encoding). IfErr c.print_table.result (λ stop. IsTableStopped d table (form_of InSql e) stop mid new)) encoded (c.print_table.ensures.err right) in
     on_err c.print_table.result (λ stop. IsTableStopped d table (form_in d InSql) stop mid new) (λ stop. IsMadeStopped d Sql table stop old new)
-    (λ stop w. inr (mid, made, so, w)) rows
+    (λ stop w. inr (inr (mid, made, so, w))) rows
 
 pub returns-then-not-can_be_named-clause-ok : goal.returns-then-not-can_be_named-clause-ok
-returns-then-not-can_be_named-clause-ok g c = λ gives encoded.
+returns-then-not-can_be_named-clause-ok g c = λ right encoded.
     let d = g.S.PageSource.pages c.args.source.now in
     let old = g.W.Write.contents c.args.out.now in
     let mid = g.W.Write.contents c.print_making.new.out in
@@ -53,4 +53,4 @@ returns-then-not-can_be_named-clause-ok g c = λ gives encoded.
     )
 
 pub returns-in-Err-clause-err : goal.returns-in-Err-clause-err
-returns-in-Err-clause-err g c = λ gives encoded. inl c.in-Err.ensures.err
+returns-in-Err-clause-err g c = λ right encoded. inl c.in-Err.ensures.err

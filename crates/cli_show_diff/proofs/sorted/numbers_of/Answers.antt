@@ -14,7 +14,10 @@ no_numbers [] none = (refl, refl)
 no_numbers (p ∷ d) none = absurd (omega arith)
 
 pub returns-then-count-eq0-clause-ok : goal.returns-then-count-eq0-clause-ok
-returns-then-count-eq0-clause-ok g c = λ gives. no_numbers (g.S.PageSource.pages c.args.source.now) (sym c.count.ensures ∙ c.if-count-eq0.true)
+returns-then-count-eq0-clause-ok g c = λ right. no_numbers (g.S.PageSource.pages c.args.source.now) (sym c.count.ensures ∙ c.if-count-eq0.true)
 
 pub numbers_in-requires : goal.numbers_in-requires
 numbers_in-requires g c = grind (arith, common_steps, size_some c.get-size.result c.get-size.ensures.valid)
+
+pub returns-in-Err-clause-unread : goal.returns-in-Err-clause-unread
+returns-in-Err-clause-unread g c = λ is gives. c.in-Err.ensures.never_fails gives

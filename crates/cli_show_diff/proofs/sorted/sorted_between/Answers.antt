@@ -13,11 +13,11 @@ as_named text key f f' g g' x y ef eg ex (inl h) =
 as_named text key f f' g g' x y ef eg ex (inr h) = inr (λ e. h.0 (ef ∙ e ∙ sym eg), h.1)
 
 pub returns-in-Ok-sorted_by_both-clause-ok : goal.returns-in-Ok-sorted_by_both-clause-ok
-returns-in-Ok-sorted_by_both-clause-ok g c = λ gives too.
+returns-in-Ok-sorted_by_both-clause-ok g c = λ right too.
     let d = g.S.PageSource.pages c.args.old.now in
     let e = g.T.PageSource.pages c.args.new.now in
     let was = c.in-Ok.numbers in
     let is = c.in-Ok-numbers_of.numbers in
-    let n = c.in-Ok.ensures.ok gives in
+    let n = c.in-Ok.ensures.ok right in
     let m = c.in-Ok-numbers_of.ensures.ok too in
     (as_named c.args.text.now c.in-Ok-sorted_by_both.key was.format (format_of d) is.format (format_of e) was.encoding (encoding_of d) n.0 m.0 n.1 c.in-Ok-sorted_by_both.ensures.ok, n.1)

@@ -23,11 +23,11 @@ print_kept_in-requires g c = record {
 }
 
 pub returns-in-Err-clause-err : goal.returns-in-Err-clause-err
-returns-in-Err-clause-err g c = λ gives too is by. inl (unbegun (encoding_of (g.S.PageSource.pages c.args.old.now)) (λ k. AreSortedBy (g.S.PageSource.pages c.args.old.now) (g.T.PageSource.pages c.args.new.now) c.args.tables.0.now.sql.items k) c.args.tables.0.now c.args.by.0 c.in-Err.stop (g.W.Write.contents c.args.out.now) c.in-Err.ensures.err)
+returns-in-Err-clause-err g c = λ right too is by. inl (unbegun (encoding_of (g.S.PageSource.pages c.args.old.now)) (λ k. AreSortedBy (g.S.PageSource.pages c.args.old.now) (g.T.PageSource.pages c.args.new.now) c.args.tables.0.now.sql.items k) c.args.tables.0.now c.args.by.0 c.in-Err.stop (g.W.Write.contents c.args.out.now) (inl c.in-Err.ensures.err))
 
 pub returns-in-Err-texts_of-clause-err : goal.returns-in-Err-texts_of-clause-err
-returns-in-Err-texts_of-clause-err g c = λ gives too is by. inl (unbegun (encoding_of (g.S.PageSource.pages c.args.old.now)) (λ k. AreSortedBy (g.S.PageSource.pages c.args.old.now) (g.T.PageSource.pages c.args.new.now) c.args.tables.0.now.sql.items k) c.args.tables.0.now c.args.by.0 c.in-Err-texts_of.stop (g.W.Write.contents c.args.out.now) c.in-Err-texts_of.ensures.err)
+returns-in-Err-texts_of-clause-err g c = λ right too is by. inl (unbegun (encoding_of (g.S.PageSource.pages c.args.old.now)) (λ k. AreSortedBy (g.S.PageSource.pages c.args.old.now) (g.T.PageSource.pages c.args.new.now) c.args.tables.0.now.sql.items k) c.args.tables.0.now c.args.by.0 c.in-Err-texts_of.stop (g.W.Write.contents c.args.out.now) (inl c.in-Err-texts_of.ensures.err))
 
 pub returns-then-is_unnamed-clause-err : goal.returns-then-is_unnamed-clause-err
-returns-then-is_unnamed-clause-err g c = λ gives too is by.
+returns-then-is_unnamed-clause-err g c = λ right too is by.
     inl (c.in-Ok.columns, rowid_name c.rowid_name-rowid.result, c.args.by.1.key, subst (λ (x : Encoding). AreColumnsIn x c.args.tables.0.now.sql.items c.in-Ok.columns) is c.in-Ok.ensures.ok, c.rowid_name-rowid.ensures, by, c.is_unnamed.ensures c.if-is_unnamed.true, refl)

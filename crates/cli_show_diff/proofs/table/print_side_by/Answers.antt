@@ -21,7 +21,7 @@ print_side_in-requires g c = record {
 }
 
 pub returns-in-Err-clause-err : goal.returns-in-Err-clause-err
-returns-in-Err-clause-err g c = λ gives is by. inl (unbegun (encoding_of (g.S.PageSource.pages c.args.source.now)) (λ k. IsSortedIn (g.S.PageSource.pages c.args.source.now) c.args.table.now.sql.items k) c.args.table.now c.args.by.0 c.in-Err.stop (g.W.Write.contents c.args.out.now) c.in-Err.ensures.err)
+returns-in-Err-clause-err g c = λ right is by. inl (unbegun (encoding_of (g.S.PageSource.pages c.args.source.now)) (λ k. IsSortedIn (g.S.PageSource.pages c.args.source.now) c.args.table.now.sql.items k) c.args.table.now c.args.by.0 c.in-Err.stop (g.W.Write.contents c.args.out.now) (inl c.in-Err.ensures.err))
 
 pub returns-in-Err-texts_of-clause-err : goal.returns-in-Err-texts_of-clause-err
-returns-in-Err-texts_of-clause-err g c = λ gives is by. inl (unbegun (encoding_of (g.S.PageSource.pages c.args.source.now)) (λ k. IsSortedIn (g.S.PageSource.pages c.args.source.now) c.args.table.now.sql.items k) c.args.table.now c.args.by.0 c.in-Err-texts_of.stop (g.W.Write.contents c.args.out.now) c.in-Err-texts_of.ensures.err)
+returns-in-Err-texts_of-clause-err g c = λ right is by. inl (unbegun (encoding_of (g.S.PageSource.pages c.args.source.now)) (λ k. IsSortedIn (g.S.PageSource.pages c.args.source.now) c.args.table.now.sql.items k) c.args.table.now c.args.by.0 c.in-Err-texts_of.stop (g.W.Write.contents c.args.out.now) (inl c.in-Err-texts_of.ensures.err))

@@ -11,7 +11,7 @@ use Rattle.cli_show_diff.proofs.ChangesOfDiffs.{of_keys, of_rowids}
 use Rattle.cli_show_diff.proofs.table_diff.TableDiff.advance.Goals as goal
 
 pub returns-in-Rowids-clause-ok : goal.returns-in-Rowids-clause-ok
-returns-in-Rowids-clause-ok g c = λ gives too standing.
+returns-in-Rowids-clause-ok g c = λ right too standing.
     let d = g.S.PageSource.pages c.args.old.now in
     let e = g.T.PageSource.pages c.args.new.now in
     let was = c.in-Rowids.diff in
@@ -23,10 +23,10 @@ returns-in-Rowids-clause-ok g c = λ gives too standing.
     subst (λ (t : TableDiff). IfOk c.advance.result (λ (found : Option Kind). rowids.AreStanding d e now × ((cs : List Change) → ChangesLeft d e t cs ↔ ChangesMove d e found cs (Rowids now)))) (sym is)
     (if_ok c.advance.result (λ (found : Option Kind). rowids.AreStanding d e now × ((cs : List Change) → rowids.ChangesLeft d e was cs ↔ rowids.ChangesMove d e found cs now))
     (λ (found : Option Kind). rowids.AreStanding d e now × ((cs : List Change) → ChangesLeft d e (Rowids was) cs ↔ ChangesMove d e found cs (Rowids now)))
-    (λ found w. (w.0, of_rowids d e was now found w.1)) (c.advance.ensures.ok gives too stands))
+    (λ found w. (w.0, of_rowids d e was now found w.1)) (c.advance.ensures.ok right too stands))
 
 pub returns-in-Keys-clause-ok : goal.returns-in-Keys-clause-ok
-returns-in-Keys-clause-ok g c = λ gives too standing.
+returns-in-Keys-clause-ok g c = λ right too standing.
     let d = g.S.PageSource.pages c.args.old.now in
     let e = g.T.PageSource.pages c.args.new.now in
     let was = c.in-Keys.diff in
@@ -38,4 +38,4 @@ returns-in-Keys-clause-ok g c = λ gives too standing.
     subst (λ (t : TableDiff). IfOk c.advance-in-Keys.result (λ (found : Option Kind). keys.AreStanding d e now × ((cs : List Change) → ChangesLeft d e t cs ↔ ChangesMove d e found cs (Keys now)))) (sym is)
     (if_ok c.advance-in-Keys.result (λ (found : Option Kind). keys.AreStanding d e now × ((cs : List Change) → keys.KeyChangesLeft d e was cs ↔ keys.KeyChangesMove d e found cs now))
     (λ (found : Option Kind). keys.AreStanding d e now × ((cs : List Change) → ChangesLeft d e (Keys was) cs ↔ ChangesMove d e found cs (Keys now)))
-    (λ found w. (w.0, of_keys d e was now found w.1)) (c.advance-in-Keys.ensures.ok gives too stands))
+    (λ found w. (w.0, of_keys d e was now found w.1)) (c.advance-in-Keys.ensures.ok right too stands))
