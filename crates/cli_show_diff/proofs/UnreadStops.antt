@@ -1,13 +1,11 @@
 -- Which stops tell that a page couldn't be read.
-use Rattle.std.proofs.Common.{◌≡◌, ◌⊎◌, ℕ, Bool, true, false, List, Option, Result, Ok, Err, inl, inr}
-use Rattle.std.specs.Prelude.{IfErr}
+use Rattle.std.proofs.Common.{◌≡◌, ℕ, Bool, true, false, Option, inl, inr}
 use Rattle.sqpage.specs.declared.fault.CheckError.{CheckError}
 use Rattle.sqpage.specs.declared.fault.Fault.TheVariants as faults
 use Rattle.sqtables.specs.declared.columns.Columns.{Columns}
 use Rattle.cli_show_rows.specs.declared.stop.Stop.{Stop}
 use Rattle.cli_show_rows.specs.declared.stop.Stop.TheVariants.{Fault, Record, TooLong, NotUnderstood, Default, Behind, Encoding, NotNamed, LeftOut, NoSuchTable, NoMemory, Write}
 use Rattle.cli_show_rows.specs.Stops.{IsUnreadStop}
-use Rattle.cli_show_rows.specs.internal.Stopping.{IsCounted}
 use Rattle.cli_show_rows.proofs.TablesStopped.{unread_row}
 use Rattle.sqdiff.specs.Changes.{Change, inserted, deleted, changed}
 use Rattle.sqdiff.specs.DiffCursor.{IsUnreadSide, UnlessDiff}
@@ -51,27 +49,3 @@ unwritten_read writing key columns c (LeftOut n) h = λ none. none
 unwritten_read writing key columns c NoSuchTable h = λ none. none
 unwritten_read writing key columns c NoMemory h = λ none. none
 unwritten_read writing key columns c (Write e) h = λ none. none
-
--- Nor is that something is left out.
-pub counted_read : (t : List ℕ) (count : ℕ) (stop : Stop) (before after : Option (List ℕ)) → IsCounted t count stop before after → ¬ IsUnreadStop stop
-counted_read t count (Fault f) before after h = absurd h
-counted_read t count (Record e) before after h = absurd h
-counted_read t count TooLong before after h = absurd h
-counted_read t count NotUnderstood before after h = absurd h
-counted_read t count Default before after h = absurd h
-counted_read t count Behind before after h = absurd h
-counted_read t count Encoding before after h = absurd h
-counted_read t count NotNamed before after h = absurd h
-counted_read t count (LeftOut n) before after h = λ none. none
-counted_read t count NoSuchTable before after h = absurd h
-counted_read t count NoMemory before after h = absurd h
-counted_read t count (Write e) before after h = λ none. none
-
--- The same of a call whose sources read no more than these.
-pub still : {T g h g' h' : Type 0} (answer : Result T Stop) → (g → g') → (h → h') → IfErr answer (λ stop. IsUnreadStop stop → g' → ¬ h') → IfErr answer (λ stop. IsUnreadStop stop → g → ¬ h)
-still (Ok _) old new un = tt
-still (Err stop) old new un = λ is gives too. un is (old gives) (new too)
-
-pub still_one : {T g g' : Type 0} (answer : Result T Stop) → (g → g') → IfErr answer (λ stop. IsUnreadStop stop → ¬ g') → IfErr answer (λ stop. IsUnreadStop stop → ¬ g)
-still_one (Ok _) same un = tt
-still_one (Err stop) same un = λ is gives. un is (same gives)

@@ -50,6 +50,10 @@ abbrev pub IsUnreadStop : Stop → Type 0
 IsUnreadStop (Fault e) = e.fault ≡ faults.Source
 IsUnreadStop _ = ⊥
 
+-- If a page couldn't be read, the source isn't one that gives each page. Any other stop has this cause.
+abbrev pub UnlessStop : (gives : Type 0) → Stop → (cause : Type 0) → Type 0
+UnlessStop gives stop cause = (IsUnreadStop stop → ¬ gives) × ((¬ IsUnreadStop stop) → cause)
+
 -- The lines of the first rows of a table were written, under the names of its columns, and why not those of the others.
 pub record IsBegun (d : Database) (table : Object) (form : Form) (stop : Stop) (before after : Option (List ℕ)) : Type 0 where
   pub columns : Columns

@@ -21,7 +21,7 @@ use Rattle.sqdeep.specs.Records.{encoding_of}
 use Rattle.cli_show_rows.specs.Schemas.{AreColumnsIn}
 use Rattle.cli_show_rows.specs.Tables.{IsNameFor, are_unnamed, has_rowids}
 use Rattle.cli_show_rows.specs.Dumps.{AreTablesPrinted, HasLeftOut, IsMakingPrinted, IsStatementText, IsVirtual, IsVirtualText, is_internal, last_text, start_text}
-use Rattle.cli_show_rows.specs.Stops.{AreTablesStopped}
+use Rattle.cli_show_rows.specs.Stops.{AreTablesStopped, IsUnreadStop}
 use Rattle.sqsalvage.specs.SalvageCursor.{IsMarked}
 use Rattle.cli_show_salvage.specs.declared.book.Book.{Book}
 use Rattle.cli_show_salvage.specs.declared.book.Going.{Going}
@@ -195,5 +195,6 @@ AreSomeLeftOut d size places _ before after = ⊥
 abbrev pub IsScriptStopped : Database → (size : ℕ) → (places : Bool) → Stop → (before after : Option (List ℕ)) → Type 0
 IsScriptStopped d size places stop before after =
     IsRunOut stop
-    ⊎ ((¬ WellFormedWith true d size) × ((IsUnfit d stop × (before ≡ after)) ⊎ AreSomeLeftOut d size places stop before after))
+    ⊎ ((¬ WellFormedWith true d size) × (IsUnreadStop stop ⊎ (IsUnfit d stop × (before ≡ after)) ⊎ AreSomeLeftOut d size places stop before after))
     ⊎ (WellFormedWith true d size × AreTablesStopped d Sql stop before after)
+    ⊎ (IsUnreadStop stop × (before ≡ after))

@@ -3,6 +3,7 @@ ghost use Rattle.std.specs.Prelude.{◌≡◌, ◌≤◌, true, OnOk, IfErr};
 ghost use Rattle.sqpage.specs.Page.{has_payload};
 ghost use Rattle.sqpage.specs.Source.{KeepsPages};
 ghost use Rattle.sqsalvage.specs.TreePages.{page_of};
+ghost use Rattle.cli_show_rows.specs.Stops.{UnlessStop};
 ghost use Rattle.cli_show_salvage.specs.Cells.{IsCellTold, IsRunOut};
 
 use crate::book::{Book, Target};
@@ -25,9 +26,10 @@ pub(crate) fn print_cell<S: PageSource, W: Write>(
 ) -> Result<(), Stop>
     requires payload { has_payload page.now.kind ≡ true }
     requires usable { page.now.usable ≤ S.size source.old }
-    ensures ok { S.gives_pages source.old → OnOk result (IsCellTold (S.pages source.old) target.now (page_of page.now) i
+    ensures ok { S.reads_right source.old → OnOk result (IsCellTold (S.pages source.old) target.now (page_of page.now) i
         book.old book.new (W.contents out.old) (W.contents out.new)) }
-    ensures err { S.gives_pages source.old → IfErr result IsRunOut }
+    ensures err { S.reads_right source.old → IfErr result (λ stop. UnlessStop (S.gives_pages source.old) stop
+        (IsRunOut stop)) }
     ensures keeps { KeepsPages S.pages S.size S.reads_right S.gives_pages source.old source.new }
 {
     let Some(cell) = page.cell(i) else {

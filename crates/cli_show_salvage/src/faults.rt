@@ -4,6 +4,7 @@ ghost use Rattle.std.specs.Io.KnownBytes.{Appends};
 ghost use Rattle.std.specs.List.Sorted.{IsNonDecreasingBy, IsPermutation};
 ghost use Rattle.sqpage.specs.Source.{KeepsPages};
 ghost use Rattle.sqpage.specs.declared.fault.Fault.{Fault};
+ghost use Rattle.cli_show_rows.specs.Stops.{UnlessStop};
 ghost use Rattle.cli_show_salvage.specs.Cells.{IsRunOut};
 ghost use Rattle.cli_show_salvage.specs.Faults.{AreFirstsWritten, fault_line};
 ghost use Rattle.cli_show_salvage.specs.internal.Opening.{IsFirstTold, IsJudged};
@@ -22,7 +23,7 @@ use std::io::{self, Write};
 fn alone(alloc: Global, refusal: CheckError) -> Result<Vec<CheckError>, Stop>
     ensures ok { IfOk result (λ faults. (refusal.fault ≢ Fault.Source) × (refusal.fault ≢ Fault.NoMemory)
         × (faults.items ≡ refusal ∷ [])) }
-    ensures err { refusal.fault ≢ Fault.Source → IfErr result IsRunOut }
+    ensures err { IfErr result (λ stop. UnlessStop (refusal.fault ≢ Fault.Source) stop (IsRunOut stop)) }
 {
     match refusal.fault {
         Fault::Source | Fault::NoMemory => return Err(stop_of(refusal)),
@@ -53,8 +54,9 @@ pub(crate) fn faults_of<S: PageSource>(
     alloc: Global,
     source: &mut S,
 ) -> Result<Option<Vec<CheckError>>, Stop>
-    ensures ok { S.gives_pages source.old → IfOk result (IsJudged (S.pages source.old) (S.size source.old)) }
-    ensures err { S.gives_pages source.old → IfErr result IsRunOut }
+    ensures ok { S.reads_right source.old → IfOk result (IsJudged (S.pages source.old) (S.size source.old)) }
+    ensures err { S.reads_right source.old → IfErr result (λ stop. UnlessStop (S.gives_pages source.old) stop
+        (IsRunOut stop)) }
     ensures keeps { KeepsPages S.pages S.size S.reads_right S.gives_pages source.old source.new }
 {
     match survey_pages_with(alloc, source, Options { pointer_maps: true }) {

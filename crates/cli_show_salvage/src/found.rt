@@ -4,6 +4,7 @@ ghost use Rattle.sqpage.specs.Chain.{payload_size};
 ghost use Rattle.sqpage.specs.Source.{KeepsPages};
 ghost use Rattle.sqpage.specs.declared.fault.Fault.{Fault};
 ghost use Rattle.cli_show_rows.specs.declared.stop.Stop.{Stop};
+ghost use Rattle.cli_show_rows.specs.Stops.{UnlessStop};
 ghost use Rattle.cli_show_salvage.specs.Cells.{IsRunOut};
 ghost use Rattle.cli_show_salvage.specs.internal.Found.{IsFound};
 
@@ -44,8 +45,9 @@ pub(crate) fn read_cell<'a, S: PageSource>(
 ) -> Result<Found<'a>, Stop>
     requires payload { IsSome cell.now.payload × (length cell.now.local.now ≤ payload_size cell.now) }
     requires usable { (480 ≤ cell.now.usable) × (cell.now.usable ≤ S.size source.old) }
-    ensures ok { S.gives_pages source.old → IfOk result (IsFound (S.pages source.old) cell.now) }
-    ensures err { S.gives_pages source.old → IfErr result IsRunOut }
+    ensures ok { S.reads_right source.old → IfOk result (IsFound (S.pages source.old) cell.now) }
+    ensures err { S.reads_right source.old → IfErr result (λ stop. UnlessStop (S.gives_pages source.old) stop
+        (IsRunOut stop)) }
     ensures keeps { KeepsPages S.pages S.size S.reads_right S.gives_pages source.old source.new }
 {
     match payload_into(alloc, source, cell, MOST_BYTES as u64, payload) {

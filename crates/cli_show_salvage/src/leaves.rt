@@ -2,6 +2,7 @@
 ghost use Rattle.std.specs.Prelude.{◌≡◌, ◌↔◌, [], ℕ, List, OnOk, IfErr};
 ghost use Rattle.sqpage.specs.Source.{KeepsPages};
 ghost use Rattle.sqsalvage.specs.SalvageCursor.{IsOver};
+ghost use Rattle.cli_show_rows.specs.Stops.{UnlessStop};
 ghost use Rattle.cli_show_salvage.specs.Cells.{IsRunOut};
 ghost use Rattle.cli_show_salvage.specs.Leaves.{AreLostTold, IsTreeTold};
 ghost use Rattle.cli_show_salvage.specs.internal.Walks.{Walked};
@@ -23,12 +24,13 @@ fn print_begun<S: PageSource, W: Write>(
     out: &mut W,
 ) -> Result<(), Stop>
     requires sized { S.size source.old ≡ salvage.old.size }
-    ensures ok { S.gives_pages source.old → IsOver (S.pages source.old) salvage.old → OnOk result
+    ensures ok { S.reads_right source.old → IsOver (S.pages source.old) salvage.old → OnOk result
         (Walked (S.pages source.old) target.now salvage.old salvage.new book.old book.new (W.contents out.old)
         (W.contents out.new)) }
     ensures ended { OnOk result (salvage.new.pending.items ≡ []) }
     ensures same { (salvage.new.size ≡ salvage.old.size) × (salvage.new.at ≡ salvage.old.at) }
-    ensures err { S.gives_pages source.old → IsOver (S.pages source.old) salvage.old → IfErr result IsRunOut }
+    ensures err { S.reads_right source.old → IsOver (S.pages source.old) salvage.old → IfErr result
+        (λ stop. UnlessStop (S.gives_pages source.old) stop (IsRunOut stop)) }
     ensures keeps { KeepsPages S.pages S.size S.reads_right S.gives_pages source.old source.new }
 {
     'pieces: for _ in 0..u64::MAX {
@@ -56,14 +58,15 @@ pub(crate) fn print_tree<S: PageSource, W: Write>(
 ) -> Result<(), Stop>
     requires sized { S.size source.old ≡ salvage.old.size }
     requires ended { salvage.old.pending.items ≡ [] }
-    ensures ok { S.gives_pages source.old → IsOver (S.pages source.old) salvage.old → OnOk result
+    ensures ok { S.reads_right source.old → IsOver (S.pages source.old) salvage.old → OnOk result
         (IsTreeTold (S.pages source.old) target.now root salvage.old.marks.items salvage.new.marks.items
         book.old book.new (W.contents out.old) (W.contents out.new)) }
-    ensures over { S.gives_pages source.old → IsOver (S.pages source.old) salvage.old → OnOk result
+    ensures over { S.reads_right source.old → IsOver (S.pages source.old) salvage.old → OnOk result
         (IsOver (S.pages source.old) salvage.new) }
     ensures ended { OnOk result (salvage.new.pending.items ≡ []) }
     ensures same { (salvage.new.size ≡ salvage.old.size) × (salvage.new.at ≡ salvage.old.at) }
-    ensures err { S.gives_pages source.old → IsOver (S.pages source.old) salvage.old → IfErr result IsRunOut }
+    ensures err { S.reads_right source.old → IsOver (S.pages source.old) salvage.old → IfErr result
+        (λ stop. UnlessStop (S.gives_pages source.old) stop (IsRunOut stop)) }
     ensures keeps { KeepsPages S.pages S.size S.reads_right S.gives_pages source.old source.new }
 {
     match salvage.begin(root, target.table) {
@@ -83,10 +86,11 @@ pub(crate) fn print_lost_leaves<S: PageSource, W: Write>(
 ) -> Result<(), Stop>
     requires sized { S.size source.old ≡ salvage.old.size }
     requires first { salvage.old.at ≡ 0 }
-    ensures ok { S.gives_pages source.old → IsOver (S.pages source.old) salvage.old → OnOk result
+    ensures ok { S.reads_right source.old → IsOver (S.pages source.old) salvage.old → OnOk result
         (AreLostTold (S.pages source.old) target.now salvage.old.marks.items book.old book.new (W.contents out.old)
         (W.contents out.new)) }
-    ensures err { S.gives_pages source.old → IsOver (S.pages source.old) salvage.old → IfErr result IsRunOut }
+    ensures err { S.reads_right source.old → IsOver (S.pages source.old) salvage.old → IfErr result
+        (λ stop. UnlessStop (S.gives_pages source.old) stop (IsRunOut stop)) }
     ensures keeps { KeepsPages S.pages S.size S.reads_right S.gives_pages source.old source.new }
 {
     'leaves: for _ in 0..u64::MAX {

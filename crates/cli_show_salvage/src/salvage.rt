@@ -7,7 +7,7 @@ ghost use Rattle.sqdeep.specs.Records.{encoding_of};
 ghost use Rattle.sqdeep.specs.Texts.{encoding_named};
 ghost use Rattle.sqpage.specs.Source.{KeepsPages};
 ghost use Rattle.cli_show_rows.specs.Dumps.{AreTablesPrinted};
-ghost use Rattle.cli_show_rows.specs.Stops.{AreTablesStopped};
+ghost use Rattle.cli_show_rows.specs.Stops.{AreTablesStopped, IsUnreadStop, UnlessStop};
 ghost use Rattle.cli_row_text.specs.declared.form.Notation.TheVariants.{Sql};
 ghost use Rattle.sqsalvage.specs.SalvageCursor.{IsOver};
 ghost use Rattle.cli_show_salvage.specs.declared.book.Going.TheVariants.{Schema};
@@ -55,8 +55,9 @@ fn encoding_in(bytes: &[u8]) -> Encoding
 
 /// The encoding of a database.
 fn encoding_of<S: PageSource>(alloc: Global, source: &mut S) -> Result<Encoding, Stop>
-    ensures ok { S.gives_pages source.old → IfOk result (λ encoding. encoding ≡ encoding_of (S.pages source.old)) }
-    ensures err { S.gives_pages source.old → IfErr result IsRunOut }
+    ensures ok { S.reads_right source.old → IfOk result (λ encoding. encoding ≡ encoding_of (S.pages source.old)) }
+    ensures err { S.reads_right source.old → IfErr result (λ stop. UnlessStop (S.gives_pages source.old) stop
+        (IsRunOut stop)) }
     ensures keeps { KeepsPages S.pages S.size S.reads_right S.gives_pages source.old source.new }
 {
     if source.count() == 0 {
@@ -85,11 +86,12 @@ fn print_unreached<S: PageSource, W: Write>(
 ) -> Result<(), Stop>
     requires sized { S.size source.old ≡ salvage.old.size }
     requires first { salvage.old.at ≡ 0 }
-    ensures ok { S.gives_pages source.old → IsOver (S.pages source.old) salvage.old → OnOk result
+    ensures ok { S.reads_right source.old → IsOver (S.pages source.old) salvage.old → OnOk result
         (IsUnreachedEnded (S.pages source.old) turn.entry.encoding turn.entry.lost.now turn.entry.places
         salvage.old.marks.items book.old
         (W.contents out.old) (W.contents out.new)) }
-    ensures err { S.gives_pages source.old → IsOver (S.pages source.old) salvage.old → IfErr result IsRunOut }
+    ensures err { S.reads_right source.old → IsOver (S.pages source.old) salvage.old → IfErr result
+        (λ stop. UnlessStop (S.gives_pages source.old) stop (IsRunOut stop)) }
     ensures keeps { KeepsPages S.pages S.size S.reads_right S.gives_pages source.old source.new }
 {
     let target = Target {
@@ -117,11 +119,12 @@ fn print_trees<S: PageSource, W: Write>(
     requires sized { S.size source.old ≡ salvage.old.size }
     requires ended { salvage.old.pending.items ≡ [] }
     requires first { salvage.old.at ≡ 0 }
-    ensures ok { S.gives_pages source.old → IsOver (S.pages source.old) salvage.old → OnOk result
+    ensures ok { S.reads_right source.old → IsOver (S.pages source.old) salvage.old → OnOk result
         (AreTreesEnded (S.pages source.old) turn.entry.encoding turn.entry.lost.now turn.entry.places
         turn.entry.objects.now
         salvage.old.marks.items book.old (W.contents out.old) (W.contents out.new)) }
-    ensures err { S.gives_pages source.old → IsOver (S.pages source.old) salvage.old → IfErr result IsRunOut }
+    ensures err { S.reads_right source.old → IsOver (S.pages source.old) salvage.old → IfErr result
+        (λ stop. UnlessStop (S.gives_pages source.old) stop (IsRunOut stop)) }
     ensures keeps { KeepsPages S.pages S.size S.reads_right S.gives_pages source.old source.new }
 {
     match print_turn(source, salvage, Turn { own: false, ..turn }, book, out) {
@@ -155,10 +158,11 @@ fn print_rows<S: PageSource, W: Write>(
     requires sized { S.size source.old ≡ salvage.old.size }
     requires ended { salvage.old.pending.items ≡ [] }
     requires first { salvage.old.at ≡ 0 }
-    ensures ok { S.gives_pages source.old → IsOver (S.pages source.old) salvage.old → IfOk result
+    ensures ok { S.reads_right source.old → IsOver (S.pages source.old) salvage.old → IfOk result
         (λ left. AreRowsSalvaged (S.pages source.old) how.encoding how.places objects.now salvage.old.marks.items left
         (W.contents out.old) (W.contents out.new)) }
-    ensures err { S.gives_pages source.old → IsOver (S.pages source.old) salvage.old → IfErr result IsRunOut }
+    ensures err { S.reads_right source.old → IsOver (S.pages source.old) salvage.old → IfErr result
+        (λ stop. UnlessStop (S.gives_pages source.old) stop (IsRunOut stop)) }
     ensures keeps { KeepsPages S.pages S.size S.reads_right S.gives_pages source.old source.new }
 {
     let lost = match lost_name(alloc, objects) {
@@ -224,11 +228,11 @@ fn print_damaged<S: PageSource, W: Write>(
     places: bool,
     out: &mut W,
 ) -> Result<usize, Stop>
-    ensures ok { S.gives_pages source.old → AreFaultsOf (S.pages source.old) (S.size source.old) faults.now → IfOk
+    ensures ok { S.reads_right source.old → AreFaultsOf (S.pages source.old) (S.size source.old) faults.now → IfOk
         result (λ left. IsSalvaged (S.pages source.old) (S.size source.old) places left (W.contents out.old)
         (W.contents out.new)) }
-    ensures err { S.gives_pages source.old → IfErr result (λ stop. IsRunOut stop
-        ⊎ (IsUnfit (S.pages source.old) stop × (W.contents out.old ≡ W.contents out.new))) }
+    ensures err { S.reads_right source.old → IfErr result (λ stop. UnlessStop (S.gives_pages source.old) stop
+        (IsRunOut stop ⊎ (IsUnfit (S.pages source.old) stop × (W.contents out.old ≡ W.contents out.new)))) }
     ensures keeps { KeepsPages S.pages S.size S.reads_right S.gives_pages source.old source.new }
 {
     let mut salvage = match Salvage::new(alloc, source) {
@@ -262,10 +266,11 @@ fn print_whole<S: PageSource, W: Write>(
     source: &mut S,
     out: &mut W,
 ) -> Result<bool, Stop>
-    ensures ok { S.gives_pages source.old → IfOk result (λ whole. (whole ≡ true)
+    ensures ok { S.reads_right source.old → IfOk result (λ whole. (whole ≡ true)
         × AreTablesPrinted (S.pages source.old) Sql (W.contents out.old) (W.contents out.new)) }
-    ensures err { S.gives_pages source.old → IfErr result (λ stop. AreTablesStopped (S.pages source.old) Sql stop
+    ensures err { S.reads_right source.old → IfErr result (λ stop. AreTablesStopped (S.pages source.old) Sql stop
         (W.contents out.old) (W.contents out.new)) }
+    ensures unread { IfErr result (λ stop. IsUnreadStop stop → ¬ S.gives_pages source.old) }
     ensures keeps { KeepsPages S.pages S.size S.reads_right S.gives_pages source.old source.new }
 {
     match print_tables(alloc, source, Notation::Sql, out) {
@@ -293,10 +298,12 @@ pub fn print_salvage<S: PageSource, W: Write>(
     places: bool,
     out: &mut W,
 ) -> Result<bool, Stop>
-    ensures ok { S.gives_pages source.old → IfOk result (IsScript (S.pages source.old) (S.size source.old) places
+    ensures ok { S.reads_right source.old → IfOk result (IsScript (S.pages source.old) (S.size source.old) places
         (W.contents out.old) (W.contents out.new)) }
-    ensures err { S.gives_pages source.old → IfErr result (λ stop. IsScriptStopped (S.pages source.old)
+    ensures err { S.reads_right source.old → IfErr result (λ stop. IsScriptStopped (S.pages source.old)
         (S.size source.old) places stop (W.contents out.old) (W.contents out.new)) }
+    // That a page couldn't be read is told only where a read failed.
+    ensures unread { IfErr result (λ stop. IsUnreadStop stop → ¬ S.gives_pages source.old) }
     ensures keeps { KeepsPages S.pages S.size S.reads_right S.gives_pages source.old source.new }
 {
     let faults = match faults_of(alloc, source) {

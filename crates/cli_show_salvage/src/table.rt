@@ -6,6 +6,7 @@ ghost use Rattle.cli_schema_text.specs.Names.{column_names};
 ghost use Rattle.cli_show_rows.specs.Dumps.{IsMakingPrinted};
 ghost use Rattle.cli_show_rows.specs.Tables.{has_rowids};
 ghost use Rattle.sqsalvage.specs.SalvageCursor.{IsOver};
+ghost use Rattle.cli_show_rows.specs.Stops.{UnlessStop};
 ghost use Rattle.cli_show_salvage.specs.Cells.{IsRunOut};
 ghost use Rattle.cli_show_salvage.specs.Scripts.{IsGoing, IsTableSalvaged, takes_rows};
 
@@ -128,14 +129,15 @@ pub(crate) fn print_table<S: PageSource, W: Write>(
 ) -> Result<(), Stop>
     requires sized { S.size source.old ≡ salvage.old.size }
     requires ended { salvage.old.pending.items ≡ [] }
-    ensures ok { S.gives_pages source.old → IsOver (S.pages source.old) salvage.old → OnOk result
+    ensures ok { S.reads_right source.old → IsOver (S.pages source.old) salvage.old → OnOk result
         (IsTableSalvaged (S.pages source.old) turn.entry.encoding turn.entry.lost.now turn.entry.places table.now
         salvage.old.marks.items salvage.new.marks.items book.old book.new (W.contents out.old) (W.contents out.new)) }
-    ensures over { S.gives_pages source.old → IsOver (S.pages source.old) salvage.old → OnOk result
+    ensures over { S.reads_right source.old → IsOver (S.pages source.old) salvage.old → OnOk result
         (IsOver (S.pages source.old) salvage.new) }
     ensures ended { OnOk result (salvage.new.pending.items ≡ []) }
     ensures same { (salvage.new.size ≡ salvage.old.size) × (salvage.new.at ≡ salvage.old.at) }
-    ensures err { S.gives_pages source.old → IsOver (S.pages source.old) salvage.old → IfErr result IsRunOut }
+    ensures err { S.reads_right source.old → IsOver (S.pages source.old) salvage.old → IfErr result
+        (λ stop. UnlessStop (S.gives_pages source.old) stop (IsRunOut stop)) }
     ensures keeps { KeepsPages S.pages S.size S.reads_right S.gives_pages source.old source.new }
 {
     let columns = match known_columns(book.alloc, table, turn.encoding) {

@@ -5,6 +5,7 @@ ghost use Rattle.std.specs.Io.KnownBytes.{Appends};
 ghost use Rattle.std.specs.Str.{str_eq_ignore_ascii_case};
 ghost use Rattle.sqpage.specs.Source.{KeepsPages};
 ghost use Rattle.sqsalvage.specs.SalvageCursor.{IsOver};
+ghost use Rattle.cli_show_rows.specs.Stops.{UnlessStop};
 ghost use Rattle.cli_show_salvage.specs.Cells.{IsRunOut};
 ghost use Rattle.cli_show_rows.specs.Dumps.{HasLeftOut};
 ghost use Rattle.cli_schema_text.specs.Comments.{count_text};
@@ -41,15 +42,16 @@ fn print_object<S: PageSource, W: Write>(
 ) -> Result<(), Stop>
     requires sized { S.size source.old ≡ salvage.old.size }
     requires ended { salvage.old.pending.items ≡ [] }
-    ensures ok { S.gives_pages source.old → IsOver (S.pages source.old) salvage.old → OnOk result
+    ensures ok { S.reads_right source.old → IsOver (S.pages source.old) salvage.old → OnOk result
         (IsTurnSalvaged (S.pages source.old) turn.entry.encoding turn.entry.lost.now turn.entry.places turn.entry.own
         object.now
         salvage.old.marks.items salvage.new.marks.items book.old book.new (W.contents out.old) (W.contents out.new)) }
-    ensures over { S.gives_pages source.old → IsOver (S.pages source.old) salvage.old → OnOk result
+    ensures over { S.reads_right source.old → IsOver (S.pages source.old) salvage.old → OnOk result
         (IsOver (S.pages source.old) salvage.new) }
     ensures ended { OnOk result (salvage.new.pending.items ≡ []) }
     ensures same { (salvage.new.size ≡ salvage.old.size) × (salvage.new.at ≡ salvage.old.at) }
-    ensures err { S.gives_pages source.old → IsOver (S.pages source.old) salvage.old → IfErr result IsRunOut }
+    ensures err { S.reads_right source.old → IsOver (S.pages source.old) salvage.old → IfErr result
+        (λ stop. UnlessStop (S.gives_pages source.old) stop (IsRunOut stop)) }
     ensures keeps { KeepsPages S.pages S.size S.reads_right S.gives_pages source.old source.new }
 {
     if is_table_of(turn.own, object) {
@@ -69,15 +71,16 @@ pub(crate) fn print_turn<S: PageSource, W: Write>(
 ) -> Result<(), Stop>
     requires sized { S.size source.old ≡ salvage.old.size }
     requires ended { salvage.old.pending.items ≡ [] }
-    ensures ok { S.gives_pages source.old → IsOver (S.pages source.old) salvage.old → OnOk result
+    ensures ok { S.reads_right source.old → IsOver (S.pages source.old) salvage.old → OnOk result
         (AreTurnsSalvaged (S.pages source.old) turn.entry.encoding turn.entry.lost.now turn.entry.places turn.entry.own
         salvage.old.marks.items book.old (W.contents out.old)
         turn.entry.objects.now salvage.new.marks.items book.new (W.contents out.new)) }
-    ensures over { S.gives_pages source.old → IsOver (S.pages source.old) salvage.old → OnOk result
+    ensures over { S.reads_right source.old → IsOver (S.pages source.old) salvage.old → OnOk result
         (IsOver (S.pages source.old) salvage.new) }
     ensures ended { OnOk result (salvage.new.pending.items ≡ []) }
     ensures same { (salvage.new.size ≡ salvage.old.size) × (salvage.new.at ≡ salvage.old.at) }
-    ensures err { S.gives_pages source.old → IsOver (S.pages source.old) salvage.old → IfErr result IsRunOut }
+    ensures err { S.reads_right source.old → IsOver (S.pages source.old) salvage.old → IfErr result
+        (λ stop. UnlessStop (S.gives_pages source.old) stop (IsRunOut stop)) }
     ensures keeps { KeepsPages S.pages S.size S.reads_right S.gives_pages source.old source.new }
 {
     let objects = turn.objects;

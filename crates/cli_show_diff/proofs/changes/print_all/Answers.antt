@@ -3,7 +3,7 @@ use Rattle.std.specs.Prelude.{IfErr}
 use Rattle.sqval.specs.Database.{Database}
 use Rattle.cli_show_diff.specs.Changes.{AreAllStopped, AreTablesStopped}
 use Rattle.cli_show_diff.proofs.Answered.{on_err}
-use Rattle.cli_show_diff.proofs.UnreadStops.{still}
+use Rattle.cli_show_rows.proofs.UnreadStops.{still}
 use Rattle.cli_show_diff.proofs.changes.print_all.Goals as goal
 
 pub returns-in-Ok-clause-err : goal.returns-in-Ok-clause-err

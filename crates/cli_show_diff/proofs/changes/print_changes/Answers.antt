@@ -10,7 +10,7 @@ use Rattle.cli_show_diff.specs.declared.form.ChangeForm.TheVariants.{Lines, Json
 use Rattle.cli_show_diff.specs.Frames.{strays_in}
 use Rattle.cli_show_diff.specs.Changes.{AreChangesPrinted, AreChangesStopped, AreFramedPrinted, AreFramedStopped, HasObjectsOf, texts_of}
 use Rattle.cli_show_diff.proofs.Answered.{on_ok, on_err}
-use Rattle.cli_show_diff.proofs.UnreadStops.{still}
+use Rattle.cli_show_rows.proofs.UnreadStops.{still}
 use Rattle.cli_show_diff.proofs.changes.print_changes.Goals as goal
 
 -- the rows of both schemas, as a script says of them

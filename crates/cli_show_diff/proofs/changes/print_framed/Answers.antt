@@ -11,7 +11,7 @@ use Rattle.cli_show_diff.proofs.Answered.{on_err, on_ok}
 use Rattle.cli_show_diff.proofs.FramesPrinted.{begun_stopped, framed, none_left, some_left, unheaded}
 use Rattle.cli_show_rows.specs.Stops.{IsUnreadStop}
 use Rattle.cli_show_rows.proofs.TablesStopped.{ended_unread}
-use Rattle.cli_show_diff.proofs.UnreadStops.{counted_read}
+use Rattle.cli_show_rows.proofs.UnreadStops.{counted_read}
 use Rattle.cli_show_diff.proofs.changes.print_framed.Goals as goal
 
 -- how much is left out, with the rows of both schemas

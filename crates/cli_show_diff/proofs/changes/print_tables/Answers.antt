@@ -4,7 +4,7 @@ use Rattle.sqval.specs.Database.{Database}
 use Rattle.cli_show_diff.specs.Changes.{AreTablesStopped, turn_new}
 use Rattle.cli_show_diff.specs.Turns.{AreTurnsStopped}
 use Rattle.cli_show_diff.proofs.Answered.{on_err}
-use Rattle.cli_show_diff.proofs.UnreadStops.{still}
+use Rattle.cli_show_rows.proofs.UnreadStops.{still}
 use Rattle.cli_show_diff.proofs.changes.print_tables.Goals as goal
 
 pub returns-clause-err : goal.returns-clause-err

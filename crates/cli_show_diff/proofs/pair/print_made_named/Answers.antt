@@ -5,7 +5,7 @@ use Rattle.sqdeep.specs.Records.{encoding_of}
 use Rattle.cli_show_diff.specs.declared.form.ChangeForm.TheVariants.{Sql}
 use Rattle.cli_show_diff.specs.Pairs.{IsMadePrinted, IsMadeStopped}
 use Rattle.cli_show_diff.proofs.FramesPrinted.{unheaded}
-use Rattle.cli_show_diff.proofs.UnreadStops.{still_one}
+use Rattle.cli_show_rows.proofs.UnreadStops.{still_one}
 use Rattle.cli_show_diff.proofs.pair.print_made_named.Goals as goal
 
 pub returns-in-Ok-clause-ok : goal.returns-in-Ok-clause-ok

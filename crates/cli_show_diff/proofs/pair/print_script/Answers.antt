@@ -5,7 +5,7 @@ use Rattle.cli_change_text.specs.declared.style.Writing.TheVariants.{Arrival}
 use Rattle.cli_show_diff.specs.Tables.{IsKeptPrinted, IsKeptStopped}
 use Rattle.cli_show_diff.specs.Pairs.{IsScriptPrinted, IsScriptStopped}
 use Rattle.cli_show_diff.proofs.Answered.{on_err, on_ok}
-use Rattle.cli_show_diff.proofs.UnreadStops.{still}
+use Rattle.cli_show_rows.proofs.UnreadStops.{still}
 use Rattle.cli_show_diff.proofs.pair.print_script.Goals as goal
 
 pub returns-in-Ok-clause-err : goal.returns-in-Ok-clause-err

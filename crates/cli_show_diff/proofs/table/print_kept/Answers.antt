@@ -5,7 +5,7 @@ use Rattle.sqdeep.specs.Records.{encoding_of}
 use Rattle.cli_show_diff.specs.Sorted.{AreSortedBy}
 use Rattle.cli_show_diff.specs.Tables.{IsKeptPrinted, IsKeptStopped}
 use Rattle.cli_show_diff.proofs.TablesPrinted.{unbegun}
-use Rattle.cli_show_diff.proofs.UnreadStops.{still}
+use Rattle.cli_show_rows.proofs.UnreadStops.{still}
 use Rattle.cli_show_diff.proofs.table.print_kept.Goals as goal
 
 pub returns-in-Ok-clause-ok : goal.returns-in-Ok-clause-ok

@@ -5,7 +5,7 @@ use Rattle.sqdeep.specs.Records.{encoding_of}
 use Rattle.cli_show_diff.specs.Sorted.{IsSortedIn}
 use Rattle.cli_show_diff.specs.Tables.{IsSidePrinted, IsSideStopped}
 use Rattle.cli_show_diff.proofs.TablesPrinted.{unbegun}
-use Rattle.cli_show_diff.proofs.UnreadStops.{still_one}
+use Rattle.cli_show_rows.proofs.UnreadStops.{still_one}
 use Rattle.cli_show_diff.proofs.table.print_side.Goals as goal
 
 pub returns-in-Ok-clause-ok : goal.returns-in-Ok-clause-ok

@@ -7,8 +7,7 @@ use Rattle.sqcheck.proofs.checks.RefutationOfWellFormedness.{none_stands}
 use Rattle.cli_show_salvage.proofs.faults.faults_of.Goals as goal
 
 pub returns-in-Ok-by_page-clause-ok : goal.returns-in-Ok-by_page-clause-ok
-returns-in-Ok-by_page-clause-ok g c = λ gives.
-    let right = g.met.S.PageSource.right c.args.source.now gives in
+returns-in-Ok-by_page-clause-ok g c = λ right.
     let found = c.in-Ok.ensures in
     let sorted = c.in-Ok-by_page.ensures in (
       (IfErr-at_err _ c.in-Err-answer.is (found.damaged right)).1,
@@ -16,11 +15,11 @@ returns-in-Ok-by_page-clause-ok g c = λ gives.
     )
 
 pub returns-in-Ok-alone-clause-ok : goal.returns-in-Ok-alone-clause-ok
-returns-in-Ok-alone-clause-ok g c = λ gives.
+returns-in-Ok-alone-clause-ok g c = λ right.
     let P = g.S.PageSource in
     let e = c.in-Err.refusal in
     let one = c.in-Ok-alone.ensures.ok in
-    let refused = (c.in-Err.ensures.refused (g.met.S.PageSource.right c.args.source.now gives)).1 one.0 in (
+    let refused = (c.in-Err.ensures.refused right).1 one.0 in (
       (λ w. ⊎_elim (λ memory. one.1 memory) (λ h. none_stands true (P.pages c.args.source.now) (P.size c.args.source.now) w e.fault e.page h.0 one.1) refused),
       record {
         surveyed = inr (e, one.1, refused, one.2);

@@ -11,7 +11,7 @@ returns-in_default g c =
     let d = g.S.PageSource.pages c.args.source.now in
     let other = subst (λ (r : CheckError). r.fault ≢ NoMemory) c.in-Err-Chain.refusal-is c.in_default.not-NoMemory in
     record {
-      ok = λ gives. inr ((subst (λ (e : PayloadError). PayloadRefused d c.args.cell.now most_bytes e) c.in-Err-Chain.field-0-is (c.in-Err-Chain.ensures.err gives)).1 other);
-      err = λ gives. tt;
+      ok = λ right. inr ((subst (λ (e : PayloadError). PayloadRefused d c.args.cell.now most_bytes e) c.in-Err-Chain.field-0-is (c.in-Err-Chain.ensures.err right)).1 other);
+      err = λ right. tt;
       keeps = c.in-Err-Chain.ensures.keeps;
     }

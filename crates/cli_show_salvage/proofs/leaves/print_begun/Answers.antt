@@ -14,7 +14,7 @@ pieces-init g c = record {
   sized = refl;
   at = refl;
   table = refl;
-  walked = λ gives over. walk_begun (g.S.PageSource.pages c.args.source.now) c.args.target.now c.args.salvage.now c.args.book.now (g.W.Write.contents c.args.out.now) over;
+  walked = λ right over. walk_begun (g.S.PageSource.pages c.args.source.now) c.args.target.now c.args.salvage.now c.args.book.now (g.W.Write.contents c.args.out.now) over;
 }
 
 pub pieces-preserved : goal.pieces-preserved
@@ -38,22 +38,22 @@ pieces-preserved g c =
       sized = n.same.0 ∙ i.sized;
       at = n.same.2 ∙ i.at;
       table = n.same.3 ∙ i.table;
-      walked = λ gives over.
-          let w = i.walked gives over in
-          let told = n.ok (i.kept.still_gives gives) (subst (λ (x : Database). IsOver x s) (sym i.kept.same_pages) w.over) in
+      walked = λ right over.
+          let w = i.walked right over in
+          let told = n.ok (i.kept.still_right right) (subst (λ (x : Database). IsOver x s) (sym i.kept.same_pages) w.over) in
           let moves = subst (λ (o : Option PieceRead). TreeMoves d s moved o) c.in-Ok-Some.field-0-is (subst (λ (x : Database). TreeMoves x s moved c.in-Ok-Some.field-0) i.kept.same_pages told) in
-          let cells = subst (λ (x : Database). IsReadTold x c.args.target.now (page_of piece.page) piece.cell mid new at after) read.same_pages (e.ok (read.still_gives gives)) in
+          let cells = subst (λ (x : Database). IsReadTold x c.args.target.now (page_of piece.page) piece.cell mid new at after) read.same_pages (e.ok (read.still_right right)) in
           walk_more d c.args.target.now start s moved piece c.args.book.now mid new (g.W.Write.contents c.args.out.now) at after n.same.3 w moves cells;
     }
 
 pub returns-in-Ok-None-clause-ok : goal.returns-in-Ok-None-clause-ok
-returns-in-Ok-None-clause-ok g c = λ gives over.
+returns-in-Ok-None-clause-ok g c = λ right over.
     let i = c.pieces.invariant in
     let n = c.in-Ok-None.ensures in
     let d = g.S.PageSource.pages c.args.source.now in
     let s = c.pieces.salvage in
     let moved = c.next_piece.new.self in
-    let w = i.walked gives over in
-    let told = n.ok (i.kept.still_gives gives) (subst (λ (x : Database). IsOver x s) (sym i.kept.same_pages) w.over) in
+    let w = i.walked right over in
+    let told = n.ok (i.kept.still_right right) (subst (λ (x : Database). IsOver x s) (sym i.kept.same_pages) w.over) in
     let moves = subst (λ (o : Option PieceRead). TreeMoves d s moved o) c.in-Ok-None.field-0-is (subst (λ (x : Database). TreeMoves x s moved c.in-Ok-None.field-0) i.kept.same_pages told) in
     walk_ended d c.args.target.now c.args.salvage.now s moved c.args.book.now c.pieces.book (g.W.Write.contents c.args.out.now) (g.W.Write.contents c.pieces.out) n.same.3 w moves

@@ -10,5 +10,5 @@ invariant-pieces g l = record {
   sized : l.salvage.size ≡ l.fn.salvage.size;
   at : l.salvage.at ≡ l.fn.salvage.at;
   table : l.salvage.table ≡ l.fn.salvage.table;
-  walked : g.S.PageSource.gives_pages l.fn.source → IsOver (g.S.PageSource.pages l.fn.source) l.fn.salvage → Walked (g.S.PageSource.pages l.fn.source) l.target l.fn.salvage l.salvage l.fn.book l.book (g.W.Write.contents l.fn.out) (g.W.Write.contents l.out);
+  walked : g.S.PageSource.reads_right l.fn.source → IsOver (g.S.PageSource.pages l.fn.source) l.fn.salvage → Walked (g.S.PageSource.pages l.fn.source) l.target l.fn.salvage l.salvage l.fn.book l.book (g.W.Write.contents l.fn.out) (g.W.Write.contents l.out);
 }

@@ -13,7 +13,7 @@ no_encoding [] none = refl
 no_encoding (p ∷ d) none = absurd (omega arith)
 
 pub returns-then-count-eq0-clause-ok : goal.returns-then-count-eq0-clause-ok
-returns-then-count-eq0-clause-ok g c = λ gives. no_encoding (g.S.PageSource.pages c.args.source.now) (sym c.count.ensures ∙ c.if-count-eq0.true)
+returns-then-count-eq0-clause-ok g c = λ right. no_encoding (g.S.PageSource.pages c.args.source.now) (sym c.count.ensures ∙ c.if-count-eq0.true)
 
 pub encoding_in-requires : goal.encoding_in-requires
 encoding_in-requires g c = grind (arith, common_steps, size_some c.get-size.result c.get-size.ensures.valid)

@@ -6,7 +6,7 @@ use Rattle.cli_show_salvage.specs.Scripts.{AreOthersCounted, AreRowsSalvaged, Ar
 use Rattle.cli_show_salvage.proofs.salvage.print_rows.Goals as goal
 
 pub returns-in-Ok-print_trees-clause-ok : goal.returns-in-Ok-print_trees-clause-ok
-returns-in-Ok-print_trees-clause-ok g c = λ gives over.
+returns-in-Ok-print_trees-clause-ok g c = λ right over.
     let d = g.S.PageSource.pages c.args.source.now in
     let before = g.W.Write.contents c.args.out.now in
     let made = g.W.Write.contents c.write_made.new.out in
@@ -23,6 +23,6 @@ returns-in-Ok-print_trees-clause-ok g c = λ gives over.
       narrow = c.new-book.ensures.width;
       committed = committed;
       trees = subst (λ (name : List ℕ). AreTreesEnded d c.args.how.encoding name c.args.how.places c.args.objects.now c.args.salvage.now.marks.items begun made committed) c.deref-2.ensures.value
-          (c.in-Ok-print_trees.ensures.ok gives over);
+          (c.in-Ok-print_trees.ensures.ok right over);
       others = others;
     }) c.print_behind.ensures.ok

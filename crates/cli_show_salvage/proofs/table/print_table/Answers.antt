@@ -11,7 +11,7 @@ still_some None = refl
 still_some (Some _) = refl
 
 pub returns-clause-ok : goal.returns-clause-ok
-returns-clause-ok g c = λ gives over.
+returns-clause-ok g c = λ right over.
     let columns = c.in-Ok.columns in
     let rowid = rowid_name c.rowid_name-rowid.result in
     let target = c.target_of-target.result in
@@ -35,4 +35,4 @@ returns-clause-ok g c = λ gives over.
       begun = c.empty.new.self;
       emptied = c.empty.ensures;
       tree = tree;
-    }) (c.print_tree.ensures.ok gives over)
+    }) (c.print_tree.ensures.ok right over)

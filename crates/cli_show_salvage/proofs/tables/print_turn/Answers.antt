@@ -15,8 +15,8 @@ loop-object-init g c =
       sized = refl;
       at = refl;
       ended = c.requires.ended;
-      over = λ gives over. over;
-      told = λ gives over. none;
+      over = λ right over. over;
+      told = λ right over. none;
     }
 
 pub loop-object-preserved : goal.loop-object-preserved
@@ -38,12 +38,12 @@ loop-object-preserved g c =
       sized = e.same.0 ∙ i.sized;
       at = e.same.1 ∙ i.at;
       ended = e.ended;
-      over = λ gives over. subst (λ (x : Database). IsOver x moved) i.kept.same_pages
-          (e.over (i.kept.still_gives gives) (subst (λ (x : Database). IsOver x s) (sym i.kept.same_pages) (i.over gives over)));
-      told = λ gives over.
-          let one = e.ok (i.kept.still_gives gives) (subst (λ (x : Database). IsOver x s) (sym i.kept.same_pages) (i.over gives over)) in
+      over = λ right over. subst (λ (x : Database). IsOver x moved) i.kept.same_pages
+          (e.over (i.kept.still_right right) (subst (λ (x : Database). IsOver x s) (sym i.kept.same_pages) (i.over right over)));
+      told = λ right over.
+          let one = e.ok (i.kept.still_right right) (subst (λ (x : Database). IsOver x s) (sym i.kept.same_pages) (i.over right over)) in
           let here = subst (λ (x : Database). IsTurnSalvaged x turn.encoding turn.lost.now turn.places turn.own o s.marks.items moved.marks.items mid new at after) i.kept.same_pages one in
           let it = subst (λ (x : Object). IsTurnSalvaged d turn.encoding turn.lost.now turn.places turn.own x s.marks.items moved.marks.items mid new at after) c.object-item.is here in
           turns_more d turn.encoding turn.lost.now turn.places turn.own c.args.salvage.now.marks.items c.args.book.now (g.W.Write.contents c.args.out.now) turn.objects.now c.loop-object.object-index o
-          s.marks.items moved.marks.items mid new at after c.loop-object-test.true (i.told gives over) it;
+          s.marks.items moved.marks.items mid new at after c.loop-object-test.true (i.told right over) it;
     }
