@@ -16,3 +16,5 @@ pub mod PagesBetween
 pub mod CutsTold
 -- The cells of an image, one more at the end, and those of them that are told.
 pub mod ImagesTold
+-- What stops that isn't that a page couldn't be read.
+pub mod RunOut

@@ -4,11 +4,13 @@ use Rattle.std.proofs.KnownBytes.{Appends-nil, Appends-trans}
 use Rattle.std.specs.Io.KnownBytes.{Appends}
 use Rattle.sqval.specs.Database.{Database, page}
 use Rattle.sqcheck.specs.Places.{used_in}
+use Rattle.sqpage.specs.Source.{UnlessUnread}
 use Rattle.sqpage.specs.declared.fault.CheckError.{CheckError}
 use Rattle.sqcheck.specs.Surveys.{SurveyRefusedWith, role_at}
 use Rattle.sqcheck.specs.declared.survey.Survey.{Survey}
 use Rattle.sqcheck.specs.declared.role.Role.{Role}
 use Rattle.cli_row_text.specs.declared.form.Form.{Form}
+use Rattle.cli_show_rows.specs.Stops.{UnlessStop}
 use Rattle.cli_show_rows.specs.declared.stop.Stop.{Stop}
 use Rattle.cli_show_rows.specs.declared.stop.Stop.TheVariants.{Fault, Encoding, NoMemory}
 use Rattle.cli_show_deleted.specs.Printed.{AreTextsOf, IsRunOut, IsSurveyOf, IsTextOf, IsUnfit}
@@ -44,6 +46,12 @@ pub unfit : (d : Database) (size : ℕ) (error : CheckError) (stop : Stop) → (
     → SurveyRefusedWith true d size error.fault error.page → IsRunOut stop ⊎ IsUnfit d size stop
 unfit d size error stop (inl memory) refused = inl (subst IsRunOut (sym memory) tt)
 unfit d size error stop (inr fault) refused = inr (subst (IsUnfit d size) (sym fault) (inl refused))
+
+-- the same, unless it is that a page couldn't be read
+pub unfit_unless : (g : Type 0) (d : Database) (size : ℕ) (error : CheckError) (stop : Stop) → (stop ≡ NoMemory) ⊎ (stop ≡ Fault error)
+    → UnlessUnread g error.fault (SurveyRefusedWith true d size error.fault error.page) → UnlessStop g stop (IsRunOut stop ⊎ IsUnfit d size stop)
+unfit_unless g d size error stop (inl memory) was = subst (λ (s : Stop). UnlessStop g s (IsRunOut s ⊎ IsUnfit d size s)) (sym memory) (λ none. absurd none, λ _. inl tt)
+unfit_unless g d size error stop (inr fault) was = subst (λ (s : Stop). UnlessStop g s (IsRunOut s ⊎ IsUnfit d size s)) (sym fault) (was.0, λ read. inr (inl (was.1 read)))
 
 -- so does what page 1 says
 pub unlaid : (d : Database) (size : ℕ) (stop : Stop) → IsRunOut stop ⊎ IsUnlaid (page d 1) stop → IsRunOut stop ⊎ IsUnfit d size stop

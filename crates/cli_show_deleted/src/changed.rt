@@ -2,6 +2,7 @@
 ghost use Rattle.std.specs.Prelude.{◌≡◌, ◌⊎◌, ◌+◌, ◌<◌, ◌≤◌, ℕ, List, length, max, OnOk, IfErr};
 ghost use Rattle.std.specs.Io.KnownBytes.{Appends};
 ghost use Rattle.sqpage.specs.Source.{KeepsPages};
+ghost use Rattle.cli_show_rows.specs.Stops.{UnlessStop};
 ghost use Rattle.cli_show_deleted.specs.Changes.{AreChangeLines, AreChangesOf, AreDeletedChangesPrinted};
 ghost use Rattle.cli_show_deleted.specs.Changes.{AreDeletedChangesStopped, AreTextsBetween, Change, IsTextBetween};
 ghost use Rattle.cli_show_deleted.specs.Printed.{IsRunOut};
@@ -60,12 +61,13 @@ fn print_page_between<S: PageSource, T: PageSource, W: Write>(
     out: &mut W,
 ) -> Result<(), Stop>
     requires { before < 4294967295 }
-    ensures ok { S.gives_pages old.old → T.gives_pages new.old
+    ensures ok { S.reads_right old.old → T.reads_right new.old
         → IsUsable (S.pages old.old) pages.entry.0.now.layout.usable
         → IsUsable (T.pages new.old) pages.entry.1.now.layout.usable → OnOk result ((t : List ℕ)
         × IsTextBetween (known (S.pages old.old) pages.entry.0.now) (known (T.pages new.old) pages.entry.1.now)
         (before + 1) t × Appends (W.contents out.old) (W.contents out.new) t) }
-    ensures err { S.gives_pages old.old → T.gives_pages new.old → IfErr result IsRunOut }
+    ensures err { S.reads_right old.old → T.reads_right new.old → IfErr result (λ stop. UnlessStop
+        (S.gives_pages old.old × T.gives_pages new.old) stop (IsRunOut stop)) }
     ensures keeps { KeepsPages S.pages S.size S.reads_right S.gives_pages old.old old.new
         × KeepsPages T.pages T.size T.reads_right T.gives_pages new.old new.new }
 {
@@ -87,13 +89,14 @@ fn print_pages_between<S: PageSource, T: PageSource, W: Write>(
     pages: (&Pages, &Pages),
     out: &mut W,
 ) -> Result<(), Stop>
-    ensures ok { S.gives_pages old.old → T.gives_pages new.old
+    ensures ok { S.reads_right old.old → T.reads_right new.old
         → IsUsable (S.pages old.old) pages.entry.0.now.layout.usable
         → IsUsable (T.pages new.old) pages.entry.1.now.layout.usable → OnOk result ((t : List ℕ)
         × AreTextsBetween (known (S.pages old.old) pages.entry.0.now) (known (T.pages new.old) pages.entry.1.now)
         (max (length (S.pages old.old)) (length (T.pages new.old))) t
         × Appends (W.contents out.old) (W.contents out.new) t) }
-    ensures err { S.gives_pages old.old → T.gives_pages new.old → IfErr result IsRunOut }
+    ensures err { S.reads_right old.old → T.reads_right new.old → IfErr result (λ stop. UnlessStop
+        (S.gives_pages old.old × T.gives_pages new.old) stop (IsRunOut stop)) }
     ensures keeps { KeepsPages S.pages S.size S.reads_right S.gives_pages old.old old.new
         × KeepsPages T.pages T.size T.reads_right T.gives_pages new.old new.new }
 {
@@ -122,12 +125,12 @@ pub fn print_deleted_changes<S: PageSource, T: PageSource, W: Write>(
     style: Style,
     out: &mut W,
 ) -> Result<(), Stop>
-    ensures ok { S.gives_pages old.old → T.gives_pages new.old → OnOk result (AreDeletedChangesPrinted
+    ensures ok { S.reads_right old.old → T.reads_right new.old → OnOk result (AreDeletedChangesPrinted
         (S.pages old.old) (S.size old.old) (T.pages new.old) (T.size new.old) style
         (W.contents out.old) (W.contents out.new)) }
-    ensures err { S.gives_pages old.old → T.gives_pages new.old → IfErr result (λ stop. AreDeletedChangesStopped
-        (S.pages old.old) (S.size old.old) (T.pages new.old) (T.size new.old) stop
-        (W.contents out.old) (W.contents out.new)) }
+    ensures err { S.reads_right old.old → T.reads_right new.old → IfErr result (λ stop. UnlessStop
+        (S.gives_pages old.old × T.gives_pages new.old) stop (AreDeletedChangesStopped (S.pages old.old) (S.size old.old)
+        (T.pages new.old) (T.size new.old) stop (W.contents out.old) (W.contents out.new))) }
     ensures keeps { KeepsPages S.pages S.size S.reads_right S.gives_pages old.old old.new
         × KeepsPages T.pages T.size T.reads_right T.gives_pages new.old new.new }
 {

@@ -4,6 +4,7 @@ ghost use Rattle.std.specs.Io.KnownBytes.{Appends};
 ghost use Rattle.sqpage.specs.Freelist.{IsPage, usable_size};
 ghost use Rattle.sqpage.specs.Source.{KeepsPages};
 ghost use Rattle.sqcheck.specs.Places.{used_in};
+ghost use Rattle.cli_show_rows.specs.Stops.{UnlessStop};
 ghost use Rattle.cli_show_deleted.specs.Printed.{AreDeletedPrinted, AreDeletedStopped, AreTextsOf, IsRunOut, IsTextOf};
 
 use crate::cut_page::print_used;
@@ -28,10 +29,11 @@ fn print_page<S: PageSource, W: Write>(
 ) -> Result<(), Stop>
     requires page { IsPage (S.pages source.old) number }
     requires usable { layout.usable ≤ S.size source.old }
-    ensures ok { S.gives_pages source.old → layout.usable ≡ usable_size (S.pages source.old) → OnOk result
+    ensures ok { S.reads_right source.old → layout.usable ≡ usable_size (S.pages source.old) → OnOk result
         ((t : List ℕ) × IsTextOf layout.form role (used_in (S.pages source.old) number) number t
         × Appends (W.contents out.old) (W.contents out.new) t) }
-    ensures err { S.gives_pages source.old → IfErr result IsRunOut }
+    ensures err { S.reads_right source.old → IfErr result (λ stop. UnlessStop (S.gives_pages source.old) stop
+        (IsRunOut stop)) }
     ensures keeps { KeepsPages S.pages S.size S.reads_right S.gives_pages source.old source.new }
 {
     match page_of(layout.alloc, source, number) {
@@ -48,10 +50,11 @@ fn print_pages<S: PageSource, W: Write>(
     out: &mut W,
 ) -> Result<(), Stop>
     requires usable { layout.usable ≤ S.size source.old }
-    ensures ok { S.gives_pages source.old → layout.usable ≡ usable_size (S.pages source.old) → OnOk result
+    ensures ok { S.reads_right source.old → layout.usable ≡ usable_size (S.pages source.old) → OnOk result
         ((t : List ℕ) × AreTextsOf layout.form (S.pages source.old) roles.now (length (S.pages source.old)) t
         × Appends (W.contents out.old) (W.contents out.new) t) }
-    ensures err { S.gives_pages source.old → IfErr result IsRunOut }
+    ensures err { S.reads_right source.old → IfErr result (λ stop. UnlessStop (S.gives_pages source.old) stop
+        (IsRunOut stop)) }
     ensures keeps { KeepsPages S.pages S.size S.reads_right S.gives_pages source.old source.new }
 {
     let count = source.count();
@@ -80,10 +83,10 @@ pub fn print_deleted<S: PageSource, W: Write>(
     style: Style,
     out: &mut W,
 ) -> Result<(), Stop>
-    ensures ok { S.gives_pages source.old → OnOk result (AreDeletedPrinted (S.pages source.old) (S.size source.old)
+    ensures ok { S.reads_right source.old → OnOk result (AreDeletedPrinted (S.pages source.old) (S.size source.old)
         style (W.contents out.old) (W.contents out.new)) }
-    ensures err { S.gives_pages source.old → IfErr result (λ stop. AreDeletedStopped (S.pages source.old)
-        (S.size source.old) stop (W.contents out.old) (W.contents out.new)) }
+    ensures err { S.reads_right source.old → IfErr result (λ stop. UnlessStop (S.gives_pages source.old) stop
+        (AreDeletedStopped (S.pages source.old) (S.size source.old) stop (W.contents out.old) (W.contents out.new))) }
     ensures keeps { KeepsPages S.pages S.size S.reads_right S.gives_pages source.old source.new }
 {
     if source.count() == 0 {

@@ -3,6 +3,7 @@ ghost use Rattle.std.specs.Prelude.{◌≡◌, ◌⊎◌, ◌≤◌, length, IfO
 ghost use Rattle.sqval.specs.Database.{page};
 ghost use Rattle.sqpage.specs.Freelist.{IsPage};
 ghost use Rattle.sqpage.specs.Source.{KeepsPages};
+ghost use Rattle.cli_show_rows.specs.Stops.{UnlessStop};
 ghost use Rattle.cli_show_deleted.specs.Printed.{IsRunOut};
 ghost use Rattle.cli_show_deleted.specs.Opening.{IsLayoutIn, IsUnlaid};
 
@@ -53,10 +54,11 @@ pub(crate) fn page_of<S: PageSource>(
     number: u32,
 ) -> Result<Vec<u8>, Stop>
     requires { IsPage (S.pages source.old) number }
-    ensures ok { S.gives_pages source.old → IfOk result (λ bytes. bytes.items ≡ page (S.pages source.old) number) }
+    ensures ok { S.reads_right source.old → IfOk result (λ bytes. bytes.items ≡ page (S.pages source.old) number) }
     ensures size { IfOk result (λ bytes. (length bytes.items ≡ S.size source.old) × (512 ≤ length bytes.items)
         × (length bytes.items ≤ 65536)) }
-    ensures err { S.gives_pages source.old → IfErr result IsRunOut }
+    ensures err { S.reads_right source.old → IfErr result (λ stop. UnlessStop (S.gives_pages source.old) stop
+        (IsRunOut stop)) }
     ensures keeps { KeepsPages S.pages S.size S.reads_right S.gives_pages source.old source.new }
 {
     let size = source.page_size().get() as usize;
@@ -79,10 +81,11 @@ pub(crate) fn layout_of<S: PageSource>(
     notation: Notation,
 ) -> Result<Layout, Stop>
     requires { IsPage (S.pages source.old) 1 }
-    ensures ok { S.gives_pages source.old → IfOk result (IsLayoutIn notation (page (S.pages source.old) 1)) }
+    ensures ok { S.reads_right source.old → IfOk result (IsLayoutIn notation (page (S.pages source.old) 1)) }
     ensures within { IfOk result (λ layout. layout.usable ≤ S.size source.old) }
-    ensures err { S.gives_pages source.old → IfErr result
-        (λ stop. IsRunOut stop ⊎ IsUnlaid (page (S.pages source.old) 1) stop) }
+    ensures err { S.reads_right source.old → IfErr result
+        (λ stop. UnlessStop (S.gives_pages source.old) stop
+        (IsRunOut stop ⊎ IsUnlaid (page (S.pages source.old) 1) stop)) }
     ensures keeps { KeepsPages S.pages S.size S.reads_right S.gives_pages source.old source.new }
 {
     match page_of(alloc, source, 1) {

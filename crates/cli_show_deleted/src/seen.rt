@@ -3,6 +3,7 @@ ghost use Rattle.std.specs.Prelude.{◌≡◌, ◌⊎◌, ◌+◌, ◌≤◌, le
 ghost use Rattle.sqpage.specs.Source.{KeepsPages};
 ghost use Rattle.sqcheck.specs.Places.{used_in};
 ghost use Rattle.sqcheck.specs.Surveys.{role_at};
+ghost use Rattle.cli_show_rows.specs.Stops.{UnlessStop};
 ghost use Rattle.cli_show_deleted.specs.Printed.{IsRunOut};
 ghost use Rattle.cli_show_deleted.specs.internal.Surveys.{IsUsable};
 
@@ -36,11 +37,12 @@ pub(crate) fn seen_of<S: PageSource>(
     before: u32,
 ) -> Result<Seen, Stop>
     ensures role { IfOk result (λ seen. seen.role ≡ role_at pages.now.roles.items (before + 1)) }
-    ensures used { S.gives_pages source.old → IsUsable (S.pages source.old) pages.now.layout.usable
+    ensures used { S.reads_right source.old → IsUsable (S.pages source.old) pages.now.layout.usable
         → IfOk result (λ seen. seen.used.items ≡ used_in (S.pages source.old) (before + 1)) }
     ensures sized { IfOk result (λ seen. (length seen.used.items ≡ 0)
         ⊎ ((480 ≤ length seen.used.items) × (length seen.used.items ≤ 65536))) }
-    ensures err { S.gives_pages source.old → IfErr result IsRunOut }
+    ensures err { S.reads_right source.old → IfErr result (λ stop. UnlessStop (S.gives_pages source.old) stop
+        (IsRunOut stop)) }
     ensures keeps { KeepsPages S.pages S.size S.reads_right S.gives_pages source.old source.new }
 {
     let layout = pages.layout;

@@ -3,6 +3,7 @@ ghost use Rattle.std.specs.Prelude.{◌≡◌, ◌⊎◌, ◌≤◌, [], length,
 ghost use Rattle.sqpage.specs.Freelist.{IsPage};
 ghost use Rattle.sqpage.specs.Source.{KeepsPages};
 ghost use Rattle.cli_row_text.specs.Lines.{form_of};
+ghost use Rattle.cli_show_rows.specs.Stops.{UnlessStop};
 ghost use Rattle.cli_show_deleted.specs.Changes.{IsUnfitWithPages};
 ghost use Rattle.cli_show_deleted.specs.Printed.{IsRunOut, IsUnfit, notation_in};
 ghost use Rattle.cli_show_deleted.specs.internal.Surveys.{ArePages, AreReadPages};
@@ -52,11 +53,12 @@ pub(crate) fn surveyed<S: PageSource>(
     style: Style,
 ) -> Result<Pages, Stop>
     requires { IsPage (S.pages source.old) 1 }
-    ensures ok { S.gives_pages source.old
+    ensures ok { S.reads_right source.old
         → IfOk result (λ pages. AreReadPages (S.pages source.old) (S.size source.old) style pages) }
     ensures within { IfOk result (λ pages. pages.layout.usable ≤ S.size source.old) }
-    ensures err { S.gives_pages source.old → IfErr result
-        (λ stop. IsRunOut stop ⊎ IsUnfit (S.pages source.old) (S.size source.old) stop) }
+    ensures err { S.reads_right source.old → IfErr result
+        (λ stop. UnlessStop (S.gives_pages source.old) stop
+        (IsRunOut stop ⊎ IsUnfit (S.pages source.old) (S.size source.old) stop)) }
     ensures keeps { KeepsPages S.pages S.size S.reads_right S.gives_pages source.old source.new }
 {
     let layout = match layout_of(alloc, source, notation_in(style)) {
@@ -97,10 +99,11 @@ pub(crate) fn pages_of<S: PageSource>(
     source: &mut S,
     style: Style,
 ) -> Result<Pages, Stop>
-    ensures ok { S.gives_pages source.old
+    ensures ok { S.reads_right source.old
         → IfOk result (λ pages. ArePages (S.pages source.old) (S.size source.old) style pages) }
-    ensures err { S.gives_pages source.old → IfErr result
-        (λ stop. IsRunOut stop ⊎ IsUnfitWithPages (S.pages source.old) (S.size source.old) stop) }
+    ensures err { S.reads_right source.old → IfErr result
+        (λ stop. UnlessStop (S.gives_pages source.old) stop
+        (IsRunOut stop ⊎ IsUnfitWithPages (S.pages source.old) (S.size source.old) stop)) }
     ensures keeps { KeepsPages S.pages S.size S.reads_right S.gives_pages source.old source.new }
 {
     if source.count() == 0 {

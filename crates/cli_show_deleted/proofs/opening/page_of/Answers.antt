@@ -1,4 +1,4 @@
-use Rattle.std.proofs.Common.{◌≡◌, ◌≤◌, ◌++◌, ℕ, List, length, take, drop, arith, length-append}
+use Rattle.std.proofs.Common.{◌≡◌, ◌≤◌, ◌++◌, ℕ, List, length, take, drop, arith, refl, length-append}
 use Rattle.std.proofs.lemmas.Grind.{common_steps}
 use Rattle.std.proofs.lemmas.List.{length-take}
 use Rattle.sqval.specs.PageSize.{IsPageSize}
@@ -11,7 +11,7 @@ as_long : (size n : ℕ) (out old : List ℕ) → n ≡ size → length out ≡ 
 as_long size n out old many long = omega (arith, length-take n (out ++ drop (length out) old), length-append out (drop (length out) old))
 
 of_size : (size long given : ℕ) → IsPageSize size → long ≡ size → given ≡ size → (long ≡ given) × (512 ≤ long) × (long ≤ 65536)
-of_size size long given is same gives =
+of_size size long given is same right =
     let least = size_some size is in
     let most = most_page_size size is in
     (omega arith, omega arith, omega arith)
@@ -26,3 +26,6 @@ returns-in-Ok-page-clause-size g c =
     let long : length out ≡ size = grind (arith, common_steps) in
     let given : g.S.PageSource.size c.args.source.now ≡ size = grind (arith, common_steps) in
     of_size size (length (take n (out ++ drop (length out) old))) (g.S.PageSource.size c.args.source.now) c.get-size.ensures.valid (as_long size n out old many long) given
+
+pub returns-in-Err-clause-err : goal.returns-in-Err-clause-err
+returns-in-Err-clause-err g c = λ right. (λ is gives. c.in-Err.ensures.never_fails gives, λ read. absurd (read refl))

@@ -6,7 +6,7 @@ use Rattle.cli_show_deleted.proofs.PagesBetween.{encoding_none}
 use Rattle.cli_show_deleted.proofs.surveyed.pages_of.Goals as goal
 
 pub returns-then-count-eq0-clause-ok : goal.returns-then-count-eq0-clause-ok
-returns-then-count-eq0-clause-ok g c = λ gives.
+returns-then-count-eq0-clause-ok g c = λ right.
     let d = g.S.PageSource.pages c.args.source.now in
     let none : length d ≡ 0 = omega arith in
     record {
