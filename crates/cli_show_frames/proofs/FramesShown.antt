@@ -37,11 +37,11 @@ past_shows size w m d p i names (inr none) shown = omega (arith, shown.1.first, 
 
 -- ---- what a view keeps
 
-pub kept_same : {F : Type 0} (bytes : F → List ℕ) (gives : F → Type 0) (v : View F) → KeepsView bytes gives v v
-kept_same bytes gives v = record { same = refl; still_gives = λ g. g }
+pub kept_same : {F : Type 0} (bytes : F → List ℕ) (right gives : F → Type 0) (v : View F) → KeepsView bytes right gives v v
+kept_same bytes right gives v = record { same = refl; still_right = λ r. r; still_gives = λ g. g }
 
-pub kept_more : {F : Type 0} (bytes : F → List ℕ) (gives : F → Type 0) (a b c : View F) → KeepsView bytes gives a b → KeepsView bytes gives b c → KeepsView bytes gives a c
-kept_more bytes gives a b c x y = record { same = y.same ∙ x.same; still_gives = λ g. y.still_gives (x.still_gives g) }
+pub kept_more : {F : Type 0} (bytes : F → List ℕ) (right gives : F → Type 0) (a b c : View F) → KeepsView bytes right gives a b → KeepsView bytes right gives b c → KeepsView bytes right gives a c
+kept_more bytes right gives a b c x y = record { same = y.same ∙ x.same; still_right = λ r. y.still_right (x.still_right r); still_gives = λ g. y.still_gives (x.still_gives g) }
 
 -- ---- slots, one more at the end
 

@@ -2,6 +2,7 @@
 ghost use Rattle.std.specs.Prelude.{◌≡◌, OnOk, IfErr};
 ghost use Rattle.sqview.specs.LogView.{pages_of};
 ghost use Rattle.sqview.specs.Shapes.{shape_of};
+ghost use Rattle.cli_show_rows.specs.Stops.{UnlessStop};
 ghost use Rattle.cli_show_frames.specs.Frames.{AreAllPrinted, AreAllStopped, IsFramed};
 
 use crate::frames::print_frame_cells;
@@ -22,11 +23,12 @@ fn print_seen<V: Seen, F: FileBytes + Drop, W: Write>(
     out: &mut W,
 ) -> Result<(), Stop>
     requires { shape_of F.bytes view ≡ V.shape }
-    ensures ok { F.gives_bytes view.db × F.gives_bytes view.log → IsFramed F.bytes view
+    ensures ok { F.reads_right view.db × F.reads_right view.log → IsFramed F.bytes view
         → OnOk result (AreAllPrinted view.page_size (F.bytes view.log) view.front (pages_of F.bytes view) style
         (W.contents out.old) (W.contents out.new)) }
-    ensures err { F.gives_bytes view.db × F.gives_bytes view.log → IfErr result (λ stop.
-        AreAllStopped view.page_size (pages_of F.bytes view) style stop (W.contents out.old) (W.contents out.new)) }
+    ensures err { F.reads_right view.db × F.reads_right view.log → IfErr result (λ stop. UnlessStop
+        (F.gives_bytes view.db × F.gives_bytes view.log) stop
+        (AreAllStopped view.page_size (pages_of F.bytes view) style stop (W.contents out.old) (W.contents out.new))) }
 {
     let mut held: Held<V, F> = Held {
         view,
@@ -47,11 +49,12 @@ pub fn print_all_deleted<F: FileBytes + Drop, W: Write>(
     style: Style,
     out: &mut W,
 ) -> Result<(), Stop>
-    ensures ok { F.gives_bytes view.db × F.gives_bytes view.log → IsFramed F.bytes view
+    ensures ok { F.reads_right view.db × F.reads_right view.log → IsFramed F.bytes view
         → OnOk result (AreAllPrinted view.page_size (F.bytes view.log) view.front (pages_of F.bytes view) style
         (W.contents out.old) (W.contents out.new)) }
-    ensures err { F.gives_bytes view.db × F.gives_bytes view.log → IfErr result (λ stop.
-        AreAllStopped view.page_size (pages_of F.bytes view) style stop (W.contents out.old) (W.contents out.new)) }
+    ensures err { F.reads_right view.db × F.reads_right view.log → IfErr result (λ stop. UnlessStop
+        (F.gives_bytes view.db × F.gives_bytes view.log) stop
+        (AreAllStopped view.page_size (pages_of F.bytes view) style stop (W.contents out.old) (W.contents out.new))) }
 {
     print_seen::<Brand, F, W>(alloc, view, style, out)
 }

@@ -5,6 +5,7 @@ ghost use Rattle.sqwal.specs.Header.{IsHeader};
 ghost use Rattle.sqpage.specs.Freelist.{IsPage};
 ghost use Rattle.sqview.specs.LogView.{pages_of};
 ghost use Rattle.sqview.specs.Shapes.{shape_of};
+ghost use Rattle.cli_show_rows.specs.Stops.{UnlessStop};
 ghost use Rattle.cli_show_deleted.specs.Opening.{IsLayoutIn, IsUnlaid};
 ghost use Rattle.cli_show_deleted.specs.Printed.{IsRunOut, notation_in};
 ghost use Rattle.cli_show_frames.specs.Frames.{AreFramesPrinted, AreFramesStopped, IsFramed};
@@ -23,10 +24,11 @@ use std::io::Write;
 
 /// Whether a view's log has a valid header that names the size of the view's pages.
 fn has_log<F: FileBytes>(view: &mut View<F>) -> Result<bool, Stop>
-    ensures is { F.gives_bytes view.old.db × F.gives_bytes view.old.log → IfOk result (λ is. IsTrue is
+    ensures is { F.reads_right view.old.db × F.reads_right view.old.log → IfOk result (λ is. IsTrue is
         ↔ IsHeader view.old.page_size (F.bytes view.old.log)) }
-    ensures err { F.gives_bytes view.old.db × F.gives_bytes view.old.log → IfErr result IsRunOut }
-    ensures keeps { KeepsView F.bytes F.gives_bytes view.old view.new }
+    ensures err { IfErr result (λ stop. UnlessStop (F.gives_bytes view.old.db × F.gives_bytes view.old.log) stop
+        (IsRunOut stop)) }
+    ensures keeps { KeepsView F.bytes F.reads_right F.gives_bytes view.old view.new }
 {
     let mut head = [0u8; 32];
     match view.read_log(0, &mut head) {
@@ -45,12 +47,13 @@ fn has_log<F: FileBytes>(view: &mut View<F>) -> Result<bool, Stop>
 /// What page 1 of a view says of all pages.
 fn layout_of<F: FileBytes>(alloc: Global, view: &mut View<F>, style: Style) -> Result<Layout, Stop>
     requires { IsPage (pages_of F.bytes view.old) 1 }
-    ensures ok { F.gives_bytes view.old.db × F.gives_bytes view.old.log
+    ensures ok { F.reads_right view.old.db × F.reads_right view.old.log
         → IfOk result (IsLayoutIn (notation_in style) (page (pages_of F.bytes view.old) 1)) }
     ensures within { IfOk result (λ layout. layout.usable ≤ view.old.page_size) }
-    ensures err { F.gives_bytes view.old.db × F.gives_bytes view.old.log → IfErr result
-        (λ stop. IsRunOut stop ⊎ IsUnlaid (page (pages_of F.bytes view.old) 1) stop) }
-    ensures keeps { KeepsView F.bytes F.gives_bytes view.old view.new }
+    ensures err { F.reads_right view.old.db × F.reads_right view.old.log → IfErr result (λ stop. UnlessStop
+        (F.gives_bytes view.old.db × F.gives_bytes view.old.log) stop
+        (IsRunOut stop ⊎ IsUnlaid (page (pages_of F.bytes view.old) 1) stop)) }
+    ensures keeps { KeepsView F.bytes F.reads_right F.gives_bytes view.old view.new }
 {
     let size = view.page_size().get() as usize;
     let Ok(mut bytes) = vec![in alloc; 0u8; size] else {
@@ -76,13 +79,16 @@ pub fn print_frame_cells<F: FileBytes, W: Write>(
     style: Style,
     out: &mut W,
 ) -> Result<(), Stop>
-    ensures ok { F.gives_bytes view.old.db × F.gives_bytes view.old.log → IsFramed F.bytes view.old
+    ensures ok { F.reads_right view.old.db × F.reads_right view.old.log → IsFramed F.bytes view.old
         → OnOk result (AreFramesPrinted view.old.page_size (F.bytes view.old.log) view.old.front
         (pages_of F.bytes view.old) style (W.contents out.old) (W.contents out.new)) }
-    ensures err { F.gives_bytes view.old.db × F.gives_bytes view.old.log → IfErr result (λ stop.
-        AreFramesStopped (pages_of F.bytes view.old) stop (W.contents out.old) (W.contents out.new)) }
+    ensures err { F.reads_right view.old.db × F.reads_right view.old.log → IfErr result (λ stop. UnlessStop
+        (F.gives_bytes view.old.db × F.gives_bytes view.old.log) stop
+        (AreFramesStopped (pages_of F.bytes view.old) stop (W.contents out.old) (W.contents out.new))) }
     // The view shows what it showed.
     ensures same { shape_of F.bytes view.new ≡ shape_of F.bytes view.old }
+    ensures still_right { F.reads_right view.old.db × F.reads_right view.old.log
+        → F.reads_right view.new.db × F.reads_right view.new.log }
     ensures still_gives { F.gives_bytes view.old.db × F.gives_bytes view.old.log
         → F.gives_bytes view.new.db × F.gives_bytes view.new.log }
 {

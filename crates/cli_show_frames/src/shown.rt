@@ -3,6 +3,7 @@ ghost use Rattle.std.specs.Prelude.{◌≡◌, ◌↔◌, ◌≤◌, length, IfO
 ghost use Rattle.sqwal.specs.Frames.{page_of};
 ghost use Rattle.sqpage.specs.Freelist.{usable_size};
 ghost use Rattle.sqview.specs.Shapes.{shape_of};
+ghost use Rattle.cli_show_rows.specs.Stops.{IsUnreadStop, UnlessStop};
 ghost use Rattle.cli_show_deleted.specs.Printed.{IsRunOut};
 ghost use Rattle.cli_show_frames.specs.internal.Seen.{AreUsedOf, HasFrames, KeepsView, ShowsSlot, pages_in};
 
@@ -11,7 +12,9 @@ use sqpage::{CheckError, Fault, PageSource};
 use sqview::{FileBytes, Origin, View};
 
 /// Why what stands there isn't read: a page, or by 0 the log.
-pub(crate) fn unread(page: u32) -> Stop {
+pub(crate) fn unread(page: u32) -> Stop
+    ensures { IsUnreadStop result }
+{
     Stop::Fault(CheckError {
         page,
         fault: Fault::Source,
@@ -41,12 +44,13 @@ pub(crate) fn read_shown<F: FileBytes>(
     page: &mut [u8],
 ) -> Result<usize, Stop>
     requires { (length page.old ≡ view.old.page_size) × (usable ≤ view.old.page_size) }
-    ensures used { F.gives_bytes view.old.db × F.gives_bytes view.old.log
+    ensures used { F.reads_right view.old.db × F.reads_right view.old.log
         → usable ≡ usable_size (pages_in (shape_of F.bytes view.old))
         → IfOk result (AreUsedOf (shape_of F.bytes view.old) number page.new) }
     ensures within { IfOk result (λ many. many ≤ length page.new) }
-    ensures err { F.gives_bytes view.old.db × F.gives_bytes view.old.log → IfErr result IsRunOut }
-    ensures keeps { KeepsView F.bytes F.gives_bytes view.old view.new }
+    ensures err { IfErr result (λ stop. UnlessStop (F.gives_bytes view.old.db × F.gives_bytes view.old.log) stop
+        (IsRunOut stop)) }
+    ensures keeps { KeepsView F.bytes F.reads_right F.gives_bytes view.old view.new }
 {
     if number == 0 || number > view.count() {
         return Ok(0);

@@ -4,6 +4,7 @@ ghost use Rattle.std.specs.Io.KnownBytes.{Appends};
 ghost use Rattle.sqwal.specs.Frames.{content_of, frame_end, page_of};
 ghost use Rattle.sqpage.specs.Freelist.{usable_size};
 ghost use Rattle.sqview.specs.Shapes.{shape_of};
+ghost use Rattle.cli_show_rows.specs.Stops.{UnlessStop};
 ghost use Rattle.cli_show_deleted.specs.Printed.{IsRunOut};
 ghost use Rattle.cli_show_frames.specs.Frames.{slot_count};
 ghost use Rattle.cli_show_frames.specs.internal.Seen.{AreSlotTexts, HasFrames, IsSlotText, KeepsView, pages_in};
@@ -39,13 +40,14 @@ fn slots_in(page_size: PageSize, length: u64) -> u64
 /// Reads slot `i`, from 1. The page that it names.
 fn read_slot<F: FileBytes>(view: &mut View<F>, i: u64, frame: &mut [u8]) -> Result<u32, Stop>
     requires { length frame.old ≡ 24 + view.old.page_size }
-    ensures read { F.gives_bytes view.old.db × F.gives_bytes view.old.log → 1 ≤ i
+    ensures read { F.reads_right view.old.db × F.reads_right view.old.log → 1 ≤ i
         → length (F.bytes view.old.log) < 2 ^ 64
         → frame_end view.old.page_size i ≤ length (F.bytes view.old.log) → IfOk result (λ page.
         (page ≡ page_of view.old.page_size (F.bytes view.old.log) i)
         × (drop 24 frame.new ≡ content_of view.old.page_size (F.bytes view.old.log) i)) }
-    ensures err { F.gives_bytes view.old.db × F.gives_bytes view.old.log → IfErr result IsRunOut }
-    ensures keeps { KeepsView F.bytes F.gives_bytes view.old view.new }
+    ensures err { IfErr result (λ stop. UnlessStop (F.gives_bytes view.old.db × F.gives_bytes view.old.log) stop
+        (IsRunOut stop)) }
+    ensures keeps { KeepsView F.bytes F.reads_right F.gives_bytes view.old view.new }
 {
     let at = slot_place(view.page_size(), i);
     match view.read_log(at, frame) {
@@ -65,14 +67,15 @@ fn print_slot<F: FileBytes, W: Write>(
 ) -> Result<(), Stop>
     requires room { (length frame.old ≡ 24 + view.old.page_size) × (length page.old ≡ view.old.page_size) }
     requires usable { layout.usable ≤ view.old.page_size }
-    ensures ok { F.gives_bytes view.old.db × F.gives_bytes view.old.log → HasFrames (shape_of F.bytes view.old)
+    ensures ok { F.reads_right view.old.db × F.reads_right view.old.log → HasFrames (shape_of F.bytes view.old)
         → layout.usable ≡ usable_size (pages_in (shape_of F.bytes view.old)) → 1 ≤ i
         → length (F.bytes view.old.log) < 2 ^ 64
         → frame_end view.old.page_size i ≤ length (F.bytes view.old.log) → OnOk result ((t : List ℕ)
         × IsSlotText layout.form (shape_of F.bytes view.old) i t
         × Appends (W.contents out.old) (W.contents out.new) t) }
-    ensures err { F.gives_bytes view.old.db × F.gives_bytes view.old.log → IfErr result IsRunOut }
-    ensures keeps { KeepsView F.bytes F.gives_bytes view.old view.new }
+    ensures err { IfErr result (λ stop. UnlessStop (F.gives_bytes view.old.db × F.gives_bytes view.old.log) stop
+        (IsRunOut stop)) }
+    ensures keeps { KeepsView F.bytes F.reads_right F.gives_bytes view.old view.new }
 {
     let number = match read_slot(view, i, frame) {
         Ok(number) => number,
@@ -100,13 +103,14 @@ pub(crate) fn print_slots<F: FileBytes, W: Write>(
     out: &mut W,
 ) -> Result<(), Stop>
     requires { layout.usable ≤ view.old.page_size }
-    ensures ok { F.gives_bytes view.old.db × F.gives_bytes view.old.log → HasFrames (shape_of F.bytes view.old)
+    ensures ok { F.reads_right view.old.db × F.reads_right view.old.log → HasFrames (shape_of F.bytes view.old)
         → layout.usable ≡ usable_size (pages_in (shape_of F.bytes view.old)) → OnOk result ((t : List ℕ)
         × AreSlotTexts layout.form (shape_of F.bytes view.old)
         (slot_count view.old.page_size (F.bytes view.old.log)) t
         × Appends (W.contents out.old) (W.contents out.new) t) }
-    ensures err { F.gives_bytes view.old.db × F.gives_bytes view.old.log → IfErr result IsRunOut }
-    ensures keeps { KeepsView F.bytes F.gives_bytes view.old view.new }
+    ensures err { IfErr result (λ stop. UnlessStop (F.gives_bytes view.old.db × F.gives_bytes view.old.log) stop
+        (IsRunOut stop)) }
+    ensures keeps { KeepsView F.bytes F.reads_right F.gives_bytes view.old view.new }
 {
     let page_size = view.page_size();
     let size = page_size.get() as usize;

@@ -29,7 +29,8 @@ AreSlotTexts form s n t = AreTextsOfSlots form s.page_size s.log s.front (pages_
 abbrev pub AreUsedOf : Shape → (n : ℕ) → (bytes : List ℕ) → (many : ℕ) → Type 0
 AreUsedOf s n bytes many = (many ≤ length bytes) × IsUsedOf (pages_in s) n (take many bytes)
 
--- A view shows what it showed, and its files give their bytes if they gave them.
-pub record KeepsView {F : Type 0} (bytes : F → List ℕ) (gives : F → Type 0) (old new : View F) : Type 0 where
+-- A view shows what it showed, and its files read right and give their bytes if they did.
+pub record KeepsView {F : Type 0} (bytes : F → List ℕ) (right gives : F → Type 0) (old new : View F) : Type 0 where
   pub same : shape_of bytes new ≡ shape_of bytes old
+  pub still_right : right old.db × right old.log → right new.db × right new.log
   pub still_gives : gives old.db × gives old.log → gives new.db × gives new.log

@@ -6,11 +6,10 @@ use Rattle.cli_show_frames.proofs.SlotsRead.{header_here, header_there, never, r
 use Rattle.cli_show_frames.proofs.frames.has_log.Goals as goal
 
 pub returns-in-Ok-read-clause-is : goal.returns-in-Ok-read-clause-is
-returns-in-Ok-read-clause-is g c = λ gives.
+returns-in-Ok-read-clause-is g c = λ right.
     let bytes = g.F.FileBytes.bytes in
     let v = c.args.view.now in
     let w = bytes v.log in
-    let right : g.F.FileBytes.reads_right v.db × g.F.FileBytes.reads_right v.log = (g.met.F.FileBytes.right v.db gives.0, g.met.F.FileBytes.right v.log gives.1) in
     let read = c.in-Ok.ensures.read right in
     let same = ap (λ (s : Shape). s.log) c.in-Ok.ensures.same in
     let still = (c.in-Ok.ensures.still_right right).1 in
@@ -26,11 +25,10 @@ returns-in-Ok-read-clause-is g c = λ gives.
     )
 
 pub returns-in-Err-read-clause-is : goal.returns-in-Err-read-clause-is
-returns-in-Err-read-clause-is g c = λ gives.
+returns-in-Err-read-clause-is g c = λ right.
     let bytes = g.F.FileBytes.bytes in
     let v = c.args.view.now in
     let w = bytes v.log in
-    let right : g.F.FileBytes.reads_right v.db × g.F.FileBytes.reads_right v.log = (g.met.F.FileBytes.right v.db gives.0, g.met.F.FileBytes.right v.log gives.1) in
     let read = c.in-Ok.ensures.read right in
     let same = ap (λ (s : Shape). s.log) c.in-Ok.ensures.same in
     let still = (c.in-Ok.ensures.still_right right).1 in
@@ -40,3 +38,6 @@ returns-in-Err-read-clause-is g c = λ gives.
       λ yes. absurd (never yes),
       λ is. absurd (refused_none v.page_size c.read_log.new.out c.in-Err-read.field-0 c.in-Err-read.ensures (header_here w c.read_log.new.out long read v.page_size is)),
     )
+
+pub returns-in-Err-clause-err : goal.returns-in-Err-clause-err
+returns-in-Err-clause-err g c = (λ is gives. c.in-Err.ensures.never_fails gives, λ read. absurd (read c.unread.ensures))

@@ -9,10 +9,10 @@ abbrev pub invariant-slots : goal.invariant-slots
 invariant-slots g l =
     let bytes = g.F.FileBytes.bytes in
     record {
-      kept : KeepsView bytes g.F.FileBytes.gives_bytes l.fn.view l.view;
+      kept : KeepsView bytes g.F.FileBytes.reads_right g.F.FileBytes.gives_bytes l.fn.view l.view;
       frame : length l.frame.items ≡ 24 + l.fn.view.page_size;
       page : length l.page.items ≡ l.fn.view.page_size;
-      told : g.F.FileBytes.gives_bytes l.fn.view.db × g.F.FileBytes.gives_bytes l.fn.view.log → HasFrames (shape_of bytes l.fn.view)
+      told : g.F.FileBytes.reads_right l.fn.view.db × g.F.FileBytes.reads_right l.fn.view.log → HasFrames (shape_of bytes l.fn.view)
           → l.layout.usable ≡ usable_size (pages_in (shape_of bytes l.fn.view))
           → AreSlotsDone l.layout.form (shape_of bytes l.fn.view) l.i (g.W.Write.contents l.fn.out) (g.W.Write.contents l.out);
     }
