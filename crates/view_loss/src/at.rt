@@ -1,5 +1,5 @@
 //! Why it isn't known which database was there at a commit, or before the first one.
-ghost use Rattle.std.specs.Prelude.{◌≡◌, ◌≤◌, ◌<◌, ℕ, List, None, IfOk, IfErr};
+ghost use Rattle.std.specs.Prelude.{◌≡◌, ◌≢◌, ◌≤◌, ◌<◌, ℕ, List, None, IfOk, IfErr};
 ghost use Rattle.sqval.specs.Database.{page};
 ghost use Rattle.sqwal.specs.Frames.{IsFront};
 ghost use Rattle.sqwal.specs.Header.{named_size};
@@ -44,12 +44,12 @@ fn loss_before<F: FileBytes + Copy + Drop>(
     files: (F, F),
     scan: &Scan,
 ) -> Result<Option<Loss>, ViewError>
-    ensures loss { F.gives_bytes files.0 × F.gives_bytes files.1 → IfOk result (λ loss. (most front : ℕ)
+    ensures loss { F.reads_right files.0 × F.reads_right files.1 → IfOk result (λ loss. (most front : ℕ)
         → TookWithin most (F.bytes files.1) scan.now
         → IsFront (named_size (F.bytes files.1)) (F.bytes files.1) front → 1 ≤ front
         → IsLossOf (named_size (F.bytes files.1)) (F.bytes files.1) front (F.bytes files.0) 0 loss) }
-    ensures memory { F.gives_bytes files.0 × F.gives_bytes files.1
-        → IfErr result (λ error. error ≡ ViewError.NoMemory) }
+    ensures refused { IfErr result IsSource }
+    ensures read { F.gives_bytes files.0 × F.gives_bytes files.1 → IsRead result }
 {
     let Some(header) = scan.header() else {
         return Ok(None);
@@ -72,13 +72,14 @@ fn loss_after<F: FileBytes + Copy + Drop>(
     frame: u32,
 ) -> Result<Option<Loss>, ViewError>
     requires { 1 ≤ frame }
-    ensures loss { F.gives_bytes files.0 × F.gives_bytes files.1 → IfOk result (λ loss. (front : ℕ)
+    ensures loss { F.reads_right files.0 × F.reads_right files.1 → IfOk result (λ loss. (front : ℕ)
         (journal : List ℕ) → ¬ IsHot journal → TookWithin limits.frames (F.bytes files.1) scan.now
         → IsFront (named_size (F.bytes files.1)) (F.bytes files.1) front → frame < front
         → IsLossOf (named_size (F.bytes files.1)) (F.bytes files.1) front (F.bytes files.0) frame loss) }
-    ensures refused { F.gives_bytes files.0 × F.gives_bytes files.1 → IfErr result (λ error. (journal : List ℕ)
+    ensures refused { IfErr result (λ error. error ≢ ViewError.Unread → (journal : List ℕ)
         → TookWithin limits.frames (F.bytes files.1) scan.now → ¬ IsHot journal
         → AtRefusedWithin limits frame (F.bytes files.0) (F.bytes files.1) journal error) }
+    ensures read { F.gives_bytes files.0 × F.gives_bytes files.1 → IsRead result }
 {
     let (db, log) = files;
     let mut view = View::of_scan_within(alloc, limits, db, log, scan, frame)?;
@@ -97,15 +98,17 @@ pub fn loss_at<F: FileBytes + Copy + Drop>(
     scan: &Scan,
     frame: u32,
 ) -> Result<Option<Loss>, ViewError>
-    ensures loss { F.gives_bytes files.0 × F.gives_bytes files.1 → IfOk result (λ loss. (front : ℕ)
+    ensures loss { F.reads_right files.0 × F.reads_right files.1 → IfOk result (λ loss. (front : ℕ)
         (journal : List ℕ) → ¬ IsHot journal → TookWithin limits.frames (F.bytes files.1) scan.now
         → IsFront (named_size (F.bytes files.1)) (F.bytes files.1) front → frame < front
         → IsLossOf (named_size (F.bytes files.1)) (F.bytes files.1) front (F.bytes files.0) frame loss) }
     ensures front { IfOk result (λ loss. (most front : ℕ) → TookWithin most (F.bytes files.1) scan.now
         → IsFront (named_size (F.bytes files.1)) (F.bytes files.1) front → front ≤ frame → loss ≡ None) }
-    ensures refused { F.gives_bytes files.0 × F.gives_bytes files.1 → IfErr result (λ error. (journal : List ℕ)
+    ensures refused { IfErr result (λ error. error ≢ ViewError.Unread → (journal : List ℕ)
         → TookWithin limits.frames (F.bytes files.1) scan.now → ¬ IsHot journal
         → AtRefusedWithin limits frame (F.bytes files.0) (F.bytes files.1) journal error) }
+    // That a file couldn't be read is told only where a read failed.
+    ensures read { F.gives_bytes files.0 × F.gives_bytes files.1 → IsRead result }
 {
     if frame >= scan.committed().frames {
         return Ok(None);

@@ -5,6 +5,8 @@ ghost use Rattle.sqwal.specs.Frames.{IsFront, IsValidFrame, content_of, frame_at
 ghost use Rattle.sqwal.specs.Header.{named_size};
 ghost use Rattle.sqwal.specs.Took.{TookWithin};
 ghost use Rattle.sqview.specs.Laid.{part_or_zeros};
+ghost use Rattle.sqview.specs.Logs.{IsRead};
+ghost use Rattle.sqpast.specs.Past.{IsSource};
 ghost use Rattle.view_loss.specs.Losses.{LossIsLost};
 ghost use Rattle.view_loss.specs.internal.Reasons.{IsChanged, IsCopiedOf, IsCopyOf, IsCutBy, IsNoCopy, IsNoCut};
 ghost use Rattle.view_loss.specs.internal.Reasons.{IsPageLoss, IsReasonOf};
@@ -151,12 +153,12 @@ fn copied_of<F: FileBytes + Copy + Drop>(
     page: usize,
 ) -> Result<Option<u32>, ViewError>
     requires { (1 ≤ page) × (page ≤ 2 ^ 40) }
-    ensures right { F.gives_bytes files.0 × F.gives_bytes files.1 → IfOk result (λ found. (most front : ℕ)
+    ensures right { F.reads_right files.0 × F.reads_right files.1 → IfOk result (λ found. (most front : ℕ)
         → TookWithin most (F.bytes files.1) scan.now → named_size (F.bytes files.1) ≡ page_size
         → IsFront page_size (F.bytes files.1) front → 1 ≤ front
         → IsCopiedOf page_size (F.bytes files.1) front (F.bytes files.0) page found) }
-    ensures memory { F.gives_bytes files.0 × F.gives_bytes files.1
-        → IfErr result (λ error. error ≡ ViewError.NoMemory) }
+    ensures refused { IfErr result IsSource }
+    ensures read { F.gives_bytes files.0 × F.gives_bytes files.1 → IsRead result }
 {
     let (file, wal) = files;
     if page as u64 > page_count(&file, page_size) {
@@ -185,13 +187,13 @@ fn reason_of<F: FileBytes + Copy + Drop>(
     page: usize,
 ) -> Result<Option<Loss>, ViewError>
     requires { (1 ≤ page) × (page ≤ 2 ^ 40) }
-    ensures right { F.gives_bytes files.0 × F.gives_bytes files.1 → IfOk result (λ loss. (most front : ℕ)
+    ensures right { F.reads_right files.0 × F.reads_right files.1 → IfOk result (λ loss. (most front : ℕ)
         → TookWithin most (F.bytes files.1) scan.now
         → IsFront (named_size (F.bytes files.1)) (F.bytes files.1) front → 1 ≤ front
         → IsChanged (named_size (F.bytes files.1)) (F.bytes files.1) front (F.bytes files.0) page
         → IsReasonOf (named_size (F.bytes files.1)) (F.bytes files.1) front (F.bytes files.0) page loss) }
-    ensures memory { F.gives_bytes files.0 × F.gives_bytes files.1
-        → IfErr result (λ error. error ≡ ViewError.NoMemory) }
+    ensures refused { IfErr result IsSource }
+    ensures read { F.gives_bytes files.0 × F.gives_bytes files.1 → IsRead result }
 {
     let Some(header) = scan.header() else {
         return Ok(None);
@@ -219,12 +221,12 @@ pub(crate) fn page_loss<F: FileBytes + Copy + Drop>(
     pages: usize,
 ) -> Result<Option<Loss>, ViewError>
     requires { pages ≤ 2 ^ 40 }
-    ensures right { F.gives_bytes files.0 × F.gives_bytes files.1 → IfOk result (λ loss. (most front : ℕ)
+    ensures right { F.reads_right files.0 × F.reads_right files.1 → IfOk result (λ loss. (most front : ℕ)
         → TookWithin most (F.bytes files.1) scan.now
         → IsFront (named_size (F.bytes files.1)) (F.bytes files.1) front → frame < front
         → IsPageLoss (named_size (F.bytes files.1)) (F.bytes files.1) front (F.bytes files.0) frame pages loss) }
-    ensures memory { F.gives_bytes files.0 × F.gives_bytes files.1
-        → IfErr result (λ error. error ≡ ViewError.NoMemory) }
+    ensures refused { IfErr result IsSource }
+    ensures read { F.gives_bytes files.0 × F.gives_bytes files.1 → IsRead result }
 {
     let (file, wal) = files;
     let mut db = file;

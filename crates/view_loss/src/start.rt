@@ -1,5 +1,5 @@
 //! How many pages a file had before the first commit of its log.
-ghost use Rattle.std.specs.Prelude.{◌≡◌, ◌≤◌, ◌^◌, ◌↔◌, ◌==◌, cond, ℕ, List, length, IsTrue, IsOk, IfOk, IfErr};
+ghost use Rattle.std.specs.Prelude.{◌≡◌, ◌≤◌, ◌^◌, ◌↔◌, ◌==◌, cond, ℕ, List, length, IsTrue, IsOk, IfOk, IfErr, OnOk};
 ghost use Rattle.std.specs.Prelude.{EachIndex, slice_index};
 ghost use Rattle.sqval.specs.Bytes.{word};
 ghost use Rattle.sqval.specs.Database.{file_page, file_pages};
@@ -10,6 +10,8 @@ ghost use Rattle.sqwal.specs.Took.{TookWithin};
 ghost use Rattle.history.specs.Checkpoints.{zero_page};
 ghost use Rattle.history.specs.Past.{valid_count};
 ghost use Rattle.sqview.specs.Laid.{part_or_zeros};
+ghost use Rattle.sqview.specs.Logs.{IsRead};
+ghost use Rattle.sqpast.specs.Past.{IsSource};
 ghost use Rattle.view_loss.specs.internal.Reasons.{IsLengthLoss, IsStart, lengthened_if};
 
 use crate::loss::{Loss, cut_by};
@@ -71,9 +73,10 @@ pub(crate) fn page_count<F: FileBytes>(file: &F, page_size: PageSize) -> u64
 
 /// The header's count of a file, if it is valid; otherwise 0.
 fn count_in<F: FileBytes + Copy + Drop>(file: F) -> Result<u32, ViewError>
-    ensures right { F.gives_bytes file → IfOk result
+    ensures right { F.reads_right file → IfOk result
         (λ count. count ≡ valid_count (part_or_zeros 100 0 (F.bytes file))) }
     ensures given { F.gives_bytes file → IsOk result }
+    ensures refused { IfErr result (λ error. error ≡ ViewError.Unread) }
 {
     let mut db = file;
     let mut head = [0u8; 100];
@@ -86,9 +89,10 @@ pub(crate) fn start_of<F: FileBytes + Copy + Drop>(
     file: F,
     page_size: PageSize,
 ) -> Result<Start, ViewError>
-    ensures right { F.gives_bytes file → IfOk result (IsStart page_size (F.bytes file)) }
+    ensures right { F.reads_right file → IfOk result (IsStart page_size (F.bytes file)) }
     ensures low { IfOk result (λ start. start.long ≤ 2 ^ 40) }
-    ensures memory { F.gives_bytes file → IfErr result (λ error. error ≡ ViewError.NoMemory) }
+    ensures refused { IfErr result IsSource }
+    ensures read { F.gives_bytes file → IsRead result }
 {
     let long = page_count(&file, page_size);
     if long > MOST {
@@ -108,8 +112,9 @@ pub(crate) fn read_page<F: FileBytes + Copy + Drop>(
     page: &mut [u8],
 ) -> Result<(), ViewError>
     requires { (1 ≤ p) × (p ≤ 2 ^ 40) × (length page.old ≡ page_size) }
-    ensures page { F.gives_bytes file → page.new ≡ file_page page_size (F.bytes file) p }
+    ensures page { F.reads_right file → OnOk result (page.new ≡ file_page page_size (F.bytes file) p) }
     ensures given { F.gives_bytes file → IsOk result }
+    ensures refused { IfErr result (λ error. error ≡ ViewError.Unread) }
     ensures long { length page.new ≡ length page.old }
 {
     let mut db = file;
@@ -132,9 +137,10 @@ fn ends_in_zeros<F: FileBytes + Copy + Drop>(
     long: u64,
 ) -> Result<bool, ViewError>
     requires { long ≤ 2 ^ 40 }
-    ensures right { F.gives_bytes file → IfOk result (λ zeros. IsTrue zeros ↔ ((1 ≤ long)
+    ensures right { F.reads_right file → IfOk result (λ zeros. IsTrue zeros ↔ ((1 ≤ long)
         × (file_page page_size (F.bytes file) long ≡ zero_page page_size))) }
-    ensures memory { F.gives_bytes file → IfErr result (λ error. error ≡ ViewError.NoMemory) }
+    ensures refused { IfErr result IsSource }
+    ensures read { F.gives_bytes file → IsRead result }
 {
     if long == 0 {
         return Ok(false);
@@ -161,10 +167,11 @@ pub(crate) fn length_loss<F: FileBytes + Copy + Drop>(
     start: Start,
 ) -> Result<Option<Loss>, ViewError>
     requires { start.long ≤ 2 ^ 40 }
-    ensures right { F.gives_bytes file → IfOk result (λ loss. (most front : ℕ) (w : List ℕ)
+    ensures right { F.reads_right file → IfOk result (λ loss. (most front : ℕ) (w : List ℕ)
         → TookWithin most w scan.now → named_size w ≡ page_size → IsFront (named_size w) w front → 1 ≤ front
         → IsStart page_size (F.bytes file) start → IsLengthLoss page_size w front (F.bytes file) loss) }
-    ensures memory { F.gives_bytes file → IfErr result (λ error. error ≡ ViewError.NoMemory) }
+    ensures refused { IfErr result IsSource }
+    ensures read { F.gives_bytes file → IsRead result }
 {
     if start.valid != 0 {
         return Ok(None);

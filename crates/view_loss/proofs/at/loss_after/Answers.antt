@@ -12,7 +12,6 @@ use Rattle.view_loss.proofs.at.loss_after.Goals as goal
 
 pub returns-clause-loss : goal.returns-clause-loss
 returns-clause-loss g c = λ given.
-    let right = g.met.F.FileBytes.right in
     let bytes = g.F.FileBytes.bytes in
     let file = bytes c.args.files.0 in
     let w = bytes c.args.files.1 in
@@ -24,7 +23,7 @@ returns-clause-loss g c = λ given.
     let shown = c.in_ok-view.ensures.answer took c.requires journal cold in
     let at : IsCommitAt w journal m × (v.page_size ≡ named_size w) × IsView v.page_size file w m d = ⊎_elim (λ own. absurd (omega (arith, own.0, c.requires))) (λ at. at) shown.shows in
     let view = subst (λ (k : ℕ). IsView k file w m d) at.1 at.2 in
-    let view_right = c.in_ok-view.ensures.still_right (right c.args.files.0 given.0) (right c.args.files.1 given.1) in
+    let view_right = c.in_ok-view.ensures.still_right given.0 given.1 in
     let long : length d ≡ v.count = length_laid v.page_size v.count (bytes v.db) (bytes v.log) v.places.items in
     let count_is : c.in_ok-count.count ≡ used (length d) (page d 1) = c.in_ok-count.ensures.right view_right ∙ ap (λ (k : ℕ). used k (page d 1)) (sym long) in
     loss_counted (named_size w) w file m c.requires at.0.commit d view front c.in_ok-count.count count_is loss (of c.args.limits.frames front took is before))

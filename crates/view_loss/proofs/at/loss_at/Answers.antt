@@ -14,7 +14,6 @@ returns-then-frame-committed-clause-loss g c = λ given front journal cold took 
 
 pub returns-then-frame-eq0-clause-loss : goal.returns-then-frame-eq0-clause-loss
 returns-then-frame-eq0-clause-loss g c = λ given.
-    let right = g.met.F.FileBytes.right in
     let bytes = g.F.FileBytes.bytes in
     let file = bytes c.args.files.0 in
     let w = bytes c.args.files.1 in

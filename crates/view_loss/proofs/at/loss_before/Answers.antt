@@ -17,7 +17,6 @@ returns-in_default-clause-loss g c = λ given most front took is some.
 
 pub returns-in-Ok-Some-clause-loss : goal.returns-in-Ok-Some-clause-loss
 returns-in-Ok-Some-clause-loss g c = λ given most front took is some.
-    let right = g.met.F.FileBytes.right in
     let bytes = g.F.FileBytes.bytes in
     let file = bytes c.args.files.0 in
     let w = bytes c.args.files.1 in
@@ -31,7 +30,6 @@ returns-in-Ok-Some-clause-loss g c = λ given most front took is some.
 
 pub returns-in-Ok-None-clause-loss : goal.returns-in-Ok-None-clause-loss
 returns-in-Ok-None-clause-loss g c = λ given.
-    let right = g.met.F.FileBytes.right in
     let bytes = g.F.FileBytes.bytes in
     let file = bytes c.args.files.0 in
     let w = bytes c.args.files.1 in

@@ -6,22 +6,20 @@ use Rattle.view_loss.proofs.loss.page_loss.Goals as goal
 
 pub returns-in_default-clause-right : goal.returns-in_default-clause-right
 returns-in_default-clause-right g c = λ given most front took is before.
-    let right = g.met.F.FileBytes.right in
     let bytes = g.F.FileBytes.bytes in
     let file = bytes c.args.files.0 in
     let w = bytes c.args.files.1 in
-    let table = c.in_ok-table.ensures.right (right c.args.files.0 given.0, right c.args.files.1 given.1) most front took is (omega (arith, before)) in
+    let table = c.in_ok-table.ensures.right (given.0, given.1) most front took is (omega (arith, before)) in
     all_there (named_size w) w front file c.args.frame c.args.pages before c.in_ok-table.table c.args.pages table table.long (c.in_default.ensures table.until table.greatest)
 
 pub returns-clause-right : goal.returns-clause-right
 returns-clause-right g c = λ given.
-    let right = g.met.F.FileBytes.right in
     let bytes = g.F.FileBytes.bytes in
     let file = bytes c.args.files.0 in
     let w = bytes c.args.files.1 in
     map_ok c.reason_of.result _ _
     (λ loss of most front took is before.
-    let table = c.in_ok-table.ensures.right (right c.args.files.0 given.0, right c.args.files.1 given.1) most front took is (omega (arith, before)) in
+    let table = c.in_ok-table.ensures.right (given.0, given.1) most front took is (omega (arith, before)) in
     let first = c.in-Some.ensures table.until table.greatest in
     let t = c.in_ok-table.table in
     loss_of (named_size w) w front file c.args.frame c.args.pages before t c.args.pages table table.long c.in-Some.page first loss

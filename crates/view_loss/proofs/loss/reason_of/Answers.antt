@@ -17,7 +17,6 @@ returns-in_default-clause-right g c = λ given most front took is some changed.
 
 pub returns-in-Ok-Some-clause-right : goal.returns-in-Ok-Some-clause-right
 returns-in-Ok-Some-clause-right g c = λ given most front took is some changed.
-    let right = g.met.F.FileBytes.right in
     let bytes = g.F.FileBytes.bytes in
     let file = bytes c.args.files.0 in
     let w = bytes c.args.files.1 in
@@ -29,7 +28,6 @@ returns-in-Ok-Some-clause-right g c = λ given most front took is some changed.
 
 pub returns-in-Some-cut_by-clause-right : goal.returns-in-Some-cut_by-clause-right
 returns-in-Some-cut_by-clause-right g c = λ given most front took is some changed.
-    let right = g.met.F.FileBytes.right in
     let bytes = g.F.FileBytes.bytes in
     let file = bytes c.args.files.0 in
     let w = bytes c.args.files.1 in
@@ -38,12 +36,11 @@ returns-in-Some-cut_by-clause-right g c = λ given most front took is some chang
     let of = subst (λ (o : Option ℕ). IsCopiedOf size w front file c.args.page o) c.in-Ok-None.field-0-is
     (c.in-Ok-None.ensures.right given most front took named (subst (λ (k : ℕ). IsFront k w front) named is) some) in
     let none = subst (λ (k : ℕ). IsCopiedOf k w front file c.args.page None) (sym named) of in
-    let long : c.page_count.result ≡ file_pages (named_size w) file = c.page_count.ensures.pages (right c.args.files.0 given.0) ∙ ap (λ k. file_pages k file) (sym named) in
+    let long : c.page_count.result ≡ file_pages (named_size w) file = c.page_count.ensures.pages given.0 ∙ ap (λ k. file_pages k file) (sym named) in
     cut_reason (named_size w) w front file c.args.page c.page_count.result long changed none c.in-Some-cut_by.frame (c.in-Some-cut_by.ensures most front w took is some)
 
 pub returns-in-None-clause-right : goal.returns-in-None-clause-right
 returns-in-None-clause-right g c = λ given most front took is some changed.
-    let right = g.met.F.FileBytes.right in
     let bytes = g.F.FileBytes.bytes in
     let file = bytes c.args.files.0 in
     let w = bytes c.args.files.1 in
@@ -52,5 +49,5 @@ returns-in-None-clause-right g c = λ given most front took is some changed.
     let of = subst (λ (o : Option ℕ). IsCopiedOf size w front file c.args.page o) c.in-Ok-None.field-0-is
     (c.in-Ok-None.ensures.right given most front took named (subst (λ (k : ℕ). IsFront k w front) named is) some) in
     let none = subst (λ (k : ℕ). IsCopiedOf k w front file c.args.page None) (sym named) of in
-    let long : c.page_count.result ≡ file_pages (named_size w) file = c.page_count.ensures.pages (right c.args.files.0 given.0) ∙ ap (λ k. file_pages k file) (sym named) in
+    let long : c.page_count.result ≡ file_pages (named_size w) file = c.page_count.ensures.pages given.0 ∙ ap (λ k. file_pages k file) (sym named) in
     some_cut (named_size w) w front file c.args.page c.page_count.result long changed none (c.in-None.ensures most front w took is some)

@@ -9,10 +9,7 @@ returns-clause-page g c = λ given.
     let p = c.args.p in
     let place : (p - 1) * c.from.result ≡ (p - 1) * size = ap (λ n. (p - 1) * n) (c.from.ensures ∙ c.get.ensures.value) in
     page_read size file p (length c.args.page.now) ((p - 1) * c.from.result) c.read_at.new.out c.requires.2 place
-    (c.in_ok-read_at.ensures.read (g.met.F.FileBytes.right c.args.file given))
-
-pub returns-in_err-read_at-clause-page : goal.returns-in_err-read_at-clause-page
-returns-in_err-read_at-clause-page g c = λ given. let bad : false ≡ true = c.in_err-read_at.ensures.never_fails given in cc
+    (c.in_ok-read_at.ensures.read given)
 
 pub returns-in_err-read_at-clause-given : goal.returns-in_err-read_at-clause-given
 returns-in_err-read_at-clause-given g c = λ given. let bad : false ≡ true = c.in_err-read_at.ensures.never_fails given in cc
