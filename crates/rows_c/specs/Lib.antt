@@ -1,0 +1,5 @@
+pub mod Views
+pub mod Entries
+pub mod Runs
+pub mod Listed
+pub mod internal

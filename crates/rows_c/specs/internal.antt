@@ -1,0 +1,3 @@
+-- What no public clause reaches.
+pub mod Listing
+pub mod Reading
