@@ -2,4 +2,9 @@ pub mod Views
 pub mod Entries
 pub mod Runs
 pub mod Listed
+pub mod Values
+pub mod Shapes
+pub mod Described
+pub mod Tables
+pub mod Refusals
 pub mod internal

@@ -1,9 +1,16 @@
 //! The columns of a table, as a caller has them.
+ghost use Rattle.std.specs.Prelude.{◌≡◌, ◌<◌, ◌++◌, IfOk, length, map, slice_get, option_copied};
+ghost use Rattle.sqdefaults.specs.Affinities.{affinity_in};
+ghost use Rattle.sqtables.specs.Columns.{place_in};
+ghost use Rattle.rows_c.specs.Described.{letter_of, AreLetters, AreDescribed};
+ghost use Rattle.rows_c.specs.internal.Adding.{AddsMissing, AddsColumn};
 
 use crate::value::{DEFAULT, NOT_KNOWN, Value, numbered};
 use schema_ast::made_table;
 use sqdeep::Encoding;
 use sqdefaults::{Affinity, Literal, affinity_in};
+use sqlite_ast::CreateTable;
+use sqlite_value::value::Bytes;
 use sqtables::{Columns, columns_of};
 use sqtext::encoded;
 use sqval::Value as Held;
@@ -40,7 +47,9 @@ pub struct Described {
 }
 
 /// An affinity as SQLite's own letter.
-fn letter_of(affinity: Affinity) -> u32 {
+fn letter_of(affinity: Affinity) -> u32
+    ensures { result ≡ letter_of affinity }
+{
     match affinity {
         Affinity::Blob => 65,
         Affinity::Text => 66,
@@ -50,21 +59,41 @@ fn letter_of(affinity: Affinity) -> u32 {
     }
 }
 
-/// The affinities of the columns of the table that a text makes.
-fn letters_of(alloc: Global, sql: &[u8]) -> Result<Vec<u32>, AllocError> {
-    let mut letters = Vec::new(alloc);
-    let Some(made) = made_table(alloc, sql)? else {
-        return Ok(letters);
-    };
-    for column in made.def.body.columns.as_slice() {
-        let affinity = affinity_in(made.def.is_strict, column.1.as_slice());
-        letters.push(letter_of(affinity))?;
+/// The affinity of a column of a table.
+fn letter_in(def: &CreateTable, column: &(Bytes, Bytes)) -> u32
+    ensures { result ≡ letter_of (affinity_in def.now.is_strict column.now.1) }
+{
+    letter_of(affinity_in(def.is_strict, column.1.as_slice()))
+}
+
+/// The affinities of the columns of a table.
+fn letters_in(alloc: Global, def: &CreateTable) -> Result<Vec<u32>, AllocError>
+    ensures { IfOk result (λ letters. letters.items
+        ≡ map (λ c. letter_of (affinity_in def.now.is_strict c.1)) def.now.body.columns) }
+{
+    let columns = def.body.columns.as_slice();
+    let mut letters = Vec::with_capacity(alloc, columns.len())?;
+    for column in columns {
+        letters.push(letter_in(def, column))?;
     }
     Ok(letters)
 }
 
+/// The affinities of the columns of the table that a text makes.
+fn letters_of(alloc: Global, sql: &[u8]) -> Result<Vec<u32>, AllocError>
+    ensures { IfOk result (λ letters. AreLetters sql.now letters.items) }
+{
+    match made_table(alloc, sql)? {
+        Some(made) => letters_in(alloc, &made.def),
+        None => Ok(Vec::new(alloc)),
+    }
+}
+
 /// Adds bytes, and answers where they begin.
-pub(crate) fn add_text(texts: &mut Vec<u8>, text: &[u8]) -> Result<u64, AllocError> {
+pub(crate) fn add_text(texts: &mut Vec<u8>, text: &[u8]) -> Result<u64, AllocError>
+    ensures { IfOk result (λ at. (at ≡ length texts.old.items)
+        × (texts.new.items ≡ texts.old.items ++ text.now)) }
+{
     let at = texts.len() as u64;
     texts.extend_from_slice(text)?;
     Ok(at)
@@ -76,7 +105,10 @@ fn missing_in(
     texts: &mut Vec<u8>,
     encoding: Encoding,
     default: Option<&Option<Literal>>,
-) -> Result<Value, AllocError> {
+) -> Result<Value, AllocError>
+    ensures { IfOk result
+        (AddsMissing encoding (option_copied default.entry) texts.old.items texts.new.items) }
+{
     let Some(Some(literal)) = default else {
         return Ok(numbered(&Held::Null, NOT_KNOWN, 0));
     };
@@ -96,7 +128,9 @@ fn missing_in(
 }
 
 /// Where rows store column `j`.
-fn place_of(known: &Columns, j: usize) -> u64 {
+fn place_of(known: &Columns, j: usize) -> u64
+    ensures { result ≡ place_in known.now.places.items j }
+{
     match known.places.get(j) {
         Some(place) => *place as u64,
         None => j as u64,
@@ -111,7 +145,11 @@ fn add_column(
     known: &Columns,
     affinity: u32,
     j: usize,
-) -> Result<(), AllocError> {
+) -> Result<(), AllocError>
+    requires { j < length known.now.names.items }
+    ensures { IfOk result (λ _. AddsColumn encoding known.now affinity j found.old.texts.items
+        found.new.texts.items found.old.columns.items found.new.columns.items) }
+{
     let name = known.names[j].as_slice();
     let column = Column {
         name: add_text(&mut found.texts, name)?,
@@ -126,7 +164,9 @@ fn add_column(
 }
 
 /// The columns of the table that a text of the schema makes, as `sqtables::columns_of` finds them.
-pub fn columns_in(alloc: Global, sql: &[u8], encoding: Encoding) -> Result<Described, AllocError> {
+pub fn columns_in(alloc: Global, sql: &[u8], encoding: Encoding) -> Result<Described, AllocError>
+    ensures { IfOk result (λ found. AreDescribed encoding sql.now found.columns.items found.texts.items) }
+{
     let known = columns_of(alloc, sql)?;
     let letters = letters_of(alloc, sql)?;
     let mut found = Described {

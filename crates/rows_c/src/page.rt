@@ -1,9 +1,10 @@
 //! The cells of a page of a tree, where the page lies (fileformat2, 1.6).
-ghost use Rattle.std.specs.Prelude.{◌≡◌, ◌<◌, ◌≤◌, ◌+◌, ℕ, IfOk, IfErr, IfSome, MatchOption, length};
+ghost use Rattle.std.specs.Prelude.{◌≡◌, ◌≢◌, ◌↔◌, ◌<◌, ◌≤◌, ◌+◌, true, IsTrue, IfOk, IfErr, IfSome, MatchOption};
+ghost use Rattle.std.specs.Prelude.{length};
 ghost use Rattle.sqpage.specs.Header.{byte, half};
 ghost use Rattle.sqpage.specs.Chain.{payload_size};
-ghost use Rattle.sqpage.specs.Page.{code_of, head_at, pointers_at, cell_count_in, pointer_in, pointers_end_in};
-ghost use Rattle.sqpage.specs.Page.{HasParts, IsCell};
+ghost use Rattle.sqpage.specs.Page.{code_of, head_at, pointers_at, cell_count, cell_count_in, pointer_in};
+ghost use Rattle.sqpage.specs.Page.{pointers_end_in, has_payload, HasParts, IsCell};
 ghost use Rattle.sqpage.specs.declared.cell.Cell.{Cell};
 ghost use Rattle.sqpage.specs.declared.fault.Fault.{Fault};
 ghost use Rattle.sqpage.specs.declared.kind.Kind.{Kind};
@@ -100,7 +101,8 @@ pub(crate) fn tree_page(used: &[u8], number: u32) -> Result<TreePage<'_>, Fault>
     requires sized { (480 ≤ length used.now) × (length used.now ≤ 65536) }
     ensures ok { IfOk result (λ page. (as_page page ≡ record { used = used.now; number = number; kind = page.kind })
         × (byte used.now (head_at number) ≡ code_of page.kind)) }
-    ensures err { IfErr result (λ _. (kind : Kind) → ¬ IsTreePage used.now number kind) }
+    ensures err { IfErr result (λ fault. (fault ≢ Fault.Source) × (fault ≢ Fault.NoMemory)
+        × ((kind : Kind) → ¬ IsTreePage used.now number kind)) }
 {
     let Some(kind) = Kind::of(used[head(number)]) else {
         return Err(Fault::Kind);

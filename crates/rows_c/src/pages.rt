@@ -117,10 +117,10 @@ impl<'a> Pages<'a> {
         p: u32,
         room: &'r mut Vec<u8>,
     ) -> Result<&'r [u8], AllocError>
-        requires { IsPage (pages_of self.now) p }
-        ensures { IfOk result (λ bytes. bytes.now ≡ page (pages_of self.now) p) }
     where
         'a: 'r,
+        requires { IsPage (pages_of self.now) p }
+        ensures { IfOk result (λ bytes. bytes.now ≡ page (pages_of self.now) p) }
     {
         if let Some(bytes) = self.whole(p) {
             return Ok(bytes);
