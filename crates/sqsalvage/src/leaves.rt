@@ -2,7 +2,7 @@
 ghost use Rattle.std.specs.Prelude.{◌≡◌, ◌≢◌, [], true, false, IfOk, IfErr, IfSome, MatchOption, length};
 ghost use Rattle.sqpage.specs.Freelist.{IsPage, usable_size};
 ghost use Rattle.sqpage.specs.Page.{has_payload, is_table};
-ghost use Rattle.sqpage.specs.Source.{KeepsPages};
+ghost use Rattle.sqpage.specs.Source.{KeepsPages, UnlessUnread};
 ghost use Rattle.sqpage.specs.declared.fault.Fault.{Fault};
 ghost use Rattle.sqsalvage.specs.Reached.{interior_kind};
 ghost use Rattle.sqsalvage.specs.SalvageCursor.{IsOver, TreeMoves};
@@ -38,10 +38,10 @@ impl Salvage {
         p: u32,
     ) -> Result<Option<TreePage>, CheckError>
         requires page { IsPage (S.pages source.old) p × (S.size source.old ≡ self.now.size) }
-        ensures ok { S.gives_pages source.old → self.now.usable ≡ usable_size (S.pages source.old)
+        ensures ok { S.reads_right source.old → self.now.usable ≡ usable_size (S.pages source.old)
             → IfOk result (IsRead (S.pages source.old) p) }
-        ensures err { S.gives_pages source.old → self.now.usable ≡ usable_size (S.pages source.old)
-            → IfErr result (λ e. e.fault ≡ Fault.NoMemory) }
+        ensures err { S.reads_right source.old → self.now.usable ≡ usable_size (S.pages source.old)
+            → IfErr result (λ e. UnlessUnread (S.gives_pages source.old) e.fault (e.fault ≡ Fault.NoMemory)) }
         ensures usable { IfOk result (λ found. IfSome found (λ page. page.usable ≡ self.now.usable)) }
         ensures keeps { KeepsPages S.pages S.size S.reads_right S.gives_pages source.old source.new }
     {
@@ -61,12 +61,12 @@ impl Salvage {
         p: u32,
     ) -> Result<Option<TreePage>, CheckError>
         requires sized { S.size source.old ≡ self.old.size }
-        ensures ok { S.gives_pages source.old → self.old.usable ≡ usable_size (S.pages source.old)
+        ensures ok { S.reads_right source.old → self.old.usable ≡ usable_size (S.pages source.old)
             → length self.old.marks.items ≡ length (S.pages source.old)
             → IfOk result (IsTaken (S.pages source.old) self.old.table p self.old.marks.items self.new.marks.items
             self.old.pending.items self.new.pending.items) }
-        ensures err { S.gives_pages source.old → self.old.usable ≡ usable_size (S.pages source.old)
-            → IfErr result (λ e. e.fault ≡ Fault.NoMemory) }
+        ensures err { S.reads_right source.old → self.old.usable ≡ usable_size (S.pages source.old)
+            → IfErr result (λ e. UnlessUnread (S.gives_pages source.old) e.fault (e.fault ≡ Fault.NoMemory)) }
         ensures leaf { IfOk result (λ found. IfSome found (λ page. (has_payload page.kind ≡ true)
             × (page.usable ≡ self.old.usable))) }
         ensures same { (self.new.size ≡ self.old.size) × (self.new.usable ≡ self.old.usable)
@@ -111,12 +111,12 @@ impl Salvage {
         i: usize,
     ) -> Result<Option<TreePage>, CheckError>
         requires sized { S.size source.old ≡ self.old.size }
-        ensures ok { S.gives_pages source.old → self.old.usable ≡ usable_size (S.pages source.old)
+        ensures ok { S.reads_right source.old → self.old.usable ≡ usable_size (S.pages source.old)
             → length self.old.marks.items ≡ length (S.pages source.old)
             → IfOk result (IsCellTaken (S.pages source.old) self.old.table p i self.old.marks.items
             self.new.marks.items self.old.pending.items self.new.pending.items) }
-        ensures err { S.gives_pages source.old → self.old.usable ≡ usable_size (S.pages source.old)
-            → IfErr result (λ e. e.fault ≡ Fault.NoMemory) }
+        ensures err { S.reads_right source.old → self.old.usable ≡ usable_size (S.pages source.old)
+            → IfErr result (λ e. UnlessUnread (S.gives_pages source.old) e.fault (e.fault ≡ Fault.NoMemory)) }
         ensures cell { IfOk result (λ found. IfSome found (λ page. (has_payload page.kind ≡ true)
             × (page.usable ≡ self.old.usable))) }
         ensures same { (self.new.size ≡ self.old.size) × (self.new.usable ≡ self.old.usable)
@@ -158,12 +158,12 @@ impl Salvage {
         piece: Piece,
     ) -> Result<Option<PieceRead>, CheckError>
         requires sized { S.size source.old ≡ self.old.size }
-        ensures ok { S.gives_pages source.old → self.old.usable ≡ usable_size (S.pages source.old)
+        ensures ok { S.reads_right source.old → self.old.usable ≡ usable_size (S.pages source.old)
             → length self.old.marks.items ≡ length (S.pages source.old)
             → IfOk result (IsPieceTaken (S.pages source.old) self.old.table piece self.old.marks.items
             self.new.marks.items self.old.pending.items self.new.pending.items) }
-        ensures err { S.gives_pages source.old → self.old.usable ≡ usable_size (S.pages source.old)
-            → IfErr result (λ e. e.fault ≡ Fault.NoMemory) }
+        ensures err { S.reads_right source.old → self.old.usable ≡ usable_size (S.pages source.old)
+            → IfErr result (λ e. UnlessUnread (S.gives_pages source.old) e.fault (e.fault ≡ Fault.NoMemory)) }
         ensures piece { IfOk result (λ found. IfSome found (λ read. (has_payload read.page.kind ≡ true)
             × (read.page.usable ≡ self.old.usable))) }
         ensures same { (self.new.size ≡ self.old.size) × (self.new.usable ≡ self.old.usable)
@@ -196,10 +196,10 @@ impl Salvage {
     ) -> Result<Option<PieceRead>, CheckError>
         requires sized { S.size source.old ≡ self.old.size }
         // So where it ends, the pieces that it read are those of the pages that the tree reaches, each once.
-        ensures ok { S.gives_pages source.old → IsOver (S.pages source.old) self.old
+        ensures ok { S.reads_right source.old → IsOver (S.pages source.old) self.old
             → IfOk result (TreeMoves (S.pages source.old) self.old self.new) }
-        ensures err { S.gives_pages source.old → IsOver (S.pages source.old) self.old
-            → IfErr result (λ e. e.fault ≡ Fault.NoMemory) }
+        ensures err { S.reads_right source.old → IsOver (S.pages source.old) self.old
+            → IfErr result (λ e. UnlessUnread (S.gives_pages source.old) e.fault (e.fault ≡ Fault.NoMemory)) }
         // Behind the last one nothing is pending.
         ensures piece { IfOk result (λ found. MatchOption found (self.new.pending.items ≡ [])
             (λ read. (has_payload read.page.kind ≡ true) × (read.page.usable ≡ self.old.usable))) }

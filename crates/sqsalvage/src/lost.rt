@@ -1,7 +1,7 @@
 //! The leaves that no tree reached (own).
 ghost use Rattle.std.specs.Prelude.{◌≡◌, IfOk, IfErr, IfSome};
 ghost use Rattle.sqpage.specs.Freelist.{IsPage, usable_size};
-ghost use Rattle.sqpage.specs.Source.{KeepsPages};
+ghost use Rattle.sqpage.specs.Source.{KeepsPages, UnlessUnread};
 ghost use Rattle.sqpage.specs.declared.fault.Fault.{Fault};
 ghost use Rattle.sqpage.specs.declared.kind.Kind.{Kind};
 ghost use Rattle.sqsalvage.specs.SalvageCursor.{IsOver, LostLeft, LeafMoves};
@@ -16,10 +16,10 @@ impl Salvage {
     /// Page `p`, if it is a leaf that isn't marked.
     fn find<S: PageSource>(&self, source: &mut S, p: u32) -> Result<Option<TreePage>, CheckError>
         requires page { IsPage (S.pages source.old) p × (S.size source.old ≡ self.now.size) }
-        ensures ok { S.gives_pages source.old → self.now.usable ≡ usable_size (S.pages source.old)
+        ensures ok { S.reads_right source.old → self.now.usable ≡ usable_size (S.pages source.old)
             → IfOk result (IsFound (S.pages source.old) self.now.marks.items p) }
-        ensures err { S.gives_pages source.old → self.now.usable ≡ usable_size (S.pages source.old)
-            → IfErr result (λ e. e.fault ≡ Fault.NoMemory) }
+        ensures err { S.reads_right source.old → self.now.usable ≡ usable_size (S.pages source.old)
+            → IfErr result (λ e. UnlessUnread (S.gives_pages source.old) e.fault (e.fault ≡ Fault.NoMemory)) }
         ensures leaf { IfOk result (λ found. IfSome found (λ page. (page.kind ≡ Kind.TableLeaf)
             × (page.usable ≡ self.now.usable))) }
         ensures keeps { KeepsPages S.pages S.size S.reads_right S.gives_pages source.old source.new }
@@ -46,10 +46,10 @@ impl Salvage {
     ) -> Result<Option<TreePage>, CheckError>
         requires sized { S.size source.old ≡ self.old.size }
         // So where it ends, the leaves that it read are those, each once.
-        ensures ok { S.gives_pages source.old → IsOver (S.pages source.old) self.old → IfOk result (LeafMoves
+        ensures ok { S.reads_right source.old → IsOver (S.pages source.old) self.old → IfOk result (LeafMoves
             (LostLeft (S.pages source.old) self.old) (LostLeft (S.pages source.old) self.new) (S.pages source.old)) }
-        ensures err { S.gives_pages source.old → IsOver (S.pages source.old) self.old
-            → IfErr result (λ e. e.fault ≡ Fault.NoMemory) }
+        ensures err { S.reads_right source.old → IsOver (S.pages source.old) self.old
+            → IfErr result (λ e. UnlessUnread (S.gives_pages source.old) e.fault (e.fault ≡ Fault.NoMemory)) }
         ensures leaf { IfOk result (λ found. IfSome found (λ page. (page.kind ≡ Kind.TableLeaf)
             × (page.usable ≡ self.old.usable))) }
         ensures same { (self.new.size ≡ self.old.size) × (self.new.usable ≡ self.old.usable)

@@ -2,7 +2,7 @@
 ghost use Rattle.std.specs.Prelude.{◌≡◌, ◌≢◌, ◌⊎◌, ◌↔◌, ◌<◌, ◌≤◌, ◌∷◌, [], ℕ, IfOk, IfErr, OnOk, length};
 ghost use Rattle.sqval.specs.Database.{Database};
 ghost use Rattle.sqpage.specs.Freelist.{IsPage, usable_size};
-ghost use Rattle.sqpage.specs.Source.{KeepsPages};
+ghost use Rattle.sqpage.specs.Source.{KeepsPages, UnlessUnread};
 ghost use Rattle.sqpage.specs.declared.fault.Fault.{Fault};
 ghost use Rattle.sqsalvage.specs.declared.cursor.Piece.TheVariants.{Whole};
 ghost use Rattle.sqsalvage.specs.Reached.{IsReachedFrom};
@@ -24,9 +24,9 @@ fn usable_of<S: PageSource>(source: &mut S, bytes: &mut Vec<u8>) -> Result<u32, 
     requires room { (length bytes.old.items ≡ S.size source.old) × (512 ≤ length bytes.old.items)
         × (length bytes.old.items ≤ 65536) }
     ensures ok { IfOk result (λ usable. (480 ≤ usable) × (usable ≤ 65536) × (usable ≤ S.size source.old)
-        × (S.gives_pages source.old → usable ≡ usable_size (S.pages source.old))) }
-    ensures err { S.gives_pages source.old → IfErr result (λ e. (e.fault ≢ Fault.Source) × (e.fault ≢ Fault.NoMemory)
-        × (usable_size (S.pages source.old) < 480)) }
+        × (S.reads_right source.old → usable ≡ usable_size (S.pages source.old))) }
+    ensures err { S.reads_right source.old → IfErr result (λ e. UnlessUnread (S.gives_pages source.old) e.fault
+        ((e.fault ≢ Fault.NoMemory) × (usable_size (S.pages source.old) < 480))) }
     ensures keeps { KeepsPages S.pages S.size S.reads_right S.gives_pages source.old source.new }
 {
     match source.page(1, bytes) {
@@ -50,10 +50,10 @@ impl Salvage {
     /// Begins before the first tree, with no page marked. Refused by PageOutside at page 1 where there is no page, by
     /// Reserved there where fewer than 480 bytes of a page are usable, by Source, and by NoMemory.
     pub fn new<S: PageSource>(alloc: Global, source: &mut S) -> Result<Salvage, CheckError>
-        ensures ok { S.gives_pages source.old → IfOk result (λ s. IsOver (S.pages source.old) s
+        ensures ok { S.reads_right source.old → IfOk result (λ s. IsOver (S.pages source.old) s
             × (s.pending.items ≡ []) × ((p : ℕ) → ¬ IsMarked s.marks.items p)) }
-        ensures err { S.gives_pages source.old → IfErr result (λ e. (e.fault ≢ Fault.Source)
-            × (e.fault ≢ Fault.NoMemory → usable_size (S.pages source.old) < 480)) }
+        ensures err { S.reads_right source.old → IfErr result (λ e. UnlessUnread (S.gives_pages source.old) e.fault
+            (e.fault ≢ Fault.NoMemory → usable_size (S.pages source.old) < 480)) }
         ensures first { IfOk result (λ s. (s.size ≡ S.size source.old) × (s.at ≡ 0) × (s.pending.items ≡ [])) }
         ensures keeps { KeepsPages S.pages S.size S.reads_right S.gives_pages source.old source.new }
     {

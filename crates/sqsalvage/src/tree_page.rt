@@ -4,7 +4,7 @@ ghost use Rattle.sqval.specs.Database.{page};
 ghost use Rattle.sqpage.specs.Freelist.{IsPage, usable_size};
 ghost use Rattle.sqpage.specs.Chain.{payload_size};
 ghost use Rattle.sqpage.specs.Page.{cell_count, cell_count_in, pointer_in, pointers_end_in, HasParts, IsCell};
-ghost use Rattle.sqpage.specs.Source.{KeepsPages};
+ghost use Rattle.sqpage.specs.Source.{KeepsPages, UnlessUnread};
 ghost use Rattle.sqpage.specs.declared.cell.Cell.{Cell};
 ghost use Rattle.sqpage.specs.declared.fault.Fault.{Fault};
 ghost use Rattle.sqcheck.specs.Places.{IsCellAt};
@@ -76,10 +76,10 @@ impl TreePage {
     ) -> Result<TreePage, CheckError>
         requires page { IsPage (S.pages source.old) number × (length room.items ≡ S.size source.old) }
         requires usable { (480 ≤ usable) × (usable ≤ 65536) × (usable ≤ length room.items) }
-        ensures ok { S.gives_pages source.old
+        ensures ok { S.reads_right source.old
             → IfOk result (IsOpened (page (S.pages source.old) number) usable number) }
-        ensures err { S.gives_pages source.old → IfErr result (λ e. (e.fault ≢ Fault.Source)
-            × (e.fault ≢ Fault.NoMemory) × IsNoPage (page (S.pages source.old) number) usable number) }
+        ensures err { S.reads_right source.old → IfErr result (λ e. UnlessUnread (S.gives_pages source.old) e.fault
+            ((e.fault ≢ Fault.NoMemory) × IsNoPage (page (S.pages source.old) number) usable number)) }
         ensures usable { IfOk result (λ t. t.usable ≡ usable) }
         ensures keeps { KeepsPages S.pages S.size S.reads_right S.gives_pages source.old source.new }
     {
@@ -116,12 +116,12 @@ impl TreePage {
     ) -> Result<TreePage, CheckError>
         requires page { IsPage (S.pages source.old) number }
         requires usable { (480 ≤ usable) × (usable ≤ 65536) × (usable ≤ S.size source.old) }
-        ensures ok { S.gives_pages source.old → usable ≡ usable_size (S.pages source.old)
+        ensures ok { S.reads_right source.old → usable ≡ usable_size (S.pages source.old)
             → IfOk result (IsPageRead (S.pages source.old) number) }
-        // It is no page of a tree, unless memory ran out.
-        ensures err { S.gives_pages source.old → usable ≡ usable_size (S.pages source.old)
-            → IfErr result (λ e. (e.fault ≢ Fault.Source)
-            × (e.fault ≢ Fault.NoMemory → IsNoTreePage (S.pages source.old) number)) }
+        // It is no page of a tree, unless it couldn't be read or memory ran out.
+        ensures err { S.reads_right source.old → usable ≡ usable_size (S.pages source.old) → IfErr result
+            (λ e. UnlessUnread (S.gives_pages source.old) e.fault
+            (e.fault ≢ Fault.NoMemory → IsNoTreePage (S.pages source.old) number)) }
         ensures usable { IfOk result (λ t. t.usable ≡ usable) }
         ensures keeps { KeepsPages S.pages S.size S.reads_right S.gives_pages source.old source.new }
     {

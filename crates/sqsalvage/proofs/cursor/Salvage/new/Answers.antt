@@ -9,7 +9,7 @@ usable_of-requires-clause-room g c =
     (len ∙ c.get-size.ensures.value ∙ c.page_size.ensures, omega (arith, len, least_page_size c.get-size.result c.get-size.ensures.valid), omega (arith, len, most_page_size c.get-size.result c.get-size.ensures.valid))
 
 pub returns-then-count-eq0-clause-err : goal.returns-then-count-eq0-clause-err
-returns-then-count-eq0-clause-err g c = λ gives. (
-  λ e. cc,
-  λ other. none_usable (g.S.PageSource.pages c.args.source.now) (sym c.count-count.ensures ∙ c.if-count-eq0.true),
+returns-then-count-eq0-clause-err g c = λ right. (
+  λ e _. cc,
+  λ read other. none_usable (g.S.PageSource.pages c.args.source.now) (sym c.count-count.ensures ∙ c.if-count-eq0.true),
 )

@@ -12,14 +12,14 @@ found_here : (d e : Database) (marks : List Bool) (p : ℕ) (found now : Option 
 found_here d e marks p found now same is h = subst (λ (x : Database). IsFound x marks p now) same (subst (λ (o : Option TreePage). IsFound e marks p o) is h)
 
 pub returns-in-Ok-Some-clause-ok : goal.returns-in-Ok-Some-clause-ok
-returns-in-Ok-Some-clause-ok g c = λ gives over.
+returns-in-Ok-Some-clause-ok g c = λ right over.
     let i = c.pages.invariant in
     let d = g.S.PageSource.pages c.args.source.now in
     let e = g.S.PageSource.pages c.pages.source in
     let p : ℕ = c.pages.self.at + 1 in
     let marks = c.pages.self.marks.items in
-    let is = found_here d e marks p c.in-Ok-Some.field-0 (Some c.in-Ok-Some.page) i.kept.same_pages c.in-Ok-Some.field-0-is (c.in-Ok-Some.ensures.ok (i.kept.still_gives gives) (i.usable ∙ over.0 ∙ sym (ap usable_size i.kept.same_pages))) in
-    (p, is.0, λ leaves l. i.left gives over (p ∷ leaves) (first_lost d marks c.pages.self.at p leaves refl (leaf_read d true p c.in-Ok-Some.page is.0.0 is.0.1 is.0.2) is.1 l))
+    let is = found_here d e marks p c.in-Ok-Some.field-0 (Some c.in-Ok-Some.page) i.kept.same_pages c.in-Ok-Some.field-0-is (c.in-Ok-Some.ensures.ok (i.kept.still_right right) (i.usable ∙ over.0 ∙ sym (ap usable_size i.kept.same_pages))) in
+    (p, is.0, λ leaves l. i.left right over (p ∷ leaves) (first_lost d marks c.pages.self.at p leaves refl (leaf_read d true p c.in-Ok-Some.page is.0.0 is.0.1 is.0.2) is.1 l))
 
 pub pages-preserved : goal.pages-preserved
 pages-preserved g c =
@@ -40,16 +40,16 @@ pages-preserved g c =
       usable = i.usable;
       marks = i.marks;
       pending = i.pending;
-      left = λ gives over leaves l.
-          let none = found_here d e marks p c.in-Ok-None.field-0 None i.kept.same_pages c.in-Ok-None.field-0-is (c.in-Ok-None.ensures.ok (i.kept.still_gives gives) (i.usable ∙ over.0 ∙ sym (ap usable_size i.kept.same_pages))) in
-          i.left gives over leaves (none_lost d marks c.pages.self.at p leaves refl none l);
+      left = λ right over leaves l.
+          let none = found_here d e marks p c.in-Ok-None.field-0 None i.kept.same_pages c.in-Ok-None.field-0-is (c.in-Ok-None.ensures.ok (i.kept.still_right right) (i.usable ∙ over.0 ∙ sym (ap usable_size i.kept.same_pages))) in
+          i.left right over leaves (none_lost d marks c.pages.self.at p leaves refl none l);
     }
 
 pub returns-clause-ok : goal.returns-clause-ok
-returns-clause-ok g c = λ gives over.
+returns-clause-ok g c = λ right over.
     let i = c.pages.invariant in
     let d = g.S.PageSource.pages c.args.source.now in
     let at : ℕ = c.pages.self.at in
     let count : c.count-count.result ≡ length d = c.count-count.ensures in
     let ended : c.count-count.result ≤ at = c.pages-test.false in
-    i.left gives over [] (ended_lost d c.pages.self.marks.items at (λ q leaf. (let le : q ≤ length d = leaf.0.1 in omega (arith, le, count, ended))))
+    i.left right over [] (ended_lost d c.pages.self.marks.items at (λ q leaf. (let le : q ≤ length d = leaf.0.1 in omega (arith, le, count, ended))))

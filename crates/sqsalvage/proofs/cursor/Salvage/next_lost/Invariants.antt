@@ -10,7 +10,7 @@ invariant-pages g l = record {
   usable : l.self.usable ≡ l.fn.self.usable;
   marks : l.self.marks ≡ l.fn.self.marks;
   pending : l.self.pending ≡ l.fn.self.pending;
-  left : g.S.PageSource.gives_pages l.fn.source → IsOver (g.S.PageSource.pages l.fn.source) l.fn.self → (leaves : List ℕ) → LostLeft (g.S.PageSource.pages l.fn.source) l.self leaves → LostLeft (g.S.PageSource.pages l.fn.source) l.fn.self leaves;
+  left : g.S.PageSource.reads_right l.fn.source → IsOver (g.S.PageSource.pages l.fn.source) l.fn.self → (leaves : List ℕ) → LostLeft (g.S.PageSource.pages l.fn.source) l.self leaves → LostLeft (g.S.PageSource.pages l.fn.source) l.fn.self leaves;
 }
 
 abbrev pub decreases-pages : goal.decreases-pages

@@ -19,28 +19,28 @@ taken_here d e table other x marks new rest more found now same kind is h =
     (subst (λ (o : Option PieceRead). IsPieceTaken e other x marks new rest more o) is h))
 
 pub returns-in-Ok-Some-clause-ok : goal.returns-in-Ok-Some-clause-ok
-returns-in-Ok-Some-clause-ok g c = λ gives over.
+returns-in-Ok-Some-clause-ok g c = λ right over.
     let i = c.pieces.invariant in
     let e = c.in-Ok-Some.ensures in
     let d = g.S.PageSource.pages c.args.source.now in
-    let go = i.goes gives over in
+    let go = i.goes right over in
     let same = i.kept.same_pages in
     let x = c.in-Some.piece in
     let marks = c.pieces.self.marks.items in
     let rest = c.pop.new.self.items in
     let new = c.take_piece.new.self in
-    let told = e.ok (i.kept.still_gives gives) (go.over ∙ sym (ap usable_size same)) (go.are.sized ∙ sym (ap length same)) in
+    let told = e.ok (i.kept.still_right right) (go.over ∙ sym (ap usable_size same)) (go.are.sized ∙ sym (ap length same)) in
     let here = taken_here d _ c.args.self.now.table c.pieces.self.table x marks new.marks.items rest new.pending.items _ _ same i.table c.in-Ok-Some.field-0-is told in
     comes_to d c.args.self.now new c.pieces.self.usable marks c.pieces.self.pending.items rest x c.in-Ok-Some.read go c.in-Some.ensures.items e.same.1 (e.same.3 ∙ i.table) here
 
 pub returns-in-None-clause-ok : goal.returns-in-None-clause-ok
-returns-in-None-clause-ok g c = λ gives over.
+returns-in-None-clause-ok g c = λ right over.
     let d = g.S.PageSource.pages c.args.source.now in
     let i = c.pieces.invariant in
     let pending : List Piece = c.pieces.self.pending.items in
     let len : length pending ≡ 0 = omega (arith, c.in-None.ensures.cases, c.pieces.self.pending.ok) in
     let same : pending ≡ c.pop.new.self.items = behind_none pending c.pop.new.self.items c.in-None.ensures.items in
-    comes_to_end d c.args.self.now _ c.pieces.self.usable pending (i.goes gives over) refl i.table same (sym same ∙ nil_from_length pending len)
+    comes_to_end d c.args.self.now _ c.pieces.self.usable pending (i.goes right over) refl i.table same (sym same ∙ nil_from_length pending len)
 
 pub returns-in-None-clause-piece : goal.returns-in-None-clause-piece
 returns-in-None-clause-piece g c =
@@ -69,10 +69,10 @@ pieces-preserved g c =
       usable = e.same.1 ∙ i.usable;
       at = e.same.2 ∙ i.at;
       table = e.same.3 ∙ i.table;
-      goes = λ gives over.
-          let go = i.goes gives over in
+      goes = λ right over.
+          let go = i.goes right over in
           let same = i.kept.same_pages in
-          let told = e.ok (i.kept.still_gives gives) (go.over ∙ sym (ap usable_size same)) (go.are.sized ∙ sym (ap length same)) in
+          let told = e.ok (i.kept.still_right right) (go.over ∙ sym (ap usable_size same)) (go.are.sized ∙ sym (ap length same)) in
           let here = taken_here d _ c.args.self.now.table c.pieces.self.table x marks new.marks.items rest new.pending.items _ _ same i.table c.in-Ok-None.field-0-is told in
           subst (λ (u : ℕ). Goes d c.args.self.now u new.marks.items new.pending.items) (sym e.same.1)
           (goes_on d c.args.self.now c.pieces.self.usable marks new.marks.items c.pieces.self.pending.items rest new.pending.items x go c.in-Some.ensures.items here);

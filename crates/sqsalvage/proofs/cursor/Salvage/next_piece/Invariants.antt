@@ -11,5 +11,5 @@ invariant-pieces g l = record {
   usable : l.self.usable ≡ l.fn.self.usable;
   at : l.self.at ≡ l.fn.self.at;
   table : l.self.table ≡ l.fn.self.table;
-  goes : g.S.PageSource.gives_pages l.fn.source → IsOver (g.S.PageSource.pages l.fn.source) l.fn.self → Goes (g.S.PageSource.pages l.fn.source) l.fn.self l.self.usable l.self.marks.items l.self.pending.items;
+  goes : g.S.PageSource.reads_right l.fn.source → IsOver (g.S.PageSource.pages l.fn.source) l.fn.self → Goes (g.S.PageSource.pages l.fn.source) l.fn.self l.self.usable l.self.marks.items l.self.pending.items;
 }

@@ -11,7 +11,7 @@ use Rattle.sqsalvage.proofs.PagesOfTrees.{outside_tree, none_of_tree, other_tree
 use Rattle.sqsalvage.proofs.cursor.Salvage.take.Goals as goal
 
 pub returns-then-p-eq0-clause-ok : goal.returns-then-p-eq0-clause-ok
-returns-then-p-eq0-clause-ok g c = λ gives u size.
+returns-then-p-eq0-clause-ok g c = λ right u size.
     let d = g.S.PageSource.pages c.args.source.now in
     let p : ℕ = c.args.p in
     let none = λ (page : IsPage d p).
@@ -20,34 +20,34 @@ returns-then-p-eq0-clause-ok g c = λ gives u size.
     inl (λ h. outside_tree d c.args.self.now.table p none h.0, refl, refl)
 
 pub returns-then-is_marked-clause-ok : goal.returns-then-is_marked-clause-ok
-returns-then-is_marked-clause-ok g c = λ gives u size.
+returns-then-is_marked-clause-ok g c = λ right u size.
     inl (λ h. h.1 (subst (λ (m : List Bool). IsMarked m c.args.p) c.deref.ensures.value (c.is_marked.ensures.yes c.if-is_marked.true)), refl, refl)
 
 pub returns-in-Ok-None-clause-ok : goal.returns-in-Ok-None-clause-ok
-returns-in-Ok-None-clause-ok g c = λ gives u size.
+returns-in-Ok-None-clause-ok g c = λ right u size.
     let d = g.S.PageSource.pages c.args.source.now in
     let p : ℕ = c.args.p in
-    let none = subst (λ (o : Option TreePage). IsRead d p o) c.in-Ok-None.field-0-is (c.in-Ok-None.ensures.ok gives u) in
+    let none = subst (λ (o : Option TreePage). IsRead d p o) c.in-Ok-None.field-0-is (c.in-Ok-None.ensures.ok right u) in
     inl (λ h. none_of_tree d c.args.self.now.table p none h.0, refl, refl)
 
 pub returns-then-not-is_of_tree-clause-ok : goal.returns-then-not-is_of_tree-clause-ok
-returns-then-not-is_of_tree-clause-ok g c = λ gives u size.
+returns-then-not-is_of_tree-clause-ok g c = λ right u size.
     let d = g.S.PageSource.pages c.args.source.now in
     let p : ℕ = c.args.p in
     let t : TreePage = c.in-Ok-Some.page in
-    let read = subst (λ (o : Option TreePage). IsRead d p o) c.in-Ok-Some.field-0-is (c.in-Ok-Some.ensures.ok gives u) in
+    let read = subst (λ (o : Option TreePage). IsRead d p o) c.in-Ok-Some.field-0-is (c.in-Ok-Some.ensures.ok right u) in
     let same : c.kind-kind.result ≡ t.kind = c.kind-kind.ensures in
     let other = subst (λ (k : Kind). is_table k ≢ c.args.self.now.table) same (c.is_of_tree.ensures.not c.if-not-is_of_tree.true) in
     inl (λ h. other_tree d c.args.self.now.table p t read other h.0, refl, refl)
 
 pub returns-then-not-is_interior-clause-ok : goal.returns-then-not-is_interior-clause-ok
-returns-then-not-is_interior-clause-ok g c = λ gives u size.
+returns-then-not-is_interior-clause-ok g c = λ right u size.
     let d = g.S.PageSource.pages c.args.source.now in
     let p : ℕ = c.args.p in
     let old = c.args.self.now in
     let new = c.leave_out.new.self in
     let t : TreePage = c.in-Ok-Some.page in
-    let read = subst (λ (o : Option TreePage). IsRead d p o) c.in-Ok-Some.field-0-is (c.in-Ok-Some.ensures.ok gives u) in
+    let read = subst (λ (o : Option TreePage). IsRead d p o) c.in-Ok-Some.field-0-is (c.in-Ok-Some.ensures.ok right u) in
     let same : c.kind-kind.result ≡ t.kind = c.kind-kind.ensures in
     let of_tree = subst (λ (k : Kind). is_table k ≡ old.table) same (c.is_of_tree.ensures.yes c.if-not-is_of_tree.false) in
     let low = subst (λ (k : Kind). is_interior k ≡ false) same (sym c.is_interior.ensures ∙ c.if-not-is_interior.true) in
@@ -66,14 +66,14 @@ returns-then-not-is_interior-clause-leaf g c =
     )
 
 pub returns-in-Ok-clause-ok : goal.returns-in-Ok-clause-ok
-returns-in-Ok-clause-ok g c = λ gives u size.
+returns-in-Ok-clause-ok g c = λ right u size.
     let d = g.S.PageSource.pages c.args.source.now in
     let p : ℕ = c.args.p in
     let old = c.args.self.now in
     let mid = c.leave_out.new.self in
     let new = c.name_from.new.self in
     let t : TreePage = c.in-Ok-Some.page in
-    let read = subst (λ (o : Option TreePage). IsRead d p o) c.in-Ok-Some.field-0-is (c.in-Ok-Some.ensures.ok gives u) in
+    let read = subst (λ (o : Option TreePage). IsRead d p o) c.in-Ok-Some.field-0-is (c.in-Ok-Some.ensures.ok right u) in
     let same : c.kind-kind.result ≡ t.kind = c.kind-kind.ensures in
     let of_tree = subst (λ (k : Kind). is_table k ≡ old.table) same (c.is_of_tree.ensures.yes c.if-not-is_of_tree.false) in
     let high = subst (λ (k : Kind). is_interior k ≡ true) same (sym c.is_interior.ensures ∙ c.if-not-is_interior.false) in

@@ -19,7 +19,7 @@ index_payload false e = refl
 index_payload true e = cc
 
 pub returns-then-p-eq0-clause-ok : goal.returns-then-p-eq0-clause-ok
-returns-then-p-eq0-clause-ok g c = λ gives u size.
+returns-then-p-eq0-clause-ok g c = λ right u size.
     let d = g.S.PageSource.pages c.args.source.now in
     let p : ℕ = c.args.p in
     let none = λ (h : IsInterior d c.args.self.now.table p).
@@ -28,31 +28,31 @@ returns-then-p-eq0-clause-ok g c = λ gives u size.
     (λ h. none h.0, refl, follows_outside d c.args.self.now.table p (c.args.i + 1) c.args.self.now.marks.items c.args.self.now.pending.items none)
 
 pub returns-in-Ok-None-clause-ok : goal.returns-in-Ok-None-clause-ok
-returns-in-Ok-None-clause-ok g c = λ gives u size.
+returns-in-Ok-None-clause-ok g c = λ right u size.
     let d = g.S.PageSource.pages c.args.source.now in
     let p : ℕ = c.args.p in
-    let is = subst (λ (o : Option TreePage). IsRead d p o) c.in-Ok-None.field-0-is (c.in-Ok-None.ensures.ok gives u) in
+    let is = subst (λ (o : Option TreePage). IsRead d p o) c.in-Ok-None.field-0-is (c.in-Ok-None.ensures.ok right u) in
     let none = λ (h : IsInterior d c.args.self.now.table p). none_of_tree d c.args.self.now.table p is (inr h) in
     (λ h. none h.0, refl, follows_outside d c.args.self.now.table p (c.args.i + 1) c.args.self.now.marks.items c.args.self.now.pending.items none)
 
 pub returns-then-not-is_interior_of-clause-ok : goal.returns-then-not-is_interior_of-clause-ok
-returns-then-not-is_interior_of-clause-ok g c = λ gives u size.
+returns-then-not-is_interior_of-clause-ok g c = λ right u size.
     let d = g.S.PageSource.pages c.args.source.now in
     let p : ℕ = c.args.p in
     let t : TreePage = c.in-Ok-Some.page in
     let table = c.args.self.now.table in
-    let read = subst (λ (o : Option TreePage). IsRead d p o) c.in-Ok-Some.field-0-is (c.in-Ok-Some.ensures.ok gives u) in
+    let read = subst (λ (o : Option TreePage). IsRead d p o) c.in-Ok-Some.field-0-is (c.in-Ok-Some.ensures.ok right u) in
     let none = λ (h : IsInterior d table p). c.is_interior_of.ensures.not c.if-not-is_interior_of.true (c.kind.ensures ∙ same_kind d p t (interior_kind table) read h.1) in
     (λ h. none h.0, refl, follows_outside d table p (c.args.i + 1) c.args.self.now.marks.items c.args.self.now.pending.items none)
 
 pub returns-then-i-cells-clause-ok : goal.returns-then-i-cells-clause-ok
-returns-then-i-cells-clause-ok g c = λ gives u size.
+returns-then-i-cells-clause-ok g c = λ right u size.
     let d = g.S.PageSource.pages c.args.source.now in
     let p : ℕ = c.args.p in
     let i : ℕ = c.args.i in
     let t : TreePage = c.in-Ok-Some.page in
     let table = c.args.self.now.table in
-    let read = subst (λ (o : Option TreePage). IsRead d p o) c.in-Ok-Some.field-0-is (c.in-Ok-Some.ensures.ok gives u) in
+    let read = subst (λ (o : Option TreePage). IsRead d p o) c.in-Ok-Some.field-0-is (c.in-Ok-Some.ensures.ok right u) in
     let kind = sym c.kind.ensures ∙ c.is_interior_of.ensures.yes c.if-not-is_interior_of.false in
     let n = c.cells.ensures.value in
     let no = c.if-i-cells.true in
@@ -60,7 +60,7 @@ returns-then-i-cells-clause-ok g c = λ gives u size.
     (no_cell_in d table p i t read (λ _ _ lt. omega (arith, lt, past)), refl, past_follows d table p (i + 1) t c.args.self.now.marks.items c.args.self.now.pending.items read kind past)
 
 pub returns-then-self-clause-ok : goal.returns-then-self-clause-ok
-returns-then-self-clause-ok g c = λ gives u size.
+returns-then-self-clause-ok g c = λ right u size.
     let d = g.S.PageSource.pages c.args.source.now in
     let p : ℕ = c.args.p in
     let i : ℕ = c.args.i in
@@ -68,7 +68,7 @@ returns-then-self-clause-ok g c = λ gives u size.
     let old = c.args.self.now in
     let new = c.name_from.new.self in
     let e = c.in-Ok.ensures in
-    let read = subst (λ (o : Option TreePage). IsRead d p o) c.in-Ok-Some.field-0-is (c.in-Ok-Some.ensures.ok gives u) in
+    let read = subst (λ (o : Option TreePage). IsRead d p o) c.in-Ok-Some.field-0-is (c.in-Ok-Some.ensures.ok right u) in
     let kind = sym c.kind.ensures ∙ c.is_interior_of.ensures.yes c.if-not-is_interior_of.false in
     let page : IsPage d p = (omega (arith, c.if-p-eq0.false), omega (arith, c.count-count.ensures, c.if-p-eq0.false, c.if-p-count.false)) in
     let marks : old.marks.items ≡ new.marks.items = sym (ap (λ v. v.items) e.same.4) in
@@ -79,7 +79,7 @@ returns-then-self-clause-ok g c = λ gives u size.
     )
 
 pub returns-clause-ok : goal.returns-clause-ok
-returns-clause-ok g c = λ gives u size.
+returns-clause-ok g c = λ right u size.
     let d = g.S.PageSource.pages c.args.source.now in
     let p : ℕ = c.args.p in
     let i : ℕ = c.args.i in
@@ -87,7 +87,7 @@ returns-clause-ok g c = λ gives u size.
     let old = c.args.self.now in
     let new = c.name_from.new.self in
     let e = c.in-Ok.ensures in
-    let read = subst (λ (o : Option TreePage). IsRead d p o) c.in-Ok-Some.field-0-is (c.in-Ok-Some.ensures.ok gives u) in
+    let read = subst (λ (o : Option TreePage). IsRead d p o) c.in-Ok-Some.field-0-is (c.in-Ok-Some.ensures.ok right u) in
     let kind = sym c.kind.ensures ∙ c.is_interior_of.ensures.yes c.if-not-is_interior_of.false in
     let page : IsPage d p = (omega (arith, c.if-p-eq0.false), omega (arith, c.count-count.ensures, c.if-p-eq0.false, c.if-p-count.false)) in
     let marks : old.marks.items ≡ new.marks.items = sym (ap (λ v. v.items) e.same.4) in
