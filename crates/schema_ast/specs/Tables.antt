@@ -1,5 +1,5 @@
 -- What the text of a table makes, as the kit states tables (lang_createtable; gencol).
-use Rattle.std.specs.Prelude.{◌≡◌, ℕ, ◌&&◌, Bool, true, false, not, if◌then◌else◌, nat_lt, List, [], ◌∷◌, ◌++◌, length, map, filter, slice_get, codes, Option, Some, None}
+use Rattle.std.specs.Prelude.{◌≡◌, ℕ, ◌&&◌, ◌||◌, Bool, true, false, not, if◌then◌else◌, nat_lt, List, [], ◌∷◌, ◌++◌, length, map, filter, slice_get, codes, Option, Some, None}
 use Rattle.std.specs.List.{list_all, list_any, flat_map}
 use Rattle.std.specs.Option.{is_some, option_map, option_map_or, option_and_then, option_to_list}
 use Rattle.sqlite_ast.specs.declared.CreateTable.{CreateTable}
@@ -39,9 +39,19 @@ collation_of text ts collate = collation_named (collation_name text ts collate)
 unfoldable pub is_kept : (text : List ℕ) → List Piece → Column → Bool
 is_kept text ts column = option_map_or (λ c. is_stored text ts c) column.generated true
 
--- it is STORED
+-- one of the rowid's names, which a column of that name hides (lang_createtable, 5)
+unfoldable pub is_rowid_name : List ℕ → Bool
+is_rowid_name name =
+    is_same_word (codes "rowid") name || is_same_word (codes "_rowid_") name || is_same_word (codes "oid") name
+
+-- it is STORED, or generated and hides one of the rowid's names
 unfoldable pub is_computed : (text : List ℕ) → List Piece → Column → Bool
-is_computed text ts column = option_map_or (λ c. is_stored text ts c) column.generated false
+is_computed text ts column =
+    option_map_or (λ c. is_stored text ts c || is_rowid_name (name_at text ts column.name)) column.generated false
+
+-- It is VIRTUAL, and NOT NULL or of a STRICT table: rows don't show whether its values keep to that.
+unfoldable pub is_bound : (text : List ℕ) → List Piece → (strict : Bool) → Column → Bool
+is_bound text ts strict column = not (is_kept text ts column) && (column.not_null || strict)
 
 abbrev pub kept_columns : (text : List ℕ) → List Piece → List Clause → List Column
 kept_columns text ts cs = filter (is_kept text ts) (columns_of cs)
@@ -139,5 +149,6 @@ pub record MakesTable (bytes : List ℕ) (made : MadeTable) : Type 0 where
   pub statement : IsTableText bytes tokens head clauses
   pub without_rowid : made.without_rowid ≡ is_without_rowid clauses
   pub computed : made.computed ≡ list_any (is_computed (text_of bytes) tokens) (columns_of clauses)
+  pub bound : made.bound ≡ list_any (is_bound (text_of bytes) tokens (is_strict clauses)) (columns_of clauses)
   pub clear : made.clear ≡ is_clear (text_of bytes) tokens clauses
   pub def : made.def ≡ table_of (text_of bytes) tokens head clauses

@@ -1,8 +1,9 @@
 //! The table that the text of a table creates.
 ghost use Rattle.std.specs.Prelude.{◌≡◌, ◌++◌, ◌&&◌, map, filter, Some, IfOk, IfSome};
 ghost use Rattle.std.specs.List.{list_all, list_any, flat_map};
-ghost use Rattle.schema_columns.specs.Columns.{columns_of, is_without_rowid};
-ghost use Rattle.schema_ast.specs.Tables.{is_kept, is_computed, kept_columns, column_for, column_rules};
+ghost use Rattle.schema_columns.specs.Columns.{columns_of, is_strict, is_without_rowid};
+ghost use Rattle.schema_ast.specs.Tables.{is_kept, is_rowid_name, is_computed, is_bound, kept_columns};
+ghost use Rattle.schema_ast.specs.Tables.{column_for, column_rules};
 ghost use Rattle.schema_ast.specs.Tables.{key_rule, key_rules};
 ghost use Rattle.schema_ast.specs.Tables.{table_of, is_known, is_known_key, is_collated, is_clear, MakesTable};
 ghost use Rattle.schema_ast.specs.declared.tables.MadeTable.{MadeTable};
@@ -12,13 +13,13 @@ use crate::rules::{
 };
 use crate::types::type_for;
 use schema_columns::{
-    Column, Key, columns_of, integer_key, is_stored, is_strict, is_without_rowid, keys_of,
+    Column, Key, columns_of, integer_key, is_stored, is_strict, is_without_rowid, keys_of, name_at,
     written_type,
 };
 use schema_index::KeyColumn;
 use schema_print::Head;
 use schema_text::{Clause, TableText, read_table};
-use schema_tokens::{Piece, text_of};
+use schema_tokens::{Piece, is_same_word, text_of};
 use sqlite_ast::{CreateTable, TableBody};
 use sqlite_items::Items;
 use sqlite_value::value::Bytes;
@@ -29,8 +30,10 @@ use std::alloc::{AllocError, Global};
 pub struct MadeTable {
     /// It is WITHOUT ROWID.
     pub without_rowid: bool,
-    /// One of its columns is STORED.
+    /// One of its columns is STORED, or is generated and hides one of the rowid's names.
     pub computed: bool,
+    /// One of its columns is VIRTUAL, and NOT NULL or of a STRICT table: rows don't show whether its values keep to it.
+    pub bound: bool,
     /// SQLite has the collations of its columns and keys by itself, and each column of a key is one of the table's.
     pub clear: bool,
     /// Its columns that rows store, with a word for their types, and what these and its keys state. A collation that
@@ -38,21 +41,61 @@ pub struct MadeTable {
     pub def: CreateTable,
 }
 
+/// Whether it is one of the rowid's names.
+#[tactic(auto, unfolding(crate::specs::Tables::is_rowid_name))]
+fn is_rowid_name(name: &[u8]) -> bool
+    ensures { result ≡ is_rowid_name name.now }
+{
+    is_same_word(b"rowid", name) || is_same_word(b"_rowid_", name) || is_same_word(b"oid", name)
+}
+
 #[tactic(auto, unfolding(crate::specs::Tables::is_computed))]
-fn is_computed(text: &[u8], tokens: &[Piece], column: &Column) -> bool
-    ensures { result ≡ is_computed text.now tokens.now column.now }
+fn is_computed(
+    alloc: Global,
+    text: &[u8],
+    tokens: &[Piece],
+    column: &Column,
+) -> Result<bool, AllocError>
+    ensures { IfOk result (λ b. b ≡ is_computed text.now tokens.now column.now) }
 {
     match column.generated {
-        Some(clause) => is_stored(text, tokens, &clause),
-        None => false,
+        Some(clause) => {
+            let name = name_at(alloc, text, tokens, column.name)?;
+            Ok(is_stored(text, tokens, &clause) || is_rowid_name(&name))
+        }
+        None => Ok(false),
     }
 }
 
-/// Whether one of these columns is STORED.
-fn has_computed(text: &[u8], tokens: &[Piece], columns: &[Column]) -> bool
-    ensures { result ≡ list_any (is_computed text.now tokens.now) columns.now }
+/// Whether one of these columns is STORED, or is generated and hides one of the rowid's names.
+fn has_computed(
+    alloc: Global,
+    text: &[u8],
+    tokens: &[Piece],
+    columns: &[Column],
+) -> Result<bool, AllocError>
+    ensures { IfOk result (λ b. b ≡ list_any (is_computed text.now tokens.now) columns.now) }
 {
-    columns.iter().any(|c| is_computed(text, tokens, c))
+    for column in columns {
+        if is_computed(alloc, text, tokens, column)? {
+            return Ok(true);
+        }
+    }
+    Ok(false)
+}
+
+#[tactic(auto, unfolding(crate::specs::Tables::is_bound))]
+fn is_bound(text: &[u8], tokens: &[Piece], strict: bool, column: &Column) -> bool
+    ensures { result ≡ is_bound text.now tokens.now strict column.now }
+{
+    !is_kept(text, tokens, column) && (column.not_null || strict)
+}
+
+/// Whether one of these columns is VIRTUAL, and NOT NULL or of a STRICT table.
+fn has_bound(text: &[u8], tokens: &[Piece], strict: bool, columns: &[Column]) -> bool
+    ensures { result ≡ list_any (is_bound text.now tokens.now strict) columns.now }
+{
+    columns.iter().any(|c| is_bound(text, tokens, strict, c))
 }
 
 /// The columns that rows store.
@@ -250,6 +293,8 @@ fn table_of(
     ensures without_rowid { IfOk result (λ t. t.without_rowid ≡ is_without_rowid clauses.now) }
     ensures computed { IfOk result (λ t. t.computed
         ≡ list_any (is_computed text.now tokens.now) (columns_of clauses.now)) }
+    ensures bound { IfOk result (λ t. t.bound
+        ≡ list_any (is_bound text.now tokens.now (is_strict clauses.now)) (columns_of clauses.now)) }
     ensures clear { IfOk result (λ t. t.clear ≡ is_clear text.now tokens.now clauses.now) }
     ensures def { IfOk result (λ t. t.def ≡ table_of text.now tokens.now head clauses.now) }
 {
@@ -262,7 +307,8 @@ fn table_of(
     };
     Ok(MadeTable {
         without_rowid: is_without_rowid(clauses),
-        computed: has_computed(text, tokens, &columns),
+        computed: has_computed(alloc, text, tokens, &columns)?,
+        bound: has_bound(text, tokens, is_strict(clauses), &columns),
         clear: is_clear(alloc, text, tokens, &of, &keys)?,
         def: CreateTable {
             if_missing: false,

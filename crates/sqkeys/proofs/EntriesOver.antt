@@ -1,5 +1,5 @@
 -- The entries of indexes of tables WITHOUT ROWID, by what was found of their columns.
-use Rattle.std.proofs.Common.{◌≡◌, ◌⊎◌, inl, inr, ℕ, Bool, true, false, List, map, subst, sym, ap, ◌∙◌}
+use Rattle.std.proofs.Common.{◌≡◌, ◌⊎◌, inr, ℕ, Bool, true, false, List, map, subst, sym}
 use Rattle.std.specs.Prelude.{Result, Ok, Err, Option, Some, None, IfOk, MatchOption, ⊤}
 use Rattle.sqlite_ast.specs.declared.CreateTable.{CreateTable}
 use Rattle.sqlite_ast.specs.declared.CreateIndex.{CreateIndex}
@@ -9,7 +9,8 @@ use Rattle.std.specs.Str.{str_eq_ignore_ascii_case}
 use Rattle.sqkeys.specs.declared.entry_key.EntryKey.{EntryKey}
 use Rattle.sqkeys.specs.Constraints.{IsNumbered}
 use Rattle.sqkeys.specs.Keyed.{MakesKeyed, IsPrimaryOf}
-use Rattle.sqkeys.specs.Entries.{rising, IsEntryOver, HasNoEntryOver, IsKeyedOver, HasNoKeyedOver, IsKeyedAutomatic, HasNoKeyedAutomatic, ReadsAs, IsKeyedEntryOf, HasNoKeyedEntry}
+use Rattle.sqkeys.specs.Keys.{ReadsAs}
+use Rattle.sqkeys.specs.Entries.{rising, IsEntryOver, HasNoEntryOver, IsKeyedOver, HasNoKeyedOver, IsKeyedAutomatic, HasNoKeyedAutomatic, IsKeyedEntryOf, HasNoKeyedEntry}
 
 pub of_over : {E : Type 0} (body : TableBody) (format : ℕ) (named key first second : List Keyed) (r : Result (Option EntryKey) E) → IsPrimaryOf body key → first ≡ key → second ≡ key
     → IfOk r (λ found. MatchOption found (HasNoEntryOver body format named first second) (IsEntryOver body format named first second))

@@ -1,3 +1,4 @@
 pub mod Pairs
 mod RulesPushed
 pub mod EntriesOver
+pub mod TextsRead

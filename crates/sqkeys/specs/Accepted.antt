@@ -6,7 +6,6 @@ use Rattle.sqkeys.specs.declared.accepts.Accepts.TheVariants as accept
 use Rattle.sqdefaults.specs.declared.affinity.Affinity.{Affinity}
 use Rattle.sqdefaults.specs.declared.affinity.Affinity.TheVariants.{Integer, Text, Blob, Real, Numeric}
 use Rattle.sqdefaults.specs.Affinities.{affinity_of}
-use Rattle.sqkeys.specs.Columns.{is_cut}
 
 -- The affinity TEXT leaves no number, and NUMERIC, INTEGER and REAL no text that reads as one (datatype3, 3).
 abbrev pub by_affinity : Affinity → Accepts
@@ -25,9 +24,9 @@ by_strict_type type =
     else (if str_eq_ignore_ascii_case type (codes "blob") then Some accept.Blobs
     else (if str_eq_ignore_ascii_case type (codes "any") then Some accept.All else None))))
 
--- what a column takes whose type is written so; None where SQLite cuts words off the end of the type
+-- what a column takes whose type is this one
 abbrev pub accepts_of : (is_strict : Bool) → (type : List ℕ) → Option Accepts
-accepts_of is_strict type = if is_strict then by_strict_type type else (if is_cut type then None else Some (by_affinity (affinity_of type)))
+accepts_of is_strict type = if is_strict then by_strict_type type else Some (by_affinity (affinity_of type))
 
 abbrev pub accepts_at : (is_strict : Bool) → Option (List ℕ × List ℕ) → Option Accepts
 accepts_at is_strict (Some column) = accepts_of is_strict column.1

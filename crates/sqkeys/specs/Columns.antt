@@ -1,5 +1,5 @@
 -- The columns of a key, as the texts of a table and an index say (SQLite's lang_createtable and lang_altertable).
-use Rattle.std.specs.Prelude.{◌≡◌, ◌⊎◌, ℕ, ◌-◌, Bool, if◌then◌else◌, List, [], ◌∷◌, length, drop, slice_get, position, Option, Some, None, option_map, unwrap_or, codes, is_nan, from_bits}
+use Rattle.std.specs.Prelude.{◌≡◌, ◌⊎◌, ℕ, if◌then◌else◌, List, slice_get, position, Option, Some, None, option_map, unwrap_or, is_nan, from_bits}
 use Rattle.std.specs.Str.{str_eq_ignore_ascii_case}
 use Rattle.std.specs.Float.{Float, binary64}
 use Rattle.std.specs.Int.{w64, from_be_bytes}
@@ -38,10 +38,6 @@ collation_in name _ = None
 abbrev pub collation_of : TableBody → (name : List ℕ) → Collation
 collation_of body name = unwrap_or (last_said (collation_in name) body.rules) Binary
 
--- The type ends with ALWAYS. SQLite cuts GENERATED ALWAYS off the end of a type.
-abbrev pub is_cut : (type : List ℕ) → Bool
-is_cut type = str_eq_ignore_ascii_case (drop (length type - 6) type) (codes "always")
-
 -- the value, where a column of this affinity keeps it
 abbrev pub kept : Affinity → Option Value → Option Value
 kept affinity (Some value) = if keeps affinity value then Some value else None
@@ -74,7 +70,7 @@ abbrev pub default_by : Affinity → (name : List ℕ) → List Rule → Option 
 default_by affinity name rules = default_stated affinity name rules (last_said (default_in name) rules)
 
 abbrev pub default_of : List Rule → Option (List ℕ × List ℕ) → Option Value
-default_of rules (Some column) = if is_cut column.1 then None else default_by (affinity_of column.1) column.0 rules
+default_of rules (Some column) = default_by (affinity_of column.1) column.0 rules
 default_of rules None = None
 
 -- What stands for column j in a row that doesn't store it (lang_altertable, "ALTER TABLE ADD COLUMN"): its last DEFAULT, or NULL.

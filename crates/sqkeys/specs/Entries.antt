@@ -1,6 +1,6 @@
 -- The columns of an index's entries where a key behind a rowid doesn't say them: of an index of a table WITHOUT ROWID, and of a
 -- partial one (SQLite's withoutrowid and partialindex; fileformat2, 2.5).
-use Rattle.std.specs.Prelude.{◌≡◌, ◌⊎◌, ◌<◌, ◌≤◌, ◌^◌, ℕ, Bool, true, false, List, [], ◌∷◌, ◌++◌, map, length, drop, take, position, Option, Some, None, codes}
+use Rattle.std.specs.Prelude.{◌≡◌, ◌⊎◌, ◌<◌, ◌≤◌, ◌^◌, ℕ, Bool, true, false, List, [], ◌∷◌, ◌++◌, map, length, position, Some, None}
 use Rattle.std.specs.List.{AllZip, Contains}
 use Rattle.std.specs.Str.{str_eq_ignore_ascii_case}
 use Rattle.sqlite_ast.specs.declared.CreateIndex.{CreateIndex}
@@ -11,37 +11,20 @@ use Rattle.sqkeys.specs.declared.entry_key.EntryKey.{EntryKey}
 use Rattle.sqkeys.specs.declared.key.IndexKey.{IndexKey}
 use Rattle.sqkeys.specs.declared.key.KeyColumn.{KeyColumn}
 use Rattle.sqkeys.specs.declared.key.KeyColumn.TheVariants.{Rowid, Stored}
-use Rattle.sqdefaults.specs.Affinities.{begins}
 use Rattle.sqdefaults.specs.Defaults.{last_said}
 use Rattle.sqtables.specs.Keys.{primary_in}
 use Rattle.sqkeys.specs.Columns.{column_named}
 use Rattle.sqkeys.specs.Constraints.{IsNumbered, IsNoNumber}
 use Rattle.sqkeys.specs.Keyed.{MakesKeyed, IsNoKeyed, IsPrimaryOf, with_columns_of, stored, default_for}
-use Rattle.sqkeys.specs.Keys.{MakesIndex, MakesRowids, IsNoIndex, IsNoTable, IsKeyOver, HasNoKey, key_for, order_of}
+use Rattle.sqkeys.specs.Keys.{ReadsAs, MakesRowids, IsNoTable, IsKeyOver, HasNoKey, key_for, order_of, most_text}
 
--- the longest text of a partial index that is read (own)
-abbrev pub most_partial : ℕ
-most_partial = 16384
-
--- The text reads as this CREATE INDEX up to a WHERE (lang_createindex).
-abbrev pub IsBefore : (index : List ℕ) → CreateIndex → (n : ℕ) → Type 0
-IsBefore index indexed n = (begins (drop n index) (codes "where") ≡ true) × MakesIndex (take n index) indexed
-
-abbrev pub MakesPartial : (index : List ℕ) → CreateIndex → Type 0
-MakesPartial index indexed = (n : ℕ) × (n < length index) × IsBefore index indexed n
-
--- The text is longer than is read of a partial index, or is none of one.
+-- The text is longer than what is read, or makes no index with WHERE.
 abbrev pub IsNotPartial : (index : List ℕ) → Type 0
-IsNotPartial index = (most_partial < length index) ⊎ ((indexed : CreateIndex) → ¬ MakesPartial index indexed)
+IsNotPartial index = (most_text < length index) ⊎ ((indexed : CreateIndex) → ¬ ReadsAs index true indexed)
 
--- The text reads as this CREATE INDEX, with WHERE behind it or without.
-abbrev pub ReadsAs : (index : List ℕ) → (partial : Bool) → CreateIndex → Type 0
-ReadsAs index false indexed = MakesIndex index indexed
-ReadsAs index true indexed = IsNoIndex index × MakesPartial index indexed
-
--- It reads as neither, or is longer than is read of one with WHERE.
+-- It is longer than what is read, or makes no index over columns.
 abbrev pub ReadsAsNone : (index : List ℕ) → Type 0
-ReadsAsNone index = IsNoIndex index × IsNotPartial index
+ReadsAsNone index = (most_text < length index) ⊎ ((partial : Bool) (indexed : CreateIndex) → ¬ ReadsAs index partial indexed)
 
 -- A column of an entry is the one that is named there, where the rows store it.
 abbrev pub IsStoredAs : TableBody → (key : List Keyed) → (name : List ℕ) → KeyColumn → Type 0
@@ -146,7 +129,7 @@ pub record IsPartialOf (table index : List ℕ) (format : ℕ) (entry : EntryKey
   pub made : CreateTable
   pub indexed : CreateIndex
   pub tabled : MakesRowids table made
-  pub written : MakesPartial index indexed
+  pub written : ReadsAs index true indexed
   pub same : str_eq_ignore_ascii_case indexed.table made.name ≡ true
   pub over : IsPartialOver made.body format indexed.columns entry
   pub unique : entry.unique ≡ indexed.is_unique
@@ -156,7 +139,7 @@ pub record AreUnclearPartial (table index : List ℕ) (format : ℕ) : Type 0 wh
   pub made : CreateTable
   pub indexed : CreateIndex
   pub tabled : MakesRowids table made
-  pub written : MakesPartial index indexed
+  pub written : ReadsAs index true indexed
   pub because : (str_eq_ignore_ascii_case indexed.table made.name ≡ false) ⊎ HasNoKey made.body format indexed.columns
 
 abbrev pub HasNoPartial : (table index : List ℕ) → (format : ℕ) → Type 0

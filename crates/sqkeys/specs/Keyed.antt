@@ -1,5 +1,5 @@
 -- How a table WITHOUT ROWID stores its rows (SQLite's withoutrowid; fileformat2, 2.4).
-use Rattle.std.specs.Prelude.{◌≡◌, ◌⊎◌, ◌<◌, ◌≤◌, ◌^◌, ◌||◌, ℕ, Bool, true, not, if◌then◌else◌, List, [], ◌∷◌, ◌++◌, map, fold, length, slice_get, Option, Some, None}
+use Rattle.std.specs.Prelude.{◌≡◌, ◌⊎◌, ◌<◌, ◌≤◌, ◌^◌, ◌||◌, ℕ, true, not, if◌then◌else◌, List, [], ◌∷◌, ◌++◌, map, fold, length, slice_get, Option, Some, None}
 use Rattle.std.specs.List.{AllZip, Contains, filter, list_any}
 use Rattle.sqlite_ast.specs.declared.CreateTable.{CreateTable}
 use Rattle.sqlite_ast.specs.declared.Keyed.{Keyed}
@@ -7,19 +7,18 @@ use Rattle.sqlite_ast.specs.declared.TableBody.{TableBody}
 use Rattle.sqlite_value.specs.declared.value.Value.{Value}
 use Rattle.sqlite_value.specs.declared.value.Value.TheVariants.{Null}
 use Rattle.sqtables.specs.Keys.{primary_in}
-use Rattle.sqtables.specs.Texts.{MakesTable, is_without_rowid}
 use Rattle.sqkeys.specs.declared.keyed.RowKey.{RowKey}
 use Rattle.sqkeys.specs.declared.row_rules.ColumnRule.{ColumnRule}
 use Rattle.sqkeys.specs.Accepted.{accepts_at}
 use Rattle.sqdefaults.specs.Defaults.{last_said}
 use Rattle.sqkeys.specs.Columns.{column_named, default_at}
 use Rattle.sqkeys.specs.Constraints.{is_like}
-use Rattle.sqkeys.specs.Keys.{key_for, order_of, most_text}
+use Rattle.sqkeys.specs.Keys.{MakesSorted, key_for, order_of, most_text}
 use Rattle.sqkeys.specs.RowRules.{has_column, is_not_null}
 
--- The text makes a table WITHOUT ROWID.
+-- The text makes a table WITHOUT ROWID, whose collations SQLite has by itself.
 abbrev pub MakesKeyed : List ℕ → CreateTable → Type 0
-MakesKeyed text made = (is_without_rowid text ≡ true) × MakesTable text made
+MakesKeyed text made = MakesSorted text true made
 
 -- One more column, unless it stands there by the same collation.
 abbrev pub with_column : TableBody → (before : List Keyed) → Keyed → List Keyed

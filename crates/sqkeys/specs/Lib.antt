@@ -6,3 +6,4 @@ pub mod Accepted
 pub mod RowRules
 pub mod Keyed
 pub mod Entries
+pub mod internal

@@ -13,7 +13,9 @@ use Rattle.sqkeys.specs.declared.accepts.Accepts.TheVariants.{All}
 use Rattle.sqkeys.specs.declared.row_rules.ColumnRule.{ColumnRule}
 use Rattle.sqkeys.specs.Accepted.{accepts_at}
 use Rattle.sqkeys.specs.Columns.{default_at}
-use Rattle.sqkeys.specs.Keys.{MakesRowids, IsNoTable}
+use Rattle.sqkeys.specs.Keys.{most_text}
+use Rattle.schema_ast.specs.Tables.{MakesTable}
+use Rattle.schema_ast.specs.declared.tables.MadeTable.{MadeTable}
 
 -- the key has a column of this name, where ASCII's small letters are its capitals
 abbrev pub has_column : List Keyed → (name : List ℕ) → Bool
@@ -57,10 +59,22 @@ pub record AreRulesIn (made : CreateTable) (rules : List ColumnRule) : Type 0 wh
   pub many : length rules ≡ length made.body.columns
   pub each : (j : ℕ) (rule : ColumnRule) → slice_get rules j ≡ Some rule → IsRuleOf made j rule
 
+-- The text makes this table with rowids, and no VIRTUAL column keeps to a rule: rows store each that does.
+pub record MakesRows (text : List ℕ) (def : CreateTable) : Type 0 where
+  pub made : MadeTable
+  pub makes : MakesTable text made
+  pub rowids : made.without_rowid ≡ false
+  pub free : made.bound ≡ false
+  pub same : made.def ≡ def
+
 -- The text makes a table with rowids whose columns keep to these.
 abbrev pub AreRulesOf : (table : List ℕ) → List ColumnRule → Type 0
-AreRulesOf table rules = (made : CreateTable) × MakesRowids table made × AreRulesIn made rules
+AreRulesOf table rules = (made : CreateTable) × MakesRows table made × AreRulesIn made rules
+
+-- The text is longer than what is read, or makes no such table.
+abbrev pub HasNoRows : (table : List ℕ) → Type 0
+HasNoRows table = (most_text < length table) ⊎ ((made : CreateTable) → ¬ MakesRows table made)
 
 -- Why it isn't known what they keep to: the text makes no table with rowids, or the type of a column isn't understood.
 abbrev pub HasNoRules : (table : List ℕ) → Type 0
-HasNoRules table = IsNoTable table ⊎ ((made : CreateTable) × MakesRowids table made × ((j : ℕ) × IsUntyped made j))
+HasNoRules table = HasNoRows table ⊎ ((made : CreateTable) × MakesRows table made × ((j : ℕ) × IsUntyped made j))

@@ -2,7 +2,6 @@
 ghost use Rattle.std.specs.Prelude.{◌≡◌, slice_get};
 ghost use Rattle.sqkeys.specs.Accepted.{by_affinity, by_strict_type, accepts_of, accepts_at};
 
-use crate::default::is_cut;
 use sqdefaults::{Affinity, affinity_of};
 use sqlite_ast::CreateTable;
 
@@ -61,8 +60,6 @@ fn accepts_of(is_strict: bool, written: &[u8]) -> Option<Accepts>
 {
     if is_strict {
         by_strict_type(written)
-    } else if is_cut(written) {
-        None
     } else {
         Some(by_affinity(affinity_of(written)))
     }

@@ -3,7 +3,7 @@ ghost use Rattle.std.specs.Prelude.{◌≡◌, Some, IfOk, from_bits, option_map
 ghost use Rattle.std.specs.Float.{binary64};
 ghost use Rattle.sqlite_ast.specs.declared.Expr.{out-Expr};
 ghost use Rattle.sqdefaults.specs.Literals.{datum_in};
-ghost use Rattle.sqkeys.specs.Columns.{is_cut, kept, real_of, value_of, stated_by};
+ghost use Rattle.sqkeys.specs.Columns.{kept, real_of, value_of, stated_by};
 ghost use Rattle.sqkeys.specs.Columns.{default_by, default_of, default_at};
 
 use crate::affinity::keeps;
@@ -11,14 +11,6 @@ use sqdefaults::{Affinity, Literal, affinity_of, default_of as literal_of, last_
 use sqlite_ast::{Expr, Rule, TableBody};
 use sqlite_value::value::{Bytes, Value};
 use std::alloc::{AllocError, Global};
-
-/// Whether SQLite cuts words off the end of a type.
-pub(crate) fn is_cut(written: &[u8]) -> bool
-    ensures { result ≡ is_cut written.now }
-{
-    let (_, tail) = written.split_at(written.len().saturating_sub(6));
-    tail.eq_ignore_ascii_case(b"always")
-}
 
 /// The value, where a column of this affinity keeps it.
 fn kept(affinity: Affinity, value: Option<Value>) -> Option<Value>
@@ -124,9 +116,6 @@ fn default_of(
     ensures { IfOk result (λ found. found ≡ default_of rules.now (Some column.now)) }
 {
     let written = column.1.as_slice();
-    if is_cut(written) {
-        return Ok(None);
-    }
     let affinity = affinity_of(written);
     default_by(alloc, affinity, column.0.as_slice(), rules)
 }

@@ -11,7 +11,6 @@ mod entry_key;
 mod key;
 mod keyed;
 mod order;
-mod partial;
 mod row_rules;
 mod rule;
 mod text;

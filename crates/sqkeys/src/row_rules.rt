@@ -10,7 +10,7 @@ ghost use Rattle.sqkeys.specs.RowRules.{IsUntyped, AreRulesIn, AreRulesOf, HasNo
 use crate::accepts::{Accepts, accepts_at};
 use crate::column::is_alias;
 use crate::default::default_at;
-use crate::text::rowid_table;
+use crate::text::rows_table;
 use sqlite_ast::{CreateTable, Keyed, Rule};
 use sqlite_value::value::Value;
 use std::alloc::{AllocError, Global};
@@ -112,14 +112,14 @@ fn rules_in(alloc: Global, made: &CreateTable) -> Result<Option<Vec<ColumnRule>>
 }
 
 /// What each column of a table keeps to in its rows, in the order in which they store them. From the table's text, in
-/// UTF-8. None where it isn't understood, or is that of a table WITHOUT ROWID. It takes memory for some five times the
-/// text's bytes.
+/// UTF-8. None where it isn't understood, or is that of a table WITHOUT ROWID. It takes memory for some hundred times
+/// the text's bytes.
 pub fn rules_of(alloc: Global, table: &[u8]) -> Result<Option<Vec<ColumnRule>>, AllocError>
     // They are those of the table; or it is said why none are known.
     ensures { IfOk result (λ found. MatchOption found (HasNoRules table.now)
         (λ rules. AreRulesOf table.now rules.items)) }
 {
-    match rowid_table(alloc, table)? {
+    match rows_table(alloc, table)? {
         Some(made) => rules_in(alloc, &made),
         None => Ok(None),
     }

@@ -1,7 +1,7 @@
 pub mod ItemsTaken
+pub mod RowidsSaid
 pub mod ItemsAt
 pub mod NamesAdded
 pub mod RootsOfItems
-pub mod RowidsSaid
 pub mod Refusals
 pub mod SoundSchemas

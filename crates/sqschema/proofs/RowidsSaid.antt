@@ -1,30 +1,26 @@
 -- What is said of the rowids of a text.
-use Rattle.std.proofs.Common.{◌≡◌, ◌≤◌, ℕ, Bool, true, false, List, length, refl, sym, ap}
-use Rattle.std.specs.Prelude.{not, Some, None}
-use Rattle.sqlite_ast.specs.declared.CreateTable.{CreateTable}
-use Rattle.sqtables.specs.Texts.{MakesTable, is_without_rowid}
-use Rattle.sqschema.specs.Roots.{most_text, HasComment}
+use Rattle.std.proofs.Common.{◌≡◌, ◌<◌, ◌≤◌, ◌∙◌, ℕ, Bool, List, length, Option, Some, None, sym, ap, arith}
+use Rattle.std.specs.Prelude.{not}
+use Rattle.schema_ast.specs.Tables.{MakesTable}
+use Rattle.schema_ast.specs.declared.tables.MadeTable.{MadeTable}
+use Rattle.sqschema.specs.Roots.{most_text}
 use Rattle.sqschema.specs.internal.Judging.{SaysRowids}
 
-both : (b : Bool) → b ≡ true → b ≡ false → ⊥
-both b t f = cc
+pub too_long : (sql : List ℕ) → most_text < length sql → SaysRowids (Some sql) None
+too_long sql long = λ made u. let few = u.0 in absurd (omega (arith, few, long))
 
-pub is_not : (b : Bool) → not b ≡ true → b ≡ false
-is_not true e = sym e
-is_not false e = refl
+pub not_made : (sql : List ℕ) (r : Option MadeTable) → r ≡ None → ((other : MadeTable) → MakesTable sql other → r ≡ Some other) → SaysRowids (Some sql) None
+not_made sql r is only = λ other u.
+    let e : ◌≡◌ {A = Option MadeTable} None (Some other) = sym is ∙ only other u.1 in
+    let held : ⊥ = cc in
+    held
 
-pub is_so : (b : Bool) → not b ≡ false → b ≡ true
-is_so true e = refl
-is_so false e = sym e
-
-pub not_made : (sql : List ℕ) → ((def : CreateTable) → ¬ MakesTable sql def) → SaysRowids (Some sql) None
-not_made sql never = λ def u. never def u.1
-
-pub with_rowids : (sql : List ℕ) (def : CreateTable) → length sql ≤ most_text → MakesTable sql def → is_without_rowid sql ≡ false → SaysRowids (Some sql) (Some true)
-with_rowids sql def few makes never = (def, (few, makes, λ is. absurd (both (is_without_rowid sql) is never)), sym (ap not never))
-
-pub hidden : (sql : List ℕ) → is_without_rowid sql ≡ true → HasComment sql → SaysRowids (Some sql) None
-hidden sql without has = λ def u. u.2 without has
-
-pub without_rowids : (sql : List ℕ) (def : CreateTable) → length sql ≤ most_text → MakesTable sql def → is_without_rowid sql ≡ true → ¬ HasComment sql → SaysRowids (Some sql) (Some false)
-without_rowids sql def few makes without never = (def, (few, makes, λ _. never), sym (ap not without))
+pub one_made : (sql : List ℕ) (r : Option MadeTable) (made : MadeTable) → length sql ≤ most_text → r ≡ Some made → MakesTable sql made
+    → ((other : MadeTable) → MakesTable sql other → r ≡ Some other) → SaysRowids (Some sql) (Some (not made.without_rowid))
+one_made sql r made few is makes only = (
+  (made, (few, makes)),
+  λ other u.
+      let e : ◌≡◌ {A = Option MadeTable} (Some made) (Some other) = sym is ∙ only other u.1 in
+      let same : made ≡ other = cc in
+      ap (λ (t : MadeTable). not t.without_rowid) same,
+)

@@ -4,7 +4,7 @@ ghost use Rattle.std.specs.Prelude.{IfOk, IfErr, OnOk, MatchOption};
 ghost use Rattle.sqpage.specs.Freelist.{IsPage, IsWithin};
 ghost use Rattle.sqpage.specs.Source.{KeepsPages};
 ghost use Rattle.sqschema.specs.Items.{seen};
-ghost use Rattle.sqschema.specs.Roots.{is_mark, HasComment, HasTree};
+ghost use Rattle.sqschema.specs.Roots.{HasTree};
 ghost use Rattle.sqschema.specs.Schema.{AreAsides};
 ghost use Rattle.sqschema.specs.internal.Judging.{AllAt, Tells, TellsOf, SaysRowids, SaysAside, KindTells, Fits};
 
@@ -13,34 +13,15 @@ use crate::error::{ReadError, SchemaError, at_row, no_memory};
 use crate::fault::SchemaFault;
 use crate::first::{page_bytes, type_byte};
 use crate::item::Item;
+use schema_ast::made_table;
 use sqpage::{Kind, PageSource};
-use sqtables::table_text;
 use std::alloc::{AllocError, Global};
 
-/// The longest text that is read as one of a table (own): reading it takes memory for some five times its bytes.
+/// The longest text that is read as one of a table (own): reading it takes memory for some hundred times its bytes.
 const MOST_TEXT: usize = 1_048_576;
 
-/// Whether two bytes begin a comment.
-fn is_mark(first: u8, second: u8) -> bool
-    ensures { result ≡ is_mark first second }
-{
-    (first == b'-' && second == b'-') || (first == b'/' && second == b'*')
-}
-
-/// Whether a comment might begin somewhere in a text.
-fn has_comment(sql: &[u8]) -> bool
-    ensures yes { result ≡ true → HasComment sql.now }
-    ensures not { result ≡ false → ¬ HasComment sql.now }
-{
-    for i in 1..sql.len() {
-        if is_mark(sql[i - 1], sql[i]) {
-            return true;
-        }
-    }
-    false
-}
-
 /// Whether a text is understood as that of a table with rowids, or of one without.
+#[tactic(auto, using(crate::proofs::RowidsSaid::too_long))]
 fn has_rowids(alloc: Global, sql: &Option<Vec<u8>>) -> Result<Option<bool>, AllocError>
     ensures { IfOk result (SaysRowids (option_map (λ t. t.items) sql.now)) }
 {
@@ -50,18 +31,10 @@ fn has_rowids(alloc: Global, sql: &Option<Vec<u8>>) -> Result<Option<bool>, Allo
     if sql.len() > MOST_TEXT {
         return Ok(None);
     }
-    let found = match table_text(alloc, sql) {
-        Ok(Some(found)) => found,
-        Ok(None) => return Ok(None),
-        Err(_) => return Err(AllocError),
-    };
-    if !found.without_rowid {
-        return Ok(Some(true));
+    match made_table(alloc, sql)? {
+        Some(made) => Ok(Some(!made.without_rowid)),
+        None => Ok(None),
     }
-    if has_comment(sql) {
-        return Ok(None);
-    }
-    Ok(Some(false))
 }
 
 /// Whether an item names no root.

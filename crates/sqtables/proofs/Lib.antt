@@ -1,1 +1,2 @@
 pub mod ObjectsTaken
+pub mod ColumnsNamed

@@ -6,11 +6,10 @@ use Rattle.sqdefaults.specs.declared.literal.Literal.{Literal}
 use Rattle.sqdefaults.specs.Affinities.{affinity_in}
 use Rattle.sqdefaults.specs.Defaults.{default_of}
 use Rattle.sqtables.specs.Columns.{place_in}
-use Rattle.sqtables.specs.Texts.{written_type}
 
 -- What stands for a column of a table where it isn't stored, by its affinity. None where that isn't understood.
 unfoldable pub default_for : CreateTable → (column : List ℕ × List ℕ) → Option Datum
-default_for def column = default_of (affinity_in def.is_strict (written_type column.1)) column.0 def.body.rules
+default_for def column = default_of (affinity_in def.is_strict column.1) column.0 def.body.rules
 
 -- a column's default isn't known
 abbrev pub is_unknown : Option (Option Literal) → Bool

@@ -4,7 +4,6 @@ ghost use Rattle.sqdefaults.specs.Literals.{datum_in};
 ghost use Rattle.sqtables.specs.Columns.{place_in};
 ghost use Rattle.sqtables.specs.Defaults.{default_for, is_unknown, IsNeeded};
 
-use crate::text::written_type;
 use sqdefaults::{Literal, affinity_in, default_of};
 use sqlite_ast::CreateTable;
 use sqlite_value::value::Bytes;
@@ -18,7 +17,7 @@ fn default_for(
 ) -> Result<Option<Literal>, AllocError>
     ensures { IfOk result (λ found. option_map datum_in found ≡ default_for def.now column.now) }
 {
-    let affinity = affinity_in(def.is_strict, written_type(column.1.as_slice()));
+    let affinity = affinity_in(def.is_strict, column.1.as_slice());
     default_of(
         alloc,
         affinity,

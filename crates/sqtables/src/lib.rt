@@ -15,4 +15,4 @@ pub use list::{ListError, Object, objects, table_named};
 pub use named::columns_of;
 pub use schema::{TableRow, table_row};
 pub use sqdefaults::Literal;
-pub use text::{TableText, is_integer, table_text};
+pub use text::{alias_of, is_integer};

@@ -1,15 +1,14 @@
 //! The columns that the text of a table names.
-ghost use Rattle.std.specs.Prelude.{◌≡◌, ◌<◌, All, IfOk, IfErr, map};
-ghost use Rattle.sqlite_syntax.specs.declared.error.ParseError.{ParseError};
+ghost use Rattle.std.specs.Prelude.{◌≡◌, ◌<◌, All, IfOk, map};
 ghost use Rattle.sqtables.specs.Named.{HasColumns, AreColumns, IsBare};
 ghost use Rattle.sqtables.specs.internal.KeyColumns.{AreKeyed};
 
 use crate::columns::Columns;
 use crate::defaults::{defaults_of, needed_of};
 use crate::keys::{places_of, plain_key};
-use crate::text::{TableText, table_text};
+use crate::text::alias_of;
+use schema_ast::made_table;
 use sqlite_ast::CreateTable;
-use sqlite_syntax::error::ParseError;
 use sqlite_value::value::Bytes;
 use std::alloc::{AllocError, Global};
 
@@ -71,24 +70,24 @@ fn key_columns(alloc: Global, def: &CreateTable) -> Result<Columns, AllocError>
     }
 }
 
-/// The columns of the table that the text of the schema makes, in the order of the text. No column is named where the
-/// text isn't understood, nor where the table is one WITHOUT ROWID in whose key a column stands twice. Refused by
-/// OutOfMemory alone.
-pub fn columns_of(alloc: Global, text: &[u8]) -> Result<Columns, ParseError>
+/// The columns of the table that the text of the schema makes, in the order of the text, but for VIRTUAL ones, which
+/// rows don't store. No column is named if the text isn't understood, if one is STORED (an INSERT can't give its
+/// value), or if the table is WITHOUT ROWID and its key has a column twice.
+#[tactic(auto, using(crate::proofs::ColumnsNamed::rows_made))]
+pub fn columns_of(alloc: Global, text: &[u8]) -> Result<Columns, AllocError>
     ensures ok { IfOk result (AreColumns text.now) }
-    ensures err { IfErr result (λ e. e ≡ ParseError.OutOfMemory) }
 {
-    let found = match table_text(alloc, text)? {
-        Some(found) => found,
-        None => return Ok(bare(alloc)),
+    let Some(found) = made_table(alloc, text)? else {
+        return Ok(bare(alloc));
     };
-    let TableText {
-        without_rowid,
-        def,
-        alias,
-    } = found;
-    if without_rowid {
-        return Ok(key_columns(alloc, &def)?);
+    if found.computed {
+        return Ok(bare(alloc));
     }
-    Ok(columns_in(alloc, &def, alias, Vec::new(alloc))?)
+    if found.without_rowid {
+        let columns = key_columns(alloc, &found.def)?;
+        return Ok(columns);
+    }
+    let alias = alias_of(&found.def.body);
+    let columns = columns_in(alloc, &found.def, alias, Vec::new(alloc))?;
+    Ok(columns)
 }

@@ -7,7 +7,7 @@ use std::test::Fail;
 
 /// The texts of a table and an index, and the key that these mean: of each column its place, + where it rises and -
 /// where it falls, the first letter of its collation, and its default.
-const KEYS: [(&str, &str, &str); 36] = [
+const KEYS: [(&str, &str, &str); 41] = [
     ("CREATE TABLE t(a, b)", "CREATE INDEX i ON t(a)", "0+B"),
     (
         "CREATE TABLE t(a, b)",
@@ -184,26 +184,45 @@ const KEYS: [(&str, &str, &str); 36] = [
         "CREATE INDEX IF NOT EXISTS i ON t(a)",
         "0+B",
     ),
+    ("CREATE TABLE t(a, b)", "CREATE INDEX i ON t((b))", "1+B"),
+    ("CREATE TABLE t(a, b)", "CREATE INDEX i ON t('b')", "1+B"),
+    (
+        "CREATE TABLE t(a TEXT GENERATED ALWAYS PRIMARY KEY)",
+        "CREATE INDEX i ON t(a)",
+        "0+B",
+    ),
+    (
+        "CREATE TABLE t(a, b AS (a + 1), c, d DEFAULT (random()))",
+        "CREATE INDEX i ON t(c, d); more",
+        "1+B 2+B",
+    ),
+    (
+        "CREATE TABLE t(a UNIQUE CHECK (a > 0) CHECK (a < 9) /* , b */, CONSTRAINT n UNIQUE(a) CHECK (1)) -- )",
+        "CREATE INDEX i ON t(a)",
+        "0+B",
+    ),
 ];
 
 /// Those that aren't understood.
-const OTHERS: [(&str, &str); 18] = [
+const OTHERS: [(&str, &str); 17] = [
     ("CREATE TABLE t(a, b)", "CREATE INDEX i ON t(a) WHERE b > 0"),
     ("CREATE TABLE t(a, b)", "CREATE INDEX i ON t(a + 1)"),
-    ("CREATE TABLE t(a, b)", "CREATE INDEX i ON t((a))"),
     ("CREATE TABLE t(a, b)", "CREATE INDEX i ON t(lower(a))"),
-    ("CREATE TABLE t(a, b)", "CREATE INDEX i ON t('a')"),
     (
         "CREATE TABLE t(a COLLATE NOCASE)",
         "CREATE INDEX i ON t(a COLLATE other)",
     ),
+    (
+        "CREATE TABLE t(a COLLATE other, b)",
+        "CREATE INDEX i ON t(b)",
+    ),
+    (
+        "CREATE TABLE t(a, UNIQUE(a COLLATE other))",
+        "CREATE INDEX i ON t(a)",
+    ),
     ("CREATE TABLE t(a, b AS (a + 1))", "CREATE INDEX i ON t(b)"),
     (
         "CREATE TABLE t(a PRIMARY KEY) WITHOUT ROWID",
-        "CREATE INDEX i ON t(a)",
-    ),
-    (
-        "CREATE TABLE t(a TEXT GENERATED ALWAYS PRIMARY KEY)",
         "CREATE INDEX i ON t(a)",
     ),
     ("CREATE TABLE t(a)", "CREATE INDEX i ON u(a)"),

@@ -133,6 +133,8 @@ fn texts_that_are_not_understood(rt: HostRuntime) -> Result<(), Fail> {
     for text in [
         "CREATE TABLE t(a PRIMARY KEY) WITHOUT ROWID",
         "CREATE TABLE t(a DATE) STRICT",
+        "CREATE TABLE t(a, b NOT NULL AS (a))",
+        "CREATE TABLE t(a INT, b INT AS (a)) STRICT",
         "CREATE VIEW t AS SELECT 1",
     ] {
         assert!(rt; rules_of(rt.alloc(), text.as_bytes())?.is_none());

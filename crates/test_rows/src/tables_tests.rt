@@ -37,6 +37,28 @@ fn tables_of_no_columns(rt: HostRuntime) -> Result<(), Fail> {
     Ok(())
 }
 
+#[test]
+fn generated_columns(rt: HostRuntime) -> Result<(), Fail> {
+    let alloc = rt.alloc();
+    let left_out = b"CREATE TABLE t(a, b AS (a), c INTEGER PRIMARY KEY) -- , d)";
+    assert!(rt; columns(alloc, left_out) == Some((2, Some(1))));
+    let stored = b"CREATE TABLE t(a, b AS (a) STORED)";
+    assert!(rt; columns(alloc, stored) == Some((0, None)));
+    let hides = b"CREATE TABLE t(a, \"Oid\" AS (a))";
+    assert!(rt; columns(alloc, hides) == Some((0, None)));
+    Ok(())
+}
+
+#[test]
+fn texts_with_more(rt: HostRuntime) -> Result<(), Fail> {
+    let alloc = rt.alloc();
+    let own = b"CREATE TABLE t(a DEFAULT \"\", b TEXT COLLATE own CHECK (b) CHECK (1)); SELECT 1";
+    assert!(rt; columns(alloc, own) == Some((2, None)));
+    let keyed = b"CREATE TABLE t(a PRIMARY KEY, b) WITHOUT ROWID /* last */";
+    assert!(rt; columns(alloc, keyed) == Some((2, None)));
+    Ok(())
+}
+
 /// A row of the schema: table, t, t, 2 and the text.
 static SCHEMA: &[u8] = b"\x06\x17\x0f\x0f\x01\x2ftablett\x02CREATE TABLE t(a)";
 

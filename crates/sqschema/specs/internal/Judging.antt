@@ -1,5 +1,5 @@
 -- Words of the functions that judge the items of a schema (own). No public contract cites them.
-use Rattle.std.specs.Prelude.{◌≡◌, ◌<◌, ℕ, Bool, true, false, ◌&&◌, ◌||◌, List, ◌∷◌, slice_get, Some, Option, None}
+use Rattle.std.specs.Prelude.{◌≡◌, ◌<◌, ℕ, Bool, true, false, not, ◌&&◌, ◌||◌, List, ◌∷◌, slice_get, Some, Option, None}
 use Rattle.std.specs.BTreeSet.{contains_by}
 use Rattle.std.specs.Cmp.Lexicographic.{slice_cmp}
 use Rattle.std.specs.List.{list_any}
@@ -7,14 +7,14 @@ use Rattle.std.specs.Ordering.{nat_cmp}
 use Rattle.std.specs.Str.{bytes_eq, str_to_ascii_lowercase}
 use Rattle.sqval.specs.Database.{Database}
 use Rattle.sqpage.specs.Lists.{In}
-use Rattle.sqlite_ast.specs.declared.CreateTable.{CreateTable}
+use Rattle.schema_ast.specs.declared.tables.MadeTable.{MadeTable}
 use Rattle.sqschema.specs.declared.names.Names.{Names}
 use Rattle.sqschema.specs.declared.error.SchemaError.{SchemaError}
 use Rattle.sqschema.specs.declared.error.SchemaError.TheVariants.{Unread, Object}
 use Rattle.sqschema.specs.declared.fault.SchemaFault.TheVariants.{RootKind}
 use Rattle.sqschema.specs.Items.{Item}
 use Rattle.sqschema.specs.Rules.{is_table, is_view, is_typed, is_made, is_rooted}
-use Rattle.sqschema.specs.Roots.{HasTree, IsAside, IsRootOf, IsTreeFor, IsUnderstood, has_rowids}
+use Rattle.sqschema.specs.Roots.{HasTree, IsAside, IsRootOf, IsTreeFor, IsUnderstood}
 use Rattle.sqschema.specs.Schema.{ItemRefused, IsLimit}
 
 -- P holds of each item and its index, or of the first n
@@ -59,8 +59,9 @@ HoldsOwners views xs names = (key : List ℕ) → holds names key ≡ list_any (
 
 -- it is said whether the text is understood as a table with rowids, or as one without
 abbrev pub SaysRowids : (sql : Option (List ℕ)) → (said : Option Bool) → Type 0
-SaysRowids sql None = (def : CreateTable) → ¬ IsUnderstood sql def
-SaysRowids sql (Some rowids) = (def : CreateTable) × IsUnderstood sql def × (rowids ≡ has_rowids sql)
+SaysRowids sql None = (made : MadeTable) → ¬ IsUnderstood sql made
+SaysRowids sql (Some rowids) =
+    ((made : MadeTable) × IsUnderstood sql made) × ((made : MadeTable) → IsUnderstood sql made → rowids ≡ not made.without_rowid)
 
 -- it is said whether page p begins a tree of a table, or one of an index
 abbrev pub KindTells : Database → (p : ℕ) → (said : Option Bool) → Type 0
@@ -69,7 +70,7 @@ KindTells d p (Some table) = IsRootOf d table p
 
 -- an item is a table whose text isn't understood
 abbrev pub IsUnread : Item → Type 0
-IsUnread x = (is_table x ≡ true) × ((def : CreateTable) → ¬ IsUnderstood x.sql def)
+IsUnread x = (is_table x ≡ true) × ((made : MadeTable) → ¬ IsUnderstood x.sql made)
 
 -- it is said whether a tree is one for an item, and whether that is known by its text
 abbrev pub Fits : Item → (table : Bool) → (said : Option Bool) → Type 0

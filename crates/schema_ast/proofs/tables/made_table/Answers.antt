@@ -23,4 +23,4 @@ returns-clause-only c t k =
     let head : c.in-Some.field-0.table.head ≡ k.head = cc in
     let clauses : c.deref-2.result.now ≡ k.clauses = cc in
     ap Some (one_table c.args.bytes.now c.text_of.result.now c.in_ok-made.made t c.deref.result.now c.in-Some.field-0.table.head c.deref-2.result.now k
-    c.text_of.ensures tokens head clauses c.in_ok-made.ensures.without_rowid c.in_ok-made.ensures.computed c.in_ok-made.ensures.clear c.in_ok-made.ensures.def)
+    c.text_of.ensures tokens head clauses c.in_ok-made.ensures.without_rowid c.in_ok-made.ensures.computed c.in_ok-made.ensures.bound c.in_ok-made.ensures.clear c.in_ok-made.ensures.def)

@@ -1,0 +1,2 @@
+-- What no public clause reaches.
+pub mod Reading
