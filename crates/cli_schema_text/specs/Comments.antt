@@ -35,6 +35,10 @@ why_text NotSpaced = codes "a line that sqlite3's shell reads otherwise"
 abbrev pub unnamed_text : (name : List ℕ) → List ℕ
 unnamed_text name = left_out_text (codes "NUL or CR in its name") name
 
+-- the rows of a table of this name, of which no column is known
+abbrev pub unread_text : (name : List ℕ) → List ℕ
+unread_text name = left_out_text (codes "the rows of a table whose columns aren't known") name
+
 -- how many texts and tables a script leaves out; nothing if it has all
 abbrev pub count_text : ℕ → List ℕ
 count_text n = if n == 0 then [] else codes "-- texts and tables left out: " ++ (decimal n ++ codes "\n")

@@ -3,7 +3,7 @@ ghost use Rattle.std.specs.Prelude.{◌≡◌, OnOk, map};
 ghost use Rattle.std.specs.Io.KnownBytes.{Appends};
 ghost use Rattle.std.specs.List.{flat_map};
 ghost use Rattle.cli_schema_text.specs.Comments.{count_text, hex_line, left_out_text, left_text};
-ghost use Rattle.cli_schema_text.specs.Comments.{stray_text, unnamed_text, why_text};
+ghost use Rattle.cli_schema_text.specs.Comments.{stray_text, unnamed_text, unread_text, why_text};
 
 use cli_text::write_hex;
 use schema_print::Why;
@@ -53,6 +53,14 @@ pub fn write_unnamed<W: Write>(out: &mut W, name: &[u8]) -> io::Result<()>
     ensures { OnOk result (Appends (W.contents out.old) (W.contents out.new) (unnamed_text name.now)) }
 {
     write_left_out(out, b"NUL or CR in its name", name)
+}
+
+/// A comment of one line for the rows of a table whose columns aren't known, with the bytes of its name in hex. An
+/// error of the writer.
+pub fn write_unread<W: Write>(out: &mut W, name: &[u8]) -> io::Result<()>
+    ensures { OnOk result (Appends (W.contents out.old) (W.contents out.new) (unread_text name.now)) }
+{
+    write_left_out(out, b"the rows of a table whose columns aren't known", name)
 }
 
 /// A comment of one line for a row of the schema that describes no object, with the bytes of its text.

@@ -12,12 +12,13 @@ use Rattle.sqdeep.specs.declared.text.Encoding.TheVariants.{Utf8, Utf16Le, Utf16
 use Rattle.sqdeep.specs.Records.{encoding_of}
 use Rattle.sqtext.specs.Texts.{IsStoredAs}
 use Rattle.sqtables.specs.declared.columns.Columns.{Columns}
+use Rattle.sqtables.specs.Named.{AreColumns}
 use Rattle.cli_row_text.specs.declared.form.Form.{Form}
 use Rattle.cli_row_text.specs.declared.form.Notation.{Notation}
 use Rattle.cli_row_text.specs.declared.form.Notation.TheVariants.{Json, Csv, Sql}
 use Rattle.cli_row_text.specs.Headings.{heading_text}
 use Rattle.cli_row_text.specs.Lines.{form_of}
-use Rattle.cli_schema_text.specs.Comments.{left_text, unnamed_text}
+use Rattle.cli_schema_text.specs.Comments.{left_text, unnamed_text, unread_text}
 use Rattle.cli_schema_text.specs.Keys.{CountsKeys}
 use Rattle.cli_schema_text.specs.Names.{can_be_named, column_names, fallback_text}
 use Rattle.cli_schema_text.specs.Texts.{IsJudged, IsTextPrinted, is_left_out, printed_text, schema_row_text}
@@ -27,7 +28,7 @@ use Rattle.cli_show_rows.specs.declared.dump.Turn.{Turn}
 use Rattle.cli_show_rows.specs.declared.dump.Turn.TheVariants.{Tables, Sequence, Indexes, Statistics, Others, Virtual}
 use Rattle.cli_show_rows.specs.Schemas.{AreColumnsIn, HasObjectsRead}
 use Rattle.cli_show_rows.specs.Strays.{HasStrays}
-use Rattle.cli_show_rows.specs.Tables.{IsHeadedPrinted, is_named_in}
+use Rattle.cli_show_rows.specs.Tables.{IsHeadedPrinted, are_unnamed, is_named_in}
 
 -- a name that SQLite keeps for its own tables (fileformat2, 2.6.2)
 abbrev pub is_internal : (name : List ℕ) → Bool
@@ -134,11 +135,27 @@ IsVirtualIn Json encoding o t = t ≡ []
 IsVirtualIn Csv encoding o t = t ≡ []
 IsVirtualIn Sql encoding o t = IsVirtualText encoding o t
 
--- The rows of a table were printed behind its heading and what makes it; or what stands for it, if no statement can name it.
+-- Whether no column of a table is known.
+abbrev pub IsUnread : Object → Bool → Type 0
+IsUnread o unread = (columns : Columns) × AreColumns o.sql.items columns × (unread ≡ are_unnamed columns)
+
+-- It is asked for a script alone, whose statements name columns.
+abbrev pub IsUnreadIn : Notation → Object → Bool → Type 0
+IsUnreadIn Json o unread = unread ≡ false
+IsUnreadIn Csv o unread = unread ≡ false
+IsUnreadIn Sql o unread = IsUnread o unread
+
+-- The rows of a table were printed behind its heading; or a comment in a script, if no column is known.
+abbrev pub AreRowsPrinted : Database → Form → Object → (before after : Option (List ℕ)) → Type 0
+AreRowsPrinted d form o before after =
+    (unread : Bool) × IsUnreadIn form.notation o unread
+    × MatchBool unread (Appends before after (unread_text o.name.items)) (IsHeadedPrinted d o form before after)
+
+-- The rows of a table were printed behind what makes it; or what stands for it, if no statement can name it.
 abbrev pub IsMadePrinted : Database → Form → (made : Bool) → Object → (before after : Option (List ℕ)) → Type 0
 IsMadePrinted d form made o before after =
     (mid : Option (List ℕ)) × IsMadeWritten form made o before mid
-    × MatchBool (is_named_in form.notation o.name.items) (IsHeadedPrinted d o form mid after) (mid ≡ after)
+    × MatchBool (is_named_in form.notation o.name.items) (AreRowsPrinted d form o mid after) (mid ≡ after)
 
 -- An object was printed.
 abbrev pub IsObjectPrinted : Database → Form → Turn → Object → (before after : Option (List ℕ)) → Type 0
@@ -236,7 +253,9 @@ AreObjectsPrinted d form counting objects before after =
 -- Whether a script leaves out an object, or its text, that is judged so.
 abbrev pub LeavesOut : Object → Printed → Bool → Type 0
 LeavesOut o p left =
-    (IsTable o × (left ≡ (not (can_be_named o.name.items) || (not (is_internal o.name.items) && is_left_out p))))
+    (IsTable o
+    × ((unread : Bool) × IsUnread o unread
+    × (left ≡ ((not (can_be_named o.name.items) || (not (is_internal o.name.items) && is_left_out p)) || unread))))
     ⊎ (IsVirtual o × (left ≡ not (is_row p))) ⊎ ((¬ IsTable o) × (¬ IsVirtual o) × (left ≡ is_left_out p))
 
 abbrev pub IsLeftOut : Object → Bool → Type 0

@@ -23,7 +23,7 @@ use Rattle.cli_show_rows.specs.declared.dump.Turn.{Turn}
 use Rattle.cli_show_rows.specs.declared.dump.Turn.TheVariants.{Tables, Sequence, Indexes, Statistics, Others, Virtual}
 use Rattle.cli_show_rows.specs.Schemas.{AreColumnsIn, HasObjectsRead}
 use Rattle.cli_show_rows.specs.Tables.{IsInsert, IsNameFor, are_unnamed, is_named_in, leads_in}
-use Rattle.cli_show_rows.specs.Dumps.{AreAllPrinted, AreCounting, AreRowsCommitted, AreTurnsTaken, IsInTurn, IsMadeWritten}
+use Rattle.cli_show_rows.specs.Dumps.{AreAllPrinted, AreCounting, AreRowsCommitted, AreTurnsTaken, IsInTurn, IsMadeWritten, IsUnreadIn}
 use Rattle.cli_show_rows.specs.Dumps.{first_text, form_in, left_text_in, settings_text}
 
 -- This text was written and no more, unless it was the writer that failed.
@@ -121,11 +121,16 @@ IsNamedStopped d name notation stop before after =
     × Appends before begun (settings_text notation) × IsHeadedStopped d table (form_in d notation) stop begun mid × IsStopTold notation mid after)
     ⊎ IsWriteError stop
 
+-- The printing of the rows of a table stopped, whose columns are known or need not be.
+abbrev pub AreRowsStopped : Database → Form → Object → Stop → (before after : Option (List ℕ)) → Type 0
+AreRowsStopped d form o stop before after =
+    IsUnheaded stop before after ⊎ (IsUnreadIn form.notation o false × IsHeadedStopped d o form stop before after)
+
 -- The printing of a table stopped behind what makes it, or before.
 abbrev pub IsMadeStopped : Database → Form → (made : Bool) → Object → Stop → (before after : Option (List ℕ)) → Type 0
 IsMadeStopped d form made o stop before after =
     IsUnheaded stop before after
-    ⊎ ((mid : Option (List ℕ)) × IsMadeWritten form made o before mid × (is_named_in form.notation o.name.items ≡ true) × IsHeadedStopped d o form stop mid after)
+    ⊎ ((mid : Option (List ℕ)) × IsMadeWritten form made o before mid × (is_named_in form.notation o.name.items ≡ true) × AreRowsStopped d form o stop mid after)
 
 -- The printing of an object stopped.
 abbrev pub IsObjectStopped : Database → Form → Turn → Object → Stop → (before after : Option (List ℕ)) → Type 0

@@ -3,14 +3,15 @@ ghost use Rattle.std.specs.Prelude.{◌≡◌, ℕ, List, IfErr, IsTrue, OnOk, f
 ghost use Rattle.std.specs.Io.KnownBytes.{Appends};
 ghost use Rattle.sqpage.specs.Source.{KeepsPages};
 ghost use Rattle.sqtables.specs.Objects.{IsTable};
-ghost use Rattle.cli_show_rows.specs.Dumps.{AreLatePrinted, AreObjectsPrinted, AreRowsCommitted, AreTablesPrinted};
+ghost use Rattle.cli_show_rows.specs.Dumps.{AreLatePrinted, AreObjectsPrinted, AreRowsCommitted, AreRowsPrinted};
+ghost use Rattle.cli_show_rows.specs.Dumps.{AreTablesPrinted};
 ghost use Rattle.cli_show_rows.specs.Dumps.{AreTurnsTaken, IsInTurn, IsIndex, IsMadePrinted, IsMadeWritten};
 ghost use Rattle.cli_show_rows.specs.Dumps.{IsNamedPrinted, IsObjectPrinted, IsOtherText, IsTurnTaken, IsVirtualIn};
 ghost use Rattle.cli_show_rows.specs.Dumps.{encoding_text, first_text, is_internal as is_kept, last_text, left_text_in};
 ghost use Rattle.cli_show_rows.specs.Dumps.{is_sequence as is_counter, settings, settings_text, start_text, title_text};
 ghost use Rattle.cli_show_rows.specs.declared.dump.Turn.{Turn};
-ghost use Rattle.cli_show_rows.specs.Stops.{AreLateStopped, AreObjectsStopped, AreTablesStopped, IsMadeStopped};
-ghost use Rattle.cli_show_rows.specs.Stops.{IsNamedStopped};
+ghost use Rattle.cli_show_rows.specs.Stops.{AreLateStopped, AreObjectsStopped, AreRowsStopped, AreTablesStopped};
+ghost use Rattle.cli_show_rows.specs.Stops.{IsMadeStopped, IsNamedStopped};
 ghost use Rattle.cli_show_rows.specs.Stops.{IsEnded, IsObjectStopped, IsStopTold, IsTurnStopped, IsUnheaded};
 ghost use Rattle.cli_show_rows.specs.internal.Stopping.{IsCounted};
 ghost use Rattle.cli_show_rows.specs.Strays.{bytes_of};
@@ -20,11 +21,11 @@ use crate::stop::{Stop, stopped_script};
 use crate::table::is_named_in;
 use crate::tables::print_headed;
 use crate::texts::{
-    counting_in, is_internal, is_sequence, is_users, is_virtual, left_out_in, print_making,
-    print_statement, print_virtual_text,
+    counting_in, is_internal, is_sequence, is_unread_in, is_users, is_virtual, left_out_in,
+    print_making, print_statement, print_virtual_text,
 };
 use cli_row_text::{Form, Notation, write_heading};
-use cli_schema_text::write_left;
+use cli_schema_text::{write_left, write_unread};
 use sqdeep::Encoding;
 use sqpage::PageSource;
 use sqtables::{Object, table_named};
@@ -189,6 +190,32 @@ fn write_last<W: Write>(out: &mut W, notation: Notation) -> io::Result<()>
     }
 }
 
+/// Prints the rows of a table behind its heading; in SQL a comment if no column is known.
+fn print_rows_of<S: PageSource, W: Write>(
+    alloc: Global,
+    source: &mut S,
+    table: &Object,
+    form: Form,
+    out: &mut W,
+) -> Result<(), Stop>
+    ensures ok { S.gives_pages source.old → OnOk result (AreRowsPrinted (S.pages source.old) form table.now
+        (W.contents out.old) (W.contents out.new)) }
+    ensures err { S.gives_pages source.old → IfErr result (λ stop. AreRowsStopped (S.pages source.old) form
+        table.now stop (W.contents out.old) (W.contents out.new)) }
+    ensures keeps { KeepsPages S.pages S.size S.reads_right S.gives_pages source.old source.new }
+{
+    let Ok(unread) = is_unread_in(alloc, form.notation, table) else {
+        return Err(Stop::NoMemory);
+    };
+    if !unread {
+        return print_headed(alloc, source, table, form, out);
+    }
+    match write_unread(out, table.name.as_slice()) {
+        Ok(()) => Ok(()),
+        Err(error) => Err(Stop::Write(error)),
+    }
+}
+
 /// Prints a table, in SQL behind what makes it, if it is to be made.
 fn print_made<S: PageSource, W: Write>(
     alloc: Global,
@@ -211,7 +238,7 @@ fn print_made<S: PageSource, W: Write>(
     if !is_named_in(form.notation, table.name.as_slice()) {
         return Ok(());
     }
-    print_headed(alloc, source, table, form, out)
+    print_rows_of(alloc, source, table, form, out)
 }
 
 /// Prints an object that isn't a table.

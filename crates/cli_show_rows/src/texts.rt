@@ -8,7 +8,7 @@ ghost use Rattle.cli_schema_text.specs.Texts.{IsJudged, printed_text};
 ghost use Rattle.cli_show_rows.specs.Dumps.{HasLeftOut, IsLeftOut, IsMakingPrinted, IsSchemaRow, IsStatementPrinted};
 ghost use Rattle.cli_show_rows.specs.Dumps.{IsTableText, IsUnnamedText, IsVirtual, IsVirtualText, LeavesOutIn};
 ghost use Rattle.cli_show_rows.specs.Dumps.{AreCounting, IsCounting, IsUsers, internal_text, is_internal as is_kept};
-ghost use Rattle.cli_show_rows.specs.Dumps.{is_row, is_sequence as is_counter};
+ghost use Rattle.cli_show_rows.specs.Dumps.{IsUnread, IsUnreadIn, is_row, is_sequence as is_counter};
 ghost use Rattle.cli_show_rows.specs.Stops.{IsUnheaded};
 
 use crate::columns::known_columns;
@@ -20,7 +20,7 @@ use cli_schema_text::{
 };
 use schema_print::Printed;
 use sqdeep::Encoding;
-use sqtables::Object;
+use sqtables::{Object, columns_of};
 use sqtext::encoded;
 use std::alloc::{AllocError, Global};
 use std::io::{self, Write};
@@ -238,6 +238,30 @@ pub fn print_virtual_text<W: Write>(
     }
 }
 
+/// Whether no column of a table is known.
+fn is_unread(alloc: Global, table: &Object) -> Result<bool, AllocError>
+    ensures { IfOk result (IsUnread table.now) }
+{
+    match columns_of(alloc, &table.sql) {
+        Ok(columns) => Ok(columns.names.is_empty()),
+        Err(_) => Err(AllocError),
+    }
+}
+
+/// The same, asked for a script alone.
+pub(crate) fn is_unread_in(
+    alloc: Global,
+    notation: Notation,
+    table: &Object,
+) -> Result<bool, AllocError>
+    ensures { IfOk result (IsUnreadIn notation table.now) }
+{
+    match notation {
+        Notation::Json | Notation::Csv => Ok(false),
+        Notation::Sql => is_unread(alloc, table),
+    }
+}
+
 /// Whether a script leaves out an object, or its text.
 fn leaves_out(alloc: Global, object: &Object) -> Result<bool, AllocError>
     ensures { IfOk result (IsLeftOut object.now) }
@@ -246,7 +270,8 @@ fn leaves_out(alloc: Global, object: &Object) -> Result<bool, AllocError>
     let commented = is_left_out(&printed);
     let name = object.name.as_slice();
     if object.is_table() {
-        return Ok(!can_be_named(name) || (!is_internal(name) && commented));
+        let unread = is_unread(alloc, object)?;
+        return Ok(!can_be_named(name) || (!is_internal(name) && commented) || unread);
     }
     if is_virtual(object) {
         return Ok(!is_row(&printed));
@@ -254,9 +279,9 @@ fn leaves_out(alloc: Global, object: &Object) -> Result<bool, AllocError>
     Ok(commented)
 }
 
-/// How many of these objects a script leaves out, or their texts: tables that no statement can name, tables without a
-/// root whose text creates no virtual table of a known module, and texts that a comment replaces. Takes time linear in
-/// the texts.
+/// How many of these objects a script leaves out, or their texts: tables that no statement can name, or whose columns
+/// aren't known, tables without a root whose text creates no virtual table of a known module, and texts that a comment
+/// replaces. Takes time linear in the texts.
 pub fn left_out(alloc: Global, objects: &[Object]) -> Result<usize, AllocError>
     ensures counted { IfOk result (HasLeftOut objects.now) }
     ensures few { IfOk result (λ count. count ≤ length objects.now) }
