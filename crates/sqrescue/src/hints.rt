@@ -13,7 +13,7 @@ const IN_PAGES: &str =
 
 /// What to do where the first page doesn't begin as that of a database.
 const AT_HEADER: &str =
-    "salvage --to takes out the rows; where no log counts, of a copy with its first 18 bytes put right (GUIDE.md)";
+    "salvage --to takes out the rows; where no log counts, of a copy with its first 18 bytes put right (3-evidence.md)";
 
 /// What to do where a script or changes came to damage; none of other requests, whose finding tells more of it.
 pub(crate) fn step_after_damage(request: &Request<'_>) -> Option<&'static str> {
