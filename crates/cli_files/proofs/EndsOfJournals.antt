@@ -7,7 +7,9 @@ use Rattle.sqview.specs.Laid.{part_or_zeros}
 use Rattle.sqview.proofs.file.FileHeads.{part_is}
 use Rattle.fmt_super.specs.Supers.{IsEndOf, IsSuperPath}
 use Rattle.cli_words.specs.declared.requests.SuperJournal.{SuperJournal}
-use Rattle.cli_files.specs.Supers.{IsAbsolute, IsFoundAs, LooksFor}
+use Rattle.cli_words.specs.declared.requests.SuperJournal.TheVariants.{Gone}
+use Rattle.cli_files.specs.Supers.{FindsNone, IsAnswered, LooksFor}
+use Rattle.cli_files.specs.Systems.{Answered}
 
 pub end_read : (b end : List ℕ) (n at : ℕ) → n ≤ length b → (n ≡ length b) ⊎ (528 ≤ n) → at ≡ length b - n → end ≡ part_or_zeros n at b → IsEndOf b end
 end_read b end n at within enough at_is read =
@@ -26,10 +28,16 @@ pub end_filled : {T E : Type 0} (answer : Result T E) (b end : List ℕ) (n at :
 end_filled (Ok _) b end n at within enough at_is read = end_read b end n at within enough at_is read
 end_filled (Err _) b end n at within enough at_is read = tt
 
-pub looks : {E : Type 0} (answer : Result SuperJournal E) (b path : List ℕ) → IsSuperPath b path → IfOk answer (λ answer. IsAbsolute path × IsFoundAs answer)
-    → IfOk answer (LooksFor b)
-looks (Ok answer) b path named found = inr (path, named, found.0, found.1)
-looks (Err _) b path named found = tt
+pub looks : {E : Type 0} (answered : Answered) (answer : Result SuperJournal E) (b path : List ℕ) → IsSuperPath b path
+    → IfOk answer (IsAnswered answered path) → IfOk answer (LooksFor answered b)
+looks answered (Ok answer) b path named found = inr (path, named, found)
+looks answered (Err _) b path named found = tt
+
+-- where the answer is that it is gone, none was found
+pub finds_none : {E : Type 0} (answered : Answered) (answer : Result SuperJournal E) (path : List ℕ)
+    → IfOk answer (IsAnswered answered path) → IfOk answer (λ a. a ≡ Gone → FindsNone answered)
+finds_none answered (Ok answer) path found = λ gone. (path, subst (IsAnswered answered path) gone found)
+finds_none answered (Err _) path found = tt
 
 -- the last bytes of a journal that are read for its name
 pub end_within : (b end : List ℕ) (n len : ℕ) → length end ≡ n → n ≡ min len 528 → len ≡ length b → length end ≤ length b

@@ -9,15 +9,16 @@ use Rattle.cli_words.specs.declared.requests.SuperJournal.{SuperJournal}
 use Rattle.cli_words.specs.declared.requests.SuperJournal.TheVariants.{Gone, Look}
 use Rattle.cli_files.specs.Files.{IsMissing, opened_bytes}
 use Rattle.cli_files.specs.Journals.{IsLeftOf, MayBeGone, NamesSuperJournal}
-use Rattle.cli_files.specs.Supers.{IsDecided}
+use Rattle.cli_files.specs.Supers.{FindsNone, IsDecided}
+use Rattle.cli_files.specs.Systems.{Answered}
 use Rattle.cli_files.specs.declared.opened_file.OpenedFile.{OpenedFile}
 use Rattle.cli_files.specs.declared.place.Place.{Place}
 
-pub left_of : {F : Type 0} (said decided : Option SuperJournal) (bytes : List ℕ) (opened left : OpenedFile F) (names out : Bool)
-    → (IsTrue names ↔ (IsHot bytes × NamesSuperJournal bytes)) → IsDecided said names bytes decided
+pub left_of : {F : Type 0} (answered : Answered) (said decided : Option SuperJournal) (bytes : List ℕ) (opened left : OpenedFile F) (names out : Bool)
+    → (IsTrue names ↔ (IsHot bytes × NamesSuperJournal bytes)) → IsDecided answered said names bytes decided
     → (IsTrue out ↔ (IsTrue names × (decided ≡ Some Gone)))
-    → (IsTrue out → IsMissing left) → (out ≡ false → left ≡ opened) → IsLeftOf said bytes opened left
-left_of said decided bytes opened left names true named decides force gone stays = record {
+    → (IsTrue out → IsMissing left) → (out ≡ false → left ≡ opened) → IsLeftOf answered said bytes opened left
+left_of answered said decided bytes opened left names true named decides force gone stays = record {
   decided = decided;
   names = names;
   marked = named;
@@ -25,7 +26,7 @@ left_of said decided bytes opened left names true named decides force gone stays
   out = λ is. gone refl;
   counts = λ no. absurd (let why = force.0 refl in let marks = named.0 why.0 in no (marks.0, marks.1, why.1));
 }
-left_of said decided bytes opened left names false named decides force gone stays = record {
+left_of answered said decided bytes opened left names false named decides force gone stays = record {
   decided = decided;
   names = names;
   marked = named;
@@ -40,8 +41,8 @@ not_hot b none hot =
     let long : 0 ≡ 8 = ap length begins in omega (arith, long)
 
 -- a missing one is left as it is
-pub left_missing : {F : Type 0} (bytes : F → List ℕ) (said : Option SuperJournal) (file : OpenedFile F) → IsMissing file → IsLeftOf said (opened_bytes bytes file) file file
-left_missing {F} bytes said file missing =
+pub left_missing : {F : Type 0} (bytes : F → List ℕ) (answered : Answered) (said : Option SuperJournal) (file : OpenedFile F) → IsMissing file → IsLeftOf answered said (opened_bytes bytes file) file file
+left_missing {F} bytes answered said file missing =
     let none : opened_bytes bytes file ≡ [] = ap (λ (f : Option (F × Bor Place)). option_map_or (λ (o : F × Bor Place). bytes o.0) f []) missing.0 in record {
       decided = said;
       names = false;
@@ -52,6 +53,7 @@ left_missing {F} bytes said file missing =
     }
 
 -- a journal is let go only if its super-journal may be gone
-pub may_be_gone : (said decided : Option SuperJournal) → (decided ≡ said) ⊎ (said ≡ Some Look) → decided ≡ Some Gone → MayBeGone said
-may_be_gone said decided (inl stays) gone = inl (sym stays ∙ gone)
-may_be_gone said decided (inr looks) gone = inr looks
+pub may_be_gone : (answered : Answered) (said decided : Option SuperJournal)
+    → (decided ≡ said) ⊎ ((said ≡ Some Look) × (decided ≡ Some Gone → FindsNone answered)) → decided ≡ Some Gone → MayBeGone answered said
+may_be_gone answered said decided (inl stays) gone = inl (sym stays ∙ gone)
+may_be_gone answered said decided (inr looks) gone = inr (looks.0, looks.1 gone)

@@ -4,5 +4,6 @@ pub mod NewFiles
 pub mod Notes
 pub mod Refusals
 pub mod Supers
+pub mod Systems
 pub mod Watches
 pub mod internal

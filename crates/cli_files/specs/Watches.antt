@@ -6,7 +6,10 @@ use Rattle.cli_facts.specs.Fronts.{HasSalts}
 use Rattle.cli_facts.specs.declared.fronts.Front.{Front}
 use Rattle.cli_facts.specs.declared.readings.Reading.{Reading}
 use Rattle.cli_facts.specs.declared.readings.Readings.{Readings}
+use Rattle.cli_files.specs.Files.{path_of}
+use Rattle.cli_files.specs.Systems.{Answered, ReportsAt}
 use Rattle.cli_files.specs.declared.fronts.FrameHead.{FrameHead}
+use Rattle.cli_files.specs.declared.paths.Paths.{Paths}
 
 -- where the file is there, its bytes were read
 abbrev pub IsRead : Option Reading → Type 0
@@ -15,6 +18,11 @@ IsRead reading = IfSome reading (λ r. IsSome r.front)
 -- those of both logs, and unless only the logs are read, those of the database file
 abbrev pub AreRead : (only_logs : Bool) → Readings → Type 0
 AreRead only_logs readings = (only_logs ≡ false → IsRead readings.db) × IsRead readings.wal × IsRead readings.journal
+
+-- the system reported these readings of a database's files
+abbrev pub AreReported : Answered → Paths → Readings → Type 0
+AreReported answered paths readings = ReportsAt answered (path_of paths.db) readings.db × ReportsAt answered (path_of paths.wal) readings.wal
+    × ReportsAt answered (path_of paths.journal) readings.journal
 
 -- the header of a log, where it was there and was read
 abbrev pub header_of : Option Reading → Option (List ℕ)

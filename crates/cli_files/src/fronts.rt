@@ -8,6 +8,7 @@ ghost use Rattle.cli_files.specs.Watches.{AreRead, FrontStands, header_of, place
 
 use crate::hints::told;
 use crate::paths::{Paths, is_missing};
+use crate::system_paths::SystemPaths;
 use crate::watch::readings_of;
 use cli_facts::{
     Front, Notes, Reading, Readings, Refusal, SystemFile, read_or_zeros, standing, unchanged,
@@ -93,7 +94,7 @@ pub struct Seen {
 /// FileChanged where files aren't as they were before, or the frames up to this front don't stand any more. Where only
 /// the logs are read, the database file needn't be readable; what couldn't be read before isn't as it was. What was
 /// looked at of them.
-pub fn as_before<R: Files, E: Write>(
+pub fn as_before<R: SystemPaths, E: Write>(
     rt: &R,
     paths: &Paths,
     before: &Readings,

@@ -14,6 +14,7 @@ mod paths;
 mod place;
 mod progress;
 mod supers;
+mod system_paths;
 mod watch;
 
 pub use fronts::{FrameHead, Seen, as_before};
@@ -29,4 +30,5 @@ pub use opened_file::OpenedFile;
 pub use paths::{Paths, folder_identity, folder_of, is_log_of, look_at, paths_of, tell_lock};
 pub use place::Place;
 pub use progress::{Count, Progress};
+pub use system_paths::SystemPaths;
 pub use watch::{readings_of, time_to_wait};

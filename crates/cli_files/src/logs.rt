@@ -24,6 +24,7 @@ use crate::opened_file::OpenedFile;
 use crate::paths::{Paths, are_apart, is_missing, look_at};
 use crate::place::Place;
 use crate::supers::is_ignored;
+use crate::system_paths::SystemPaths;
 use cli_facts::{Notes, Refusal, SystemFile, identity_of};
 use cli_words::SuperJournal;
 use sqpage::SourceError;
@@ -301,7 +302,7 @@ fn tell_doubts<F: SystemFile, E: Write>(
 }
 
 /// Says what is to be noted of opened logs. A hot journal that is out of force is let go.
-fn judge_logs<R: Files, F: SystemFile + Drop, E: Write>(
+fn judge_logs<R: SystemPaths, F: SystemFile + Drop, E: Write>(
     rt: &R,
     logs: &mut Beside<'_, F>,
     paths: &Paths,
@@ -311,9 +312,9 @@ fn judge_logs<R: Files, F: SystemFile + Drop, E: Write>(
     ensures found { logs.new.found ≡ logs.old.found }
     ensures left_out { logs.new.are_left_out ≡ logs.old.are_left_out }
     ensures wal { logs.new.wal ≡ logs.old.wal }
-    ensures journal { (MayBeGone super_journal × IsMissing logs.new.journal)
+    ensures journal { (MayBeGone R.answered super_journal × IsMissing logs.new.journal)
         ⊎ (logs.new.journal ≡ logs.old.journal) }
-    ensures left { IsSteady F.bytes F.keeps_word logs.old.journal → OnOk result (IsLeftOf super_journal
+    ensures left { IsSteady F.bytes F.keeps_word logs.old.journal → OnOk result (IsLeftOf R.answered super_journal
         (opened_bytes F.bytes logs.old.journal) logs.old.journal logs.new.journal) }
 {
     let has_journal = logs.journal.len() != 0;
@@ -340,7 +341,7 @@ fn judge_logs<R: Files, F: SystemFile + Drop, E: Write>(
 /// bytes at least, and writes their notes, for the database at this commit frame. A hot journal that is out of force is
 /// treated as missing. So is any at 0 without a write-ahead log: the file alone is the database, whatever a writer does
 /// to its journal.
-pub fn open_logs<'a, R: Files, E: Write>(
+pub fn open_logs<'a, R: SystemPaths, E: Write>(
     rt: &R,
     paths: &'a Paths,
     super_journal: Option<SuperJournal>,
@@ -351,10 +352,11 @@ where
     R::File: SystemFile,
     ensures regular { IfOk result (λ logs. AreRegular logs.found) }
     ensures wal { IfOk result (λ logs. IsOpenedOf logs.wal paths.entry.now.wal 1 logs.found.wal) }
-    ensures journal { IfOk result (λ logs. (MayBeGone super_journal × IsMissing logs.journal)
+    ensures journal { IfOk result (λ logs. (MayBeGone R.answered super_journal × IsMissing logs.journal)
         ⊎ IsOpenedOf logs.journal paths.entry.now.journal 28 logs.found.journal) }
-    ensures left { IfOk result (λ logs. LeavesJournal R.File.bytes R.File.keeps_word super_journal
-        paths.entry.now.journal logs.found.journal logs.journal) }
+    ensures left { IfOk result (λ logs. LeavesJournal (opened_bytes R.File.bytes)
+        (IsSteady R.File.bytes R.File.keeps_word) R.answered super_journal paths.entry.now.journal
+        logs.found.journal logs.journal) }
     ensures left_out { IfOk result (λ logs. (IsTrue logs.are_left_out ↔ at ≡ Some 0)
         × (at ≡ Some 0 → IsMissing logs.wal → IsMissing logs.journal)) }
     ensures refused { IfErr result IsFromSystem }

@@ -1,27 +1,32 @@
 //! Whether the super-journal that a hot journal names exists.
 ghost use Rattle.std.specs.Prelude.{◌≡◌, ◌⊎◌, ◌↔◌, ◌≤◌, IfOk, IsTrue, OnOk, Option, Some, length};
+ghost use Rattle.std.specs.IoError.{error_kind};
 ghost use Rattle.std.specs.Fs.{metadata_len, file_type, IsFile};
 ghost use Rattle.fmt_super.specs.Supers.{IsEndOf};
 ghost use Rattle.cli_files.specs.Files.{IsSteady, opened_bytes};
 ghost use Rattle.cli_words.specs.declared.requests.SuperJournal.{SuperJournal};
 ghost use Rattle.cli_words.specs.declared.requests.SuperJournal.TheVariants.{Gone, Look};
 ghost use Rattle.cli_files.specs.Journals.{MayBeGone};
-ghost use Rattle.cli_files.specs.Supers.{IsAbsolute, IsDecided, IsFoundAs, IsThere, LooksFor};
+ghost use Rattle.cli_files.specs.Supers.{FindsNone, IsAbsolute, IsAnswered, IsDecided, IsFoundAs};
+ghost use Rattle.cli_files.specs.Supers.{IsThere, LooksFor};
+ghost use Rattle.cli_files.specs.Systems.{FindsAt, LeadsNowhere};
 
 use crate::journals::{is_out_of_force, tell_super_journal};
 use crate::opened_file::OpenedFile;
+use crate::system_paths::SystemPaths;
 use cli_facts::{Notes, Quoted, SystemFile};
 use cli_words::SuperJournal;
 use fmt_super::{END, super_path};
 use sqpage::SourceError;
 use sqview::FileBytes;
-use std::fs::{self, Metadata};
+use std::fs::Metadata;
 use std::io::{self, ErrorKind, Write};
-use std::rt::Files;
 use std::str;
 
 /// Whether the system says that a path leads to nothing.
-fn is_nothing(error: &io::Error) -> bool {
+fn is_nothing(error: &io::Error) -> bool
+    ensures { IsTrue result ↔ LeadsNowhere (error_kind error.now) }
+{
     matches!(
         error.kind(),
         ErrorKind::NotFound
@@ -33,9 +38,11 @@ fn is_nothing(error: &io::Error) -> bool {
 
 /// What the system says of the file that a path leads to, also through symbolic links. None: it leads to nothing. A
 /// call that a signal ends is repeated.
-fn found_at<R: Files>(rt: &R, path: &str) -> io::Result<Option<Metadata>> {
+fn found_at<R: SystemPaths>(rt: &R, path: &str) -> io::Result<Option<Metadata>>
+    ensures { IfOk result (FindsAt R.answered path.now) }
+{
     for _ in 0..u64::MAX {
-        match fs::metadata(rt, path) {
+        match rt.ask(path) {
             Ok(found) => return Ok(Some(found)),
             Err(error) if error.kind() == ErrorKind::Interrupted => {}
             Err(error) if is_nothing(&error) => return Ok(None),
@@ -64,7 +71,7 @@ fn is_there(found: &Option<Metadata>) -> bool
 
 /// Whether a super-journal exists of which this was found.
 fn answer_of(found: &Option<Metadata>) -> SuperJournal
-    ensures { IsFoundAs result }
+    ensures { IsFoundAs found.now result }
 {
     if is_there(found) {
         SuperJournal::Present
@@ -96,12 +103,12 @@ fn tell_found<E: Write>(notes: &Notes<'_, E>, path: &str, found: &Option<Metadat
 }
 
 /// Whether the super-journal of this path exists. Refused if the path is relative, or can't be looked at.
-fn sought<R: Files, E: Write>(
+fn sought<R: SystemPaths, E: Write>(
     rt: &R,
     path: &str,
     notes: &mut Notes<'_, E>,
 ) -> Result<SuperJournal, SourceError>
-    ensures { IfOk result (λ answer. IsAbsolute path.now × IsFoundAs answer) }
+    ensures { IfOk result (IsAnswered R.answered path.now) }
 {
     if !is_absolute(path) {
         let quoted = Quoted(path);
@@ -123,12 +130,12 @@ fn sought<R: Files, E: Write>(
 }
 
 /// The same of a path of bytes. Refused also if it isn't UTF-8.
-fn sought_bytes<R: Files, E: Write>(
+fn sought_bytes<R: SystemPaths, E: Write>(
     rt: &R,
     path: &[u8],
     notes: &mut Notes<'_, E>,
 ) -> Result<SuperJournal, SourceError>
-    ensures { IfOk result (λ answer. IsAbsolute path.now × IsFoundAs answer) }
+    ensures { IfOk result (IsAnswered R.answered path.now) }
 {
     match str::from_utf8(path) {
         Ok(text) => sought(rt, text, notes),
@@ -153,13 +160,14 @@ fn read_end<F: SystemFile>(journal: &OpenedFile<'_, F>, end: &mut [u8]) -> Resul
 }
 
 /// Whether a hot journal's super-journal exists, as for SQLite: one that the journal doesn't name counts as present.
-fn looked<R: Files, F: SystemFile, E: Write>(
+fn looked<R: SystemPaths, F: SystemFile, E: Write>(
     rt: &R,
     journal: &OpenedFile<'_, F>,
     notes: &mut Notes<'_, E>,
 ) -> Result<SuperJournal, SourceError>
-    ensures { IsSteady F.bytes F.keeps_word journal.now
-        → IfOk result (LooksFor (opened_bytes F.bytes journal.now)) }
+    ensures by { IsSteady F.bytes F.keeps_word journal.now
+        → IfOk result (LooksFor R.answered (opened_bytes F.bytes journal.now)) }
+    ensures none { IfOk result (λ answer. answer ≡ Gone → FindsNone R.answered) }
 {
     let mut room = [0u8; END];
     let count = journal.len().min(END as u64) as usize;
@@ -183,7 +191,7 @@ fn is_to_look(said: Option<SuperJournal>) -> bool
 
 /// Whether the super-journal of a journal exists: as it is said, or as the file system says if that is to decide. Says
 /// what was found.
-fn decided<R: Files, F: SystemFile, E: Write>(
+fn decided<R: SystemPaths, F: SystemFile, E: Write>(
     rt: &R,
     journal: &OpenedFile<'_, F>,
     names_super: bool,
@@ -191,8 +199,9 @@ fn decided<R: Files, F: SystemFile, E: Write>(
     notes: &mut Notes<'_, E>,
 ) -> Result<Option<SuperJournal>, SourceError>
     ensures by { IsSteady F.bytes F.keeps_word journal.now
-        → IfOk result (IsDecided said names_super (opened_bytes F.bytes journal.now)) }
-    ensures kept { IfOk result (λ decided. (decided ≡ said) ⊎ (said ≡ Some Look)) }
+        → IfOk result (IsDecided R.answered said names_super (opened_bytes F.bytes journal.now)) }
+    ensures kept { IfOk result (λ decided. (decided ≡ said)
+        ⊎ ((said ≡ Some Look) × (decided ≡ Some Gone → FindsNone R.answered))) }
 {
     if !names_super {
         return Ok(said);
@@ -207,7 +216,7 @@ fn decided<R: Files, F: SystemFile, E: Write>(
 
 /// Whether a journal is ignored, because the super-journal that it names is gone: as it is said, or as the file system
 /// says if that is to decide. Says what was found.
-pub(crate) fn is_ignored<R: Files, F: SystemFile, E: Write>(
+pub(crate) fn is_ignored<R: SystemPaths, F: SystemFile, E: Write>(
     rt: &R,
     journal: &OpenedFile<'_, F>,
     names_super: bool,
@@ -215,9 +224,9 @@ pub(crate) fn is_ignored<R: Files, F: SystemFile, E: Write>(
     notes: &mut Notes<'_, E>,
 ) -> Result<bool, SourceError>
     ensures by { IsSteady F.bytes F.keeps_word journal.now → IfOk result (λ ignored. (decided : Option SuperJournal)
-        × IsDecided said names_super (opened_bytes F.bytes journal.now) decided
+        × IsDecided R.answered said names_super (opened_bytes F.bytes journal.now) decided
         × (IsTrue ignored ↔ (IsTrue names_super × (decided ≡ Some Gone)))) }
-    ensures may { IfOk result (λ ignored. IsTrue ignored → MayBeGone said) }
+    ensures may { IfOk result (λ ignored. IsTrue ignored → MayBeGone R.answered said) }
 {
     let decided = decided(rt, journal, names_super, said, notes)?;
     Ok(is_out_of_force(names_super, decided))

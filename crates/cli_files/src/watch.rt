@@ -3,10 +3,13 @@ ghost use Rattle.std.specs.Prelude.{◌≡◌, ◌<◌, ◌≤◌, ℕ, IfErr, I
 ghost use Rattle.std.specs.Duration.{as_nanos};
 ghost use Rattle.std.specs.Option.{option_map_or};
 ghost use Rattle.cli_files.specs.Refusals.{IsFromSystem};
-ghost use Rattle.cli_files.specs.Watches.{AreRead, HasZerosFrom, IsRead, from_zero, longest_left, tick, time_left};
+ghost use Rattle.cli_files.specs.Systems.{ReportsAt};
+ghost use Rattle.cli_files.specs.Watches.{AreRead, AreReported, HasZerosFrom, IsRead, from_zero};
+ghost use Rattle.cli_files.specs.Watches.{longest_left, tick, time_left};
 
 use crate::hints::told;
 use crate::paths::{Paths, is_missing, look_at};
+use crate::system_paths::SystemPaths;
 use cli_facts::{Notes, Reading, Readings, Refusal, SystemFile, identity_of, read_or_zeros};
 use std::fs::File;
 use std::io::{self, Write};
@@ -31,31 +34,29 @@ where
 }
 
 /// What a file is now, with so many bytes from a place on; none where there is no regular file.
-fn reading_of<R: Files, E: Write>(
+pub(crate) fn reading_at<R: Files>(
     rt: &R,
     path: &str,
     at: u64,
     count: usize,
     must_be_read: bool,
-    notes: &mut Notes<'_, E>,
-) -> Result<Option<Reading>, Refusal>
+) -> io::Result<Option<Reading>>
 where
     R::File: SystemFile,
     requires { count ≤ 32 }
     ensures read { IfOk result (λ reading. IsTrue must_be_read → IsRead reading) }
     ensures zeros { IfOk result (HasZerosFrom count) }
-    ensures refused { IfErr result IsFromSystem }
 {
     let found = match look_at(rt, path) {
         Ok(found) if found.is_file() => found,
         Ok(_) => return Ok(None),
         Err(error) if is_missing(&error) => return Ok(None),
-        Err(error) => return Err(told(notes, path, error).refusal),
+        Err(error) => return Err(error),
     };
     let front = match front_of(rt, path, at, count) {
         Ok(front) => Some(front),
         Err(error) if is_missing(&error) => return Ok(None),
-        Err(error) if must_be_read => return Err(told(notes, path, error).refusal),
+        Err(error) if must_be_read => return Err(error),
         Err(_) => None,
     };
     Ok(Some(Reading {
@@ -67,15 +68,35 @@ where
     }))
 }
 
+/// The same, as the system reports it.
+fn reading_of<R: SystemPaths, E: Write>(
+    rt: &R,
+    path: &str,
+    at: u64,
+    count: usize,
+    must_be_read: bool,
+    notes: &mut Notes<'_, E>,
+) -> Result<Option<Reading>, Refusal>
+    requires { count ≤ 32 }
+    ensures reported { IfOk result (ReportsAt R.answered path.now) }
+    ensures read { IfOk result (λ reading. IsTrue must_be_read → IsRead reading) }
+    ensures zeros { IfOk result (HasZerosFrom count) }
+    ensures refused { IfErr result IsFromSystem }
+{
+    match rt.report(path, at, count, must_be_read) {
+        Ok(reading) => Ok(reading),
+        Err(error) => Err(told(notes, path, error).refusal),
+    }
+}
+
 /// What a database file and its logs are now. Where only the logs are read, the database file needn't be readable.
-pub fn readings_of<R: Files, E: Write>(
+pub fn readings_of<R: SystemPaths, E: Write>(
     rt: &R,
     paths: &Paths,
     only_logs: bool,
     notes: &mut Notes<'_, E>,
 ) -> Result<Readings, Refusal>
-where
-    R::File: SystemFile,
+    ensures reported { IfOk result (AreReported R.answered paths.now) }
     ensures read { IfOk result (AreRead only_logs) }
     ensures zeros { IfOk result (λ readings. HasZerosFrom 16 readings.db) }
     ensures refused { IfErr result IsFromSystem }

@@ -1,2 +1,3 @@
 pub mod FaultsFound
+pub mod OpenedLogs
 pub mod OpenedLooks

@@ -6,6 +6,7 @@ use Rattle.cli_facts.specs.declared.outcome.Refusal.{Refusal}
 use Rattle.sqview.specs.internal.Laid.{HoldsPart}
 use Rattle.sqview.proofs.file.HeldPartOfFile.{holds_nothing}
 use Rattle.cli_files.specs.Refusals.{IsFromWatch}
+use Rattle.cli_files.specs.Systems.{Answered}
 use Rattle.cli_files.specs.declared.opened_file.OpenedFile.{OpenedFile}
 use Rattle.cli_show.specs.Contents.{AreGiven}
 use Rattle.cli_show.specs.declared.contents.Contents.{Contents}
@@ -90,44 +91,44 @@ fresh_gives bytes gives files fresh given = (
 )
 
 -- files that are one by one those that were opened are those files
-pub same_opened : {F M : Type 0} (source : Source) (only_logs : Bool) (files : Contents (OpenedFile F)) (counted : Contents (Counted F M))
+pub same_opened : {F M : Type 0} (bytes : OpenedFile F → List ℕ) (gives : OpenedFile F → Type 0) (answered : Answered) (source : Source) (only_logs : Bool) (files : Contents (OpenedFile F)) (counted : Contents (Counted F M))
     → opened_of counted.db ≡ files.db → opened_of counted.wal ≡ files.wal → opened_of counted.journal ≡ files.journal
-    → AreOpenedFor only_logs source files → AreOpenedFor only_logs source (all_opened counted)
-same_opened {F} source only_logs files counted db wal journal opened =
-    let by_db = subst (λ (x : OpenedFile F). AreOpenedFor only_logs source (record { db = x; wal = files.wal; journal = files.journal })) (sym db) opened in
-    let by_wal = subst (λ (x : OpenedFile F). AreOpenedFor only_logs source (record { db = opened_of counted.db; wal = x; journal = files.journal })) (sym wal) by_db in
-    subst (λ (x : OpenedFile F). AreOpenedFor only_logs source (record { db = opened_of counted.db; wal = opened_of counted.wal; journal = x })) (sym journal) by_wal
+    → AreOpenedFor bytes gives answered only_logs source files → AreOpenedFor bytes gives answered only_logs source (all_opened counted)
+same_opened {F} bytes gives answered source only_logs files counted db wal journal opened =
+    let by_db = subst (λ (x : OpenedFile F). AreOpenedFor bytes gives answered only_logs source (record { db = x; wal = files.wal; journal = files.journal })) (sym db) opened in
+    let by_wal = subst (λ (x : OpenedFile F). AreOpenedFor bytes gives answered only_logs source (record { db = opened_of counted.db; wal = x; journal = files.journal })) (sym wal) by_db in
+    subst (λ (x : OpenedFile F). AreOpenedFor bytes gives answered only_logs source (record { db = opened_of counted.db; wal = opened_of counted.wal; journal = x })) (sym journal) by_wal
 
 -- What is found of counted files is found of those that were opened, once they give their bytes.
-pub look_of : {F M : Type 0} (bytes : OpenedFile F → List ℕ) (gives : OpenedFile F → Type 0) (source : Source) (command : Command) (only_logs : Bool) (files : Contents (Counted F M))
-    (answer : Result (Finding (Counted F M)) Refusal) (before after : Option (List ℕ)) → only_logs ≡ reads_logs command → AreOpenedFor only_logs source (all_opened files) → AreFresh files
+pub look_of : {F M : Type 0} (bytes : OpenedFile F → List ℕ) (gives : OpenedFile F → Type 0) (answered : Answered) (source : Source) (command : Command) (only_logs : Bool) (files : Contents (Counted F M))
+    (answer : Result (Finding (Counted F M)) Refusal) (before after : Option (List ℕ)) → only_logs ≡ reads_logs command → AreOpenedFor bytes gives answered only_logs source (all_opened files) → AreFresh files
     → Finds (λ (file : Counted F M). bytes (opened_of file)) (λ (file : Counted F M). gives (opened_of file) × HoldsPart (bytes (opened_of file)) file.file.from file.file.held file.file.piece.items)
     command source.options files answer before after
-    → FindsOpened bytes gives source command answer before after
-look_of {F} {M} bytes gives source command only_logs files answer before after wants opened fresh finds = record {
+    → FindsOpened bytes gives answered source command answer before after
+look_of {F} {M} bytes gives answered source command only_logs files answer before after wants opened fresh finds = record {
   files = files;
-  opened = subst (λ (b : Bool). AreOpenedFor b source (all_opened files)) wants opened;
+  opened = subst (λ (b : Bool). AreOpenedFor bytes gives answered b source (all_opened files)) wants opened;
   finds = found_of_given (λ (file : Counted F M). bytes (opened_of file))
       (λ (file : Counted F M). gives (opened_of file) × HoldsPart (bytes (opened_of file)) file.file.from file.file.held file.file.piece.items)
       (λ (file : Counted F M). gives (opened_of file)) files (fresh_gives bytes gives files fresh) command source.options answer before after finds;
 }
 
-module _ {F M : Type 0} (bytes : OpenedFile F → List ℕ) (gives : OpenedFile F → Type 0) (source : Source) (command : Command) where
+module _ {F M : Type 0} (bytes : OpenedFile F → List ℕ) (gives : OpenedFile F → Type 0) (answered : Answered) (source : Source) (command : Command) where
   -- what a look finds stands, or the watch refuses it
-  pub stands : (found answer : Result (Finding (Counted F M)) Refusal) (before after : Option (List ℕ)) → Looks bytes gives source command found before after
-      → (answer ≡ found) ⊎ IsErrAnd answer IsFromWatch → Settles bytes gives source command answer before after
+  pub stands : (found answer : Result (Finding (Counted F M)) Refusal) (before after : Option (List ℕ)) → Looks bytes gives answered source command found before after
+      → (answer ≡ found) ⊎ IsErrAnd answer IsFromWatch → Settles bytes gives answered source command answer before after
   stands found answer before after looks = ⊎_elim
-      (λ e. inl (subst (λ (r : Result (Finding (Counted F M)) Refusal). Looks bytes gives source command r before after) (sym e) looks)) inr
+      (λ e. inl (subst (λ (r : Result (Finding (Counted F M)) Refusal). Looks bytes gives answered source command r before after) (sym e) looks)) inr
 
   -- damage was found, and nothing printed: what is found later is all that is
   pub looked_again : (found : Finding (Counted F M)) (answer : Result (Finding (Counted F M)) Refusal) (before middle after : Option (List ℕ))
-      → Settles bytes gives source command (Ok found) before middle → IsDamage found → Settles bytes gives source command answer middle after
-      → Settles bytes gives source command answer before after
+      → Settles bytes gives answered source command (Ok found) before middle → IsDamage found → Settles bytes gives answered source command answer middle after
+      → Settles bytes gives answered source command answer before after
   looked_again found answer before middle after first damage then =
-      subst (λ (m : Option (List ℕ)). Settles bytes gives source command answer m after) (⊎_elim quiet (λ bad. absurd bad) first) then
+      subst (λ (m : Option (List ℕ)). Settles bytes gives answered source command answer m after) (⊎_elim quiet (λ bad. absurd bad) first) then
     where
-      found_quiet : FindsOpened bytes gives source command (Ok found) before middle → middle ≡ before
+      found_quiet : FindsOpened bytes gives answered source command (Ok found) before middle → middle ≡ before
       found_quiet is = damage_prints_nothing (λ (file : Counted F M). bytes (opened_of file)) (λ (file : Counted F M). gives (opened_of file)) command source.options is.files found before middle is.finds damage
 
-      quiet : Looks bytes gives source command (Ok found) before middle → middle ≡ before
+      quiet : Looks bytes gives answered source command (Ok found) before middle → middle ≡ before
       quiet = ⊎_elim found_quiet (λ bad. absurd bad.0)

@@ -12,11 +12,10 @@ use crate::metered::{Metered, db_metered};
 use crate::opening::{logs_alone, open_all};
 use crate::sources::{Before, Source, before_of, still_as_before, wait_for};
 use cli_facts::{Front, NoteWriter, Notes, Readings, Refusal, SystemFile, unchanged};
-use cli_files::{Count, OpenedFile, readings_of};
+use cli_files::{Count, OpenedFile, SystemPaths, readings_of};
 use cli_show::{Contents, read_ahead};
 use sqview::{FileBytes, ReadAhead};
 use std::io::{self, Write};
-use std::rt::Files;
 use std::thread;
 use std::time::{Clock, Duration};
 
@@ -63,7 +62,7 @@ fn if_still<T: Drop>(still: Result<(), Refusal>, answer: Result<T, Refusal>) -> 
     }
 }
 
-impl<'a, R: Files + AllocGlobal + Clock, M: Count> Job<'a, R, M>
+impl<'a, R: SystemPaths + AllocGlobal + Clock, M: Count> Job<'a, R, M>
 where
     R::File: SystemFile,
 {
@@ -77,7 +76,7 @@ where
         notes: &mut Notes<'_, E>,
     ) -> Result<Finding<Counted<'a, R::File, M>>, Refusal>
         ensures { Settles (opened_bytes R.File.bytes)
-            (GivesBytes R.File.bytes R.File.keeps_word R.File.never_fails) self.entry.now.source.now
+            (GivesBytes R.File.bytes R.File.keeps_word R.File.never_fails) R.answered self.entry.now.source.now
             command.entry.now result (W.contents out.old) (W.contents out.new) }
     {
         match self.untold(command, out, notes) {
@@ -94,7 +93,7 @@ where
         notes: &mut Notes<'_, E>,
     ) -> Result<Finding<Counted<'a, R::File, M>>, Refusal>
         ensures { Settles (opened_bytes R.File.bytes)
-            (GivesBytes R.File.bytes R.File.keeps_word R.File.never_fails) self.entry.now.source.now
+            (GivesBytes R.File.bytes R.File.keeps_word R.File.never_fails) R.answered self.entry.now.source.now
             command.entry.now result (W.contents out.old) (W.contents out.new) }
     {
         match self.before(command.wants().only_logs, notes) {
@@ -139,11 +138,12 @@ where
         wants: Wants,
         notes: &mut Notes<'_, E>,
     ) -> Result<Contents<Counted<'a, R::File, M>>, Refusal>
-        ensures opened { IfOk result (λ files. AreOpenedFor wants.only_logs self.entry.now.source.now
-            (all_opened files)) }
+        ensures opened { IfOk result (λ files. AreOpenedFor (opened_bytes R.File.bytes)
+            (GivesBytes R.File.bytes R.File.keeps_word R.File.never_fails) R.answered wants.only_logs
+            self.entry.now.source.now (all_opened files)) }
         ensures fresh { IfOk result AreFresh }
         ensures refused { IfErr result (IsUnopenedFor (opened_bytes R.File.bytes)
-            (GivesBytes R.File.bytes R.File.keeps_word R.File.never_fails) self.entry.now.source.now) }
+            (GivesBytes R.File.bytes R.File.keeps_word R.File.never_fails) R.answered self.entry.now.source.now) }
     {
         let meter = if wants.is_counted {
             Some(self.meter)
@@ -165,9 +165,11 @@ where
         only_logs: bool,
         notes: &mut Notes<'_, E>,
     ) -> Result<Contents<OpenedFile<'a, R::File>>, Refusal>
-        ensures opened { IfOk result (AreOpenedFor only_logs self.entry.now.source.now) }
+        ensures opened { IfOk result (AreOpenedFor (opened_bytes R.File.bytes)
+            (GivesBytes R.File.bytes R.File.keeps_word R.File.never_fails) R.answered only_logs
+            self.entry.now.source.now) }
         ensures refused { IfErr result (IsUnopenedFor (opened_bytes R.File.bytes)
-            (GivesBytes R.File.bytes R.File.keeps_word R.File.never_fails) self.entry.now.source.now) }
+            (GivesBytes R.File.bytes R.File.keeps_word R.File.never_fails) R.answered self.entry.now.source.now) }
     {
         let (rt, source) = (self.rt, self.source);
         let (super_journal, front) = (source.options.super_journal, source.options.front);
@@ -188,7 +190,7 @@ where
         notes: &mut Notes<'_, E>,
     ) -> Result<Finding<Counted<'a, R::File, M>>, Refusal>
         ensures { Settles (opened_bytes R.File.bytes)
-            (GivesBytes R.File.bytes R.File.keeps_word R.File.never_fails) self.entry.now.source.now
+            (GivesBytes R.File.bytes R.File.keeps_word R.File.never_fails) R.answered self.entry.now.source.now
             command.entry.now result (W.contents out.old) (W.contents out.new) }
     {
         let (before, wait) = of;
@@ -212,7 +214,7 @@ where
         notes: &mut Notes<'_, E>,
     ) -> Result<Finding<Counted<'a, R::File, M>>, Refusal>
         ensures { Looks (opened_bytes R.File.bytes)
-            (GivesBytes R.File.bytes R.File.keeps_word R.File.never_fails) self.entry.now.source.now
+            (GivesBytes R.File.bytes R.File.keeps_word R.File.never_fails) R.answered self.entry.now.source.now
             command.entry.now result (W.contents out.old) (W.contents out.new) }
     {
         let options = self.source.options;
@@ -261,7 +263,7 @@ where
         notes: &mut Notes<'_, E>,
     ) -> Result<Finding<Counted<'a, R::File, M>>, Refusal>
         ensures { Settles (opened_bytes R.File.bytes)
-            (GivesBytes R.File.bytes R.File.keeps_word R.File.never_fails) self.entry.now.source.now
+            (GivesBytes R.File.bytes R.File.keeps_word R.File.never_fails) R.answered self.entry.now.source.now
             command.entry.now result (W.contents out.old) (W.contents out.new) }
     {
         let now = self.unchanged_since(before, notes)?;

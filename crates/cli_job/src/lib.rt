@@ -20,4 +20,4 @@ pub use metered::{Metered, all_ahead, all_metered, both_ahead};
 pub use opening::{open_all, open_seen};
 pub use outputs::{judge_name, kept, named};
 pub use sources::{Before, Extent, Source, Watch, alone, before_of, source_of, wait_for};
-pub use twice::{Again, Ended, Given, WhileSame};
+pub use twice::{Again, End, Ended, Given, WhileSame, ending_of};

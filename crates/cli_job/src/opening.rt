@@ -6,8 +6,8 @@ ghost use Rattle.cli_job.specs.Opened.{AreOpened, GivesBytes, IsUnchosen, IsUnop
 
 use cli_facts::{Notes, Refusal, SystemFile};
 use cli_files::{
-    Beheld, Beside, OpenedFile, Paths, counting_log, look_at, open_database, open_logs, tell_alone,
-    tell_length,
+    Beheld, Beside, OpenedFile, Paths, SystemPaths, counting_log, look_at, open_database,
+    open_logs, tell_alone, tell_length,
 };
 use cli_show::Contents;
 use cli_words::SuperJournal;
@@ -64,7 +64,7 @@ fn tell_by_log<F: SystemFile, E: Write>(
 /// Opens a database file and its logs, of which each may be missing, and says what the system says of the file. At
 /// front 0, by the index of the log, no frame counts, and the logs are taken as missing. Refused by `FileFailed` and
 /// `NoMemory` as the system refuses a call, by `TwoLogs` where it isn't said which log counts.
-pub fn open_seen<'a, R: Files, E: Write>(
+pub fn open_seen<'a, R: SystemPaths, E: Write>(
     rt: &R,
     paths: &'a Paths,
     super_journal: Option<SuperJournal>,
@@ -73,9 +73,11 @@ pub fn open_seen<'a, R: Files, E: Write>(
 ) -> Result<Seen<'a, R::File>, Refusal>
 where
     R::File: SystemFile,
-    ensures opened { IfOk result (λ seen. AreOpened false paths.entry.now super_journal front seen.1) }
+    ensures opened { IfOk result (λ seen. AreOpened (opened_bytes R.File.bytes)
+        (GivesBytes R.File.bytes R.File.keeps_word R.File.never_fails) R.answered false paths.entry.now
+        super_journal front seen.1) }
     ensures refused { IfErr result (IsUnopened (opened_bytes R.File.bytes)
-        (GivesBytes R.File.bytes R.File.keeps_word R.File.never_fails) paths.entry.now super_journal front) }
+        (GivesBytes R.File.bytes R.File.keeps_word R.File.never_fails) R.answered paths.entry.now super_journal front) }
 {
     let Beside {
         found: Beheld { db: found, .. },
@@ -95,7 +97,7 @@ where
 
 /// Opens a database file and its logs, of which each may be missing; at front 0 the logs are taken as missing. Refused
 /// as `open_seen` is.
-pub fn open_all<'a, R: Files, E: Write>(
+pub fn open_all<'a, R: SystemPaths, E: Write>(
     rt: &R,
     paths: &'a Paths,
     super_journal: Option<SuperJournal>,
@@ -104,9 +106,11 @@ pub fn open_all<'a, R: Files, E: Write>(
 ) -> Result<Contents<OpenedFile<'a, R::File>>, Refusal>
 where
     R::File: SystemFile,
-    ensures opened { IfOk result (AreOpened false paths.entry.now super_journal front) }
+    ensures opened { IfOk result (AreOpened (opened_bytes R.File.bytes)
+        (GivesBytes R.File.bytes R.File.keeps_word R.File.never_fails) R.answered false paths.entry.now
+        super_journal front) }
     ensures refused { IfErr result (IsUnopened (opened_bytes R.File.bytes)
-        (GivesBytes R.File.bytes R.File.keeps_word R.File.never_fails) paths.entry.now super_journal front) }
+        (GivesBytes R.File.bytes R.File.keeps_word R.File.never_fails) R.answered paths.entry.now super_journal front) }
 {
     match open_seen(rt, paths, super_journal, front, notes) {
         Ok((_, files)) => Ok(files),
@@ -115,7 +119,7 @@ where
 }
 
 /// Opens the logs of a database file, of which each may be missing. The file is looked at, and taken as missing.
-pub(crate) fn logs_alone<'a, R: Files, E: Write>(
+pub(crate) fn logs_alone<'a, R: SystemPaths, E: Write>(
     rt: &R,
     paths: &'a Paths,
     super_journal: Option<SuperJournal>,
@@ -124,7 +128,9 @@ pub(crate) fn logs_alone<'a, R: Files, E: Write>(
 ) -> Result<Contents<OpenedFile<'a, R::File>>, Refusal>
 where
     R::File: SystemFile,
-    ensures opened { IfOk result (AreOpened true paths.entry.now super_journal front) }
+    ensures opened { IfOk result (AreOpened (opened_bytes R.File.bytes)
+        (GivesBytes R.File.bytes R.File.keeps_word R.File.never_fails) R.answered true paths.entry.now
+        super_journal front) }
     ensures refused { IfErr result IsFromSystem }
 {
     tell_seen(rt, paths, notes);

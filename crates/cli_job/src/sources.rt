@@ -1,15 +1,17 @@
 //! The files of a database as a command reads them, and how it is seen that others change them meanwhile.
 ghost use Rattle.std.specs.Prelude.{◌≡◌, ◌⊎◌, ◌↔◌, IfErr, IfOk, IsSome, IsTrue, None, false};
+ghost use Rattle.cli_facts.specs.declared.outcome.Refusal.TheVariants.{FileChanged};
 ghost use Rattle.cli_files.specs.Refusals.{IsFromSystem, IsFromWatch};
 ghost use Rattle.cli_job.specs.Sources.{IsAloneOf, IsBefore, IsFrontUnder, IsReadTo, IsSourceOf, IsUnsourced};
 ghost use Rattle.std.specs.Duration.{as_nanos};
 ghost use Rattle.cli_job.specs.Sources.{IsWaitFor, IsWatchFor, IsWatchUnder, IsWithin};
-ghost use Rattle.cli_job.specs.internal.Watches.{AreUndated, IsUndated, StandsYet};
+ghost use Rattle.cli_job.specs.Changes.{AreUndated, HaveChanged, IsUndated};
+ghost use Rattle.cli_job.specs.internal.Watches.{StandsYet};
 
 use cli_facts::{Front, Notes, Reading, Readings, Refusal, SystemFile, read_or_zeros, unchanged};
 use cli_files::{
-    Paths, as_before, is_index_live, is_journal_hot, look_at, paths_of, readings_of, time_to_wait,
-    told,
+    Paths, SystemPaths, as_before, is_index_live, is_journal_hot, look_at, paths_of, readings_of,
+    time_to_wait, told,
 };
 use cli_held::{Held, Locks, frames_named};
 use cli_words::Options;
@@ -298,15 +300,13 @@ pub enum Before {
 
 /// What the files are now; none if they stay so. If only the logs are read, and not beside a journal under locks, the
 /// database file needn't be readable.
-pub fn before_of<R: Files, E: Write>(
+pub fn before_of<R: SystemPaths, E: Write>(
     rt: &R,
     paths: &Paths,
     watch: Watch,
     only_logs: bool,
     notes: &mut Notes<'_, E>,
 ) -> Result<Option<Before>, Refusal>
-where
-    R::File: SystemFile,
     ensures before { IfOk result (IsBefore watch) }
     ensures refused { IfErr result IsFromSystem }
 {
@@ -346,15 +346,15 @@ fn all_undated(readings: Readings) -> Readings
 }
 
 /// Refused where the files aren't as they were before, whenever they were changed.
-fn as_they_were<R: Files, E: Write>(
+pub(crate) fn as_they_were<R: SystemPaths, E: Write>(
     rt: &R,
     paths: &Paths,
     before: &Readings,
     notes: &mut Notes<'_, E>,
 ) -> Result<(), Refusal>
-where
-    R::File: SystemFile,
     ensures refused { IfErr result IsFromWatch }
+    ensures changed { IfErr result (λ refusal. refusal ≡ FileChanged
+        → HaveChanged R.answered paths.now before.now) }
 {
     let after = readings_of(rt, paths, false, notes)?;
     unchanged(&all_undated(*before), &all_undated(after), Ok(()))?;
@@ -388,7 +388,7 @@ pub fn wait_for<C: Clock>(clock: &C, before: &Option<Before>) -> Duration
 
 /// Refused where the files aren't as they were before, or the frames up to this front don't stand any more. Where only
 /// the logs are read, the database file needn't be readable.
-pub(crate) fn still_as_before<R: Files, E: Write>(
+pub(crate) fn still_as_before<R: SystemPaths, E: Write>(
     rt: &R,
     paths: &Paths,
     before: &Option<Before>,

@@ -1,15 +1,16 @@
 //! A reading that is made once more of the database file alone, also where something was printed: its journal changed.
-ghost use Rattle.std.specs.Prelude.{◌≡◌, ◌≢◌, ◌⊎◌, Err};
+ghost use Rattle.std.specs.Prelude.{◌≡◌, ◌≢◌, ◌⊎◌, ◌↔◌, Err, IfErr, None, Some};
 ghost use Rattle.cli_facts.specs.declared.outcome.Refusal.TheVariants.{FileChanged};
-ghost use Rattle.cli_job.specs.declared.twice.Ended.TheVariants.{Same};
+ghost use Rattle.cli_job.specs.Changes.{HaveChanged, IsEndOf};
+ghost use Rattle.cli_job.specs.declared.twice.Ended.TheVariants.{Changed, Restored, Same, Unseen};
+ghost use Rattle.cli_job.specs.declared.twice.Given.{Given as GivenSoFar};
 ghost use Rattle.cli_show.specs.declared.error.ShowError.TheVariants.{Refused};
 
-use crate::sources::{Before, still_as_before};
-use cli_facts::{NoteWriter, Notes, Refusal, SystemFile};
-use cli_files::Paths;
+use crate::sources::as_they_were;
+use cli_facts::{NoteWriter, Notes, Readings, Refusal};
+use cli_files::{Paths, SystemPaths};
 use cli_show::ShowError;
 use std::io::{self, ErrorKind, Write};
-use std::rt::Files;
 
 /// How many bytes are given, in pieces that are shorter, between two looks at the files.
 const UNSEEN: u64 = 65_536;
@@ -40,13 +41,24 @@ impl Given {
     }
 }
 
-/// What a reading ended with that had to see that its files stay as they were.
+/// How a reading ended that had to see that its files stay as they were.
+#[derive(Clone, Copy, Debug, PartialEq, Eq)]
+pub struct End {
+    /// What was given before.
+    pub given: Given,
+    /// Why a look at the files was refused, or `FileChanged` if the reading was.
+    pub refused: Option<Refusal>,
+}
+
+/// What such a reading ended with.
 #[derive(Clone, Copy, Debug, PartialEq, Eq)]
 pub enum Ended {
     /// No change of the files was seen.
     Same,
     /// The files changed. This was given before.
     Changed(Given),
+    /// The files changed, and are as they were before again. This was given before.
+    Restored(Given),
     /// A look at the files was refused, so nothing is known of a change.
     Unseen,
 }
@@ -56,7 +68,7 @@ pub enum Ended {
 pub struct WhileSame<'a, R, O> {
     rt: &'a R,
     paths: &'a Paths,
-    before: Option<Before>,
+    before: Readings,
     out: &'a mut O,
     given: Given,
     /// How much of that may be given before the next look.
@@ -79,15 +91,42 @@ impl<R, O> Drop for WhileSame<'_, R, O> {
     }
 }
 
-impl<'a, R: Files, O: Write> WhileSame<'a, R, O>
-where
-    R::File: SystemFile,
+/// Refused by `FileChanged` if the files aren't as they were before, whenever they were changed, and as the look at them
+/// was.
+fn look<R: SystemPaths>(rt: &R, paths: &Paths, before: &Readings) -> Result<(), Refusal>
+    ensures { IfErr result (λ refusal. refusal ≡ FileChanged → HaveChanged R.answered paths.now before.now) }
 {
+    let nowhere = NoteWriter::new(io::sink());
+    let mut unheard = Notes::new(&nowhere, false, false);
+    as_they_were(rt, paths, before, &mut unheard)
+}
+
+/// What a reading ended with of files that were so before. If one changed, they are looked at once more.
+pub fn ending_of<R: SystemPaths>(rt: &R, paths: &Paths, before: &Readings, end: End) -> Ended
+    ensures same { result ≡ Same ↔ end.refused ≡ None }
+    ensures changed { (given : GivenSoFar) → result ≡ Changed given → (given ≡ end.given)
+        × (end.refused ≡ Some FileChanged) × HaveChanged R.answered paths.now before.now }
+    ensures restored { (given : GivenSoFar) → result ≡ Restored given → (given ≡ end.given)
+        × (end.refused ≡ Some FileChanged) }
+    ensures unseen { end.refused ≢ None → end.refused ≢ Some FileChanged → result ≡ Unseen }
+{
+    match end.refused {
+        None => Ended::Same,
+        Some(Refusal::FileChanged) => match look(rt, paths, before) {
+            Ok(()) => Ended::Restored(end.given),
+            Err(Refusal::FileChanged) => Ended::Changed(end.given),
+            Err(_) => Ended::Unseen,
+        },
+        Some(_) => Ended::Unseen,
+    }
+}
+
+impl<'a, R: SystemPaths, O: Write> WhileSame<'a, R, O> {
     /// A writer to which nothing was given yet.
     pub fn new(
         rt: &'a R,
         paths: &'a Paths,
-        before: Option<Before>,
+        before: Readings,
         out: &'a mut O,
     ) -> WhileSame<'a, R, O> {
         WhileSame {
@@ -101,42 +140,30 @@ where
         }
     }
 
-    /// Refused by `FileChanged` if the files aren't as they were before, and as the look at them was.
-    fn look(&self) -> Result<(), Refusal> {
-        let nowhere = NoteWriter::new(io::sink());
-        let mut unheard = Notes::new(&nowhere, false, false);
-        still_as_before(
-            self.rt,
-            self.paths,
-            &self.before,
-            (false, None),
-            &mut unheard,
-        )
-    }
-
-    /// What a reading ended with that gave this answer.
-    pub fn ended<T>(&self, answer: &Result<T, ShowError>) -> Ended
-        ensures { result ≡ Same → answer.now ≢ Err (Refused FileChanged) }
+    /// How a reading ended that gave this answer.
+    pub fn end<T>(&self, answer: &Result<T, ShowError>) -> End
+        ensures given { result.given ≡ self.now.given }
+        ensures refused { IsEndOf self.now.refused answer.now result.refused }
     {
-        match (self.refused, answer) {
-            (Some(Refusal::FileChanged), _) => Ended::Changed(self.given),
-            (Some(_), _) => Ended::Unseen,
-            (None, Err(ShowError::Refused(Refusal::FileChanged))) => Ended::Changed(self.given),
-            (None, _) => Ended::Same,
+        let refused = match (self.refused, answer) {
+            (Some(refusal), _) => Some(refusal),
+            (None, Err(ShowError::Refused(Refusal::FileChanged))) => Some(Refusal::FileChanged),
+            (None, _) => None,
+        };
+        End {
+            given: self.given,
+            refused,
         }
     }
 }
 
-impl<R: Files, O: Write> Write for WhileSame<'_, R, O>
-where
-    R::File: SystemFile,
-{
+impl<R: SystemPaths, O: Write> Write for WhileSame<'_, R, O> {
     fn write(&mut self, buf: &[u8]) -> io::Result<usize> {
         if self.refused.is_some() {
             return Err(io::Error::from(ErrorKind::InvalidData));
         }
         if buf.len() as u64 > self.left {
-            if let Err(refusal) = self.look() {
+            if let Err(refusal) = look(self.rt, self.paths, &self.before) {
                 self.refused = Some(refusal);
                 return Err(io::Error::from(ErrorKind::InvalidData));
             }

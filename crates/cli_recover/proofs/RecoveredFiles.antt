@@ -11,6 +11,7 @@ use Rattle.cli_facts.specs.declared.outcome.Outcome.{Outcome}
 use Rattle.cli_facts.specs.declared.outcome.Refusal.{Refusal}
 use Rattle.cli_facts.specs.declared.outcome.Refusal.TheVariants as refusals
 use Rattle.cli_files.specs.Files.{IsMissing, IsOpenedAt}
+use Rattle.cli_files.specs.Systems.{Answered}
 use Rattle.cli_files.specs.declared.logs.Beheld.{Beheld}
 use Rattle.cli_files.specs.declared.opened_file.OpenedFile.{OpenedFile}
 use Rattle.cli_files.specs.declared.paths.Paths.{Paths}
@@ -31,11 +32,11 @@ use Rattle.cli_recover.specs.declared.guarded_disk.GuardedDisk.{GuardedDisk}
 use Rattle.cli_recover.specs.declared.plans.Recovery.{Recovery}
 use Rattle.cli_recover.specs.declared.plans.Recovery.TheVariants.{Nothing}
 
-module _ {F : Type 0} (bytes : OpenedFile F → List ℕ) (gives : OpenedFile F → Type 0) (paths : Paths) (options : Options) (found : Beheld) (wal journal : OpenedFile F)
-    (logs : AreLogsOf paths options.super_journal found wal journal) where
+module _ {F : Type 0} (bytes : OpenedFile F → List ℕ) (gives : OpenedFile F → Type 0) (answered : Answered) (paths : Paths) (options : Options) (found : Beheld) (wal journal : OpenedFile F)
+    (logs : AreLogsOf bytes gives answered paths options.super_journal found wal journal) where
   -- no log counts of files that were opened
   pub nothing_planned : (missing : OpenedFile F) → IsMissing missing → options.front ≡ None
-      → (gives wal → gives journal → CountsAnswer (bytes wal) (bytes journal) (Ok Neither)) → IsPlanned bytes gives paths options Nothing
+      → (gives wal → gives journal → CountsAnswer (bytes wal) (bytes journal) (Ok Neither)) → IsPlanned bytes gives answered paths options Nothing
   nothing_planned missing is at counts = record {
     found = found;
     files = record { db = missing; wal = wal; journal = journal };
@@ -51,7 +52,7 @@ module _ {F : Type 0} (bytes : OpenedFile F → List ℕ) (gives : OpenedFile F 
     counts_still given_wal given_journal = subst (λ (l : List ℕ). CountsAnswer (bytes wal) l (Ok in_use)) (sym same) (counts given_wal given_journal)
 
     -- this is planned where a log counts
-    pub planned_at : (plan : Recovery) → IsPlannedBy bytes gives paths options in_use wal left plan → IsPlanned bytes gives paths options plan
+    pub planned_at : (plan : Recovery) → IsPlannedBy bytes gives paths options in_use wal left plan → IsPlanned bytes gives answered paths options plan
     planned_at plan by = record {
       found = found;
       files = record { db = by.db; wal = wal; journal = journal };
@@ -62,7 +63,7 @@ module _ {F : Type 0} (bytes : OpenedFile F → List ℕ) (gives : OpenedFile F 
     }
 
     -- nothing is
-    pub unplanned_at : (refusal : Refusal) → IsUnplannedBy bytes gives paths options in_use wal left refusal → IsUnplannedAt bytes gives paths options refusal
+    pub unplanned_at : (refusal : Refusal) → IsUnplannedBy bytes gives paths options in_use wal left refusal → IsUnplannedAt bytes gives answered paths options refusal
     unplanned_at refusal by = record {
       found = found;
       files = record { db = by.db; wal = wal; journal = journal };
@@ -75,12 +76,12 @@ module _ {F : Type 0} (bytes : OpenedFile F → List ℕ) (gives : OpenedFile F 
     -- what is planned so came to this, or is refused
     pub carried_at : {D : Type 0} (keeps_word : D → Type 0) (state : D → DiskState) (lets_change : Type 0) (result : Result Outcome Refusal)
         → IfOk result (IsCarriedBy bytes gives keeps_word state lets_change paths options in_use wal left)
-        → IfOk result (IsRecoveredOn bytes gives keeps_word state lets_change paths options)
+        → IfOk result (IsRecoveredOn bytes gives answered keeps_word state lets_change paths options)
     carried_at keeps_word state lets_change (Ok outcome) by = (by.0, planned_at by.0 by.1, by.2, by.3)
     carried_at keeps_word state lets_change (Err refusal) by = tt
 
     pub uncarried_at : (result : Result Outcome Refusal) → IfErr result (IsUncarriedBy bytes gives paths options in_use wal left)
-        → IfErr result (IsUnrecovered bytes gives paths options)
+        → IfErr result (IsUnrecovered bytes gives answered paths options)
     uncarried_at (Ok outcome) by = tt
     uncarried_at (Err refusal) by = ⊎_elim
         inl
@@ -89,7 +90,7 @@ module _ {F : Type 0} (bytes : OpenedFile F → List ℕ) (gives : OpenedFile F 
 
   -- two logs count
   pub two_at : (missing : OpenedFile F) → IsMissing missing → (refusal : Refusal)
-      → (gives wal → gives journal → (refusal ≡ refusals.TwoLogs) × AreTwoLogs (bytes wal) (bytes journal)) → IsUnrecovered bytes gives paths options refusal
+      → (gives wal → gives journal → (refusal ≡ refusals.TwoLogs) × AreTwoLogs (bytes wal) (bytes journal)) → IsUnrecovered bytes gives answered paths options refusal
   two_at missing is refusal two = inr (inl (record {
     found = found;
     files = record { db = missing; wal = wal; journal = journal };
@@ -115,20 +116,20 @@ undone_on bytes gives paths options in_use wal journal plan (Ok outcome) planned
 undone_on bytes gives paths options in_use wal journal plan (Err refusal) planned refused = ⊎_elim inl (λ of. inr (inr (plan, planned, of))) refused
 
 -- a recovery that is refused is told so
-pub recovers_refused : {F D : Type 0} (bytes : OpenedFile F → List ℕ) (gives : OpenedFile F → Type 0) (keeps_word : D → Type 0) (state : D → DiskState) (lets_change : Type 0)
+pub recovers_refused : {F D : Type 0} (bytes : OpenedFile F → List ℕ) (gives : OpenedFile F → Type 0) (answered : Answered) (keeps_word : D → Type 0) (state : D → DiskState) (lets_change : Type 0)
     (file : List ℕ) (options : Options) (paths : Paths) (refusal told : Refusal) (before after : Option (List ℕ)) → told ≡ refusal → ArePathsOf file paths
-    → IsUnrecovered bytes gives paths (to_front options) refusal
-    → RecoversOn bytes gives keeps_word state lets_change file options (Err (errors.Refused told)) before after
-recovers_refused bytes gives keeps_word state lets_change file options paths refusal told before after same are is =
-    subst (λ (r : Refusal). RecoversOn bytes gives keeps_word state lets_change file options (Err (errors.Refused r)) before after) (sym same) (inr (paths, are, is))
+    → IsUnrecovered bytes gives answered paths (to_front options) refusal
+    → RecoversOn bytes gives answered keeps_word state lets_change file options (Err (errors.Refused told)) before after
+recovers_refused bytes gives answered keeps_word state lets_change file options paths refusal told before after same are is =
+    subst (λ (r : Refusal). RecoversOn bytes gives answered keeps_word state lets_change file options (Err (errors.Refused r)) before after) (sym same) (inr (paths, are, is))
 
 -- a recovery on a disk is one
-pub recovers_to : {F D : Type 0} (bytes : OpenedFile F → List ℕ) (gives : OpenedFile F → Type 0) (keeps_word : D → Type 0) (state : D → DiskState) (lets_change : Type 0)
+pub recovers_to : {F D : Type 0} (bytes : OpenedFile F → List ℕ) (gives : OpenedFile F → Type 0) (answered : Answered) (keeps_word : D → Type 0) (state : D → DiskState) (lets_change : Type 0)
     (file : List ℕ) (options : Options) (result : Result Answer ShowError) (before after : Option (List ℕ))
-    → RecoversOn bytes gives keeps_word state lets_change file options result before after → RecoversTo bytes gives file options result before after
-recovers_to bytes gives keeps_word state lets_change file options (Ok answer) before after on =
+    → RecoversOn bytes gives answered keeps_word state lets_change file options result before after → RecoversTo bytes gives answered file options result before after
+recovers_to bytes gives answered keeps_word state lets_change file options (Ok answer) before after on =
     (on.0, on.1, on.2, on.3, (on.4.0, on.4.1, on.4.2), on.5)
-recovers_to bytes gives keeps_word state lets_change file options (Err error) before after on = on
+recovers_to bytes gives answered keeps_word state lets_change file options (Err error) before after on = on
 
 -- ---- what is planned of files of which it is counted what is read
 

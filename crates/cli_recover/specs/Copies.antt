@@ -21,6 +21,7 @@ use Rattle.cli_facts.specs.declared.outcome.Refusal.{Refusal}
 use Rattle.cli_facts.specs.declared.outcome.Refusal.TheVariants.{NoMemory}
 use Rattle.cli_files.specs.NewFiles.{IsBegunFile}
 use Rattle.cli_files.specs.Refusals.{IsFromWatch}
+use Rattle.cli_files.specs.Systems.{Answered}
 use Rattle.cli_files.specs.declared.new_file.NewFile.{NewFile}
 use Rattle.cli_files.specs.declared.opened_file.OpenedFile.{OpenedFile}
 use Rattle.cli_show.specs.Contents.{AreGiven}
@@ -120,31 +121,31 @@ abbrev pub IsUncopied : Options → (db wal journal : List ℕ) → Refusal → 
 IsUncopied options db wal journal refusal = IsUncopiedAt options.at options db wal journal refusal
 
 -- A copy of files that were opened for a source.
-pub record IsCopied {F : Type 0} (bytes : OpenedFile F → List ℕ) (gives : OpenedFile F → Type 0) (source : Source) (outcome : Outcome) : Type 0 where
+pub record IsCopied {F : Type 0} (bytes : OpenedFile F → List ℕ) (gives : OpenedFile F → Type 0) (answered : Answered) (source : Source) (outcome : Outcome) : Type 0 where
   pub files : Contents (OpenedFile F)
-  pub opened : AreOpenedFor false source files
+  pub opened : AreOpenedFor bytes gives answered false source files
   pub alike : AreGiven gives files → AreAlike source.options.at (bytes files.db) (bytes files.wal)
   pub copy : AreGiven gives files
       → (text : List ℕ) × IsCopyOf source.options (bytes files.db) (bytes files.wal) (bytes files.journal) outcome text
 
 -- Of such files there is none.
-pub record HasNoCopy {F : Type 0} (bytes : OpenedFile F → List ℕ) (gives : OpenedFile F → Type 0) (source : Source) (refusal : Refusal) : Type 0 where
+pub record HasNoCopy {F : Type 0} (bytes : OpenedFile F → List ℕ) (gives : OpenedFile F → Type 0) (answered : Answered) (source : Source) (refusal : Refusal) : Type 0 where
   pub files : Contents (OpenedFile F)
-  pub opened : AreOpenedFor false source files
+  pub opened : AreOpenedFor bytes gives answered false source files
   pub none : AreGiven gives files → IsUncopied source.options (bytes files.db) (bytes files.wal) (bytes files.journal) refusal
       ⊎ AreUnlike (bytes files.db) (bytes files.wal) refusal
 
 -- Why none is made: the files aren't opened, they changed or the system refuses a call, or there is none of them.
-abbrev pub IsUnmade : {F : Type 0} → (bytes : OpenedFile F → List ℕ) → (gives : OpenedFile F → Type 0) → Source → Refusal → Type 0
-IsUnmade bytes gives source refusal = IsUnopenedFor bytes gives source refusal ⊎ (IsFromWatch refusal ⊎ HasNoCopy bytes gives source refusal)
+abbrev pub IsUnmade : {F : Type 0} → (bytes : OpenedFile F → List ℕ) → (gives : OpenedFile F → Type 0) → (answered : Answered) → Source → Refusal → Type 0
+IsUnmade bytes gives answered source refusal = IsUnopenedFor bytes gives answered source refusal ⊎ (IsFromWatch refusal ⊎ HasNoCopy bytes gives answered source refusal)
 
 -- A file was begun that gets this name.
 abbrev pub IsBegun : {F : Type 0} → (bytes : OpenedFile F → List ℕ) → (to : List ℕ) → Type 0
 IsBegun {F} bytes to = (made : NewFile F) × (mode : ℕ) × IsBegunFile to mode made
 
 -- A copy is made once the new file has its name and what it has is printed; or it is refused.
-abbrev pub CopiesTo : {F : Type 0} → (bytes : OpenedFile F → List ℕ) → (gives : OpenedFile F → Type 0) → Source → (to : List ℕ) → Result Answer ShowError
+abbrev pub CopiesTo : {F : Type 0} → (bytes : OpenedFile F → List ℕ) → (gives : OpenedFile F → Type 0) → (answered : Answered) → Source → (to : List ℕ) → Result Answer ShowError
     → (before after : Option (List ℕ)) → Type 0
-CopiesTo bytes gives source to (Ok answer) before after = (answer ≡ Done) × IsBegun bytes to
-    × (outcome : Outcome) × IsCopied bytes gives source outcome × Appends before after (outcome_text source.options.style outcome)
-CopiesTo bytes gives source to (Err error) before after = IfRefused (IsUnmade bytes gives source) error
+CopiesTo bytes gives answered source to (Ok answer) before after = (answer ≡ Done) × IsBegun bytes to
+    × (outcome : Outcome) × IsCopied bytes gives answered source outcome × Appends before after (outcome_text source.options.style outcome)
+CopiesTo bytes gives answered source to (Err error) before after = IfRefused (IsUnmade bytes gives answered source) error

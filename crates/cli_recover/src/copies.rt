@@ -25,7 +25,7 @@ use crate::outcomes::print_outcome;
 use crate::plans::{Recovery, judge_sizes, plan_recovery, scan_of};
 use cli_facts::{Front, Notes, Outcome, Refusal, SystemFile};
 use cli_files::{
-    Count, NewFile, OpenedFile, begin_file, counting_log, discard_file, end_file, told,
+    Count, NewFile, OpenedFile, SystemPaths, begin_file, counting_log, discard_file, end_file, told,
 };
 use cli_job::{
     Answer, Before, Job, Metered, all_ahead, all_metered, both_ahead, judge_name, kept, open_seen,
@@ -93,7 +93,7 @@ type Recovered<'a, F, M> = Result<(Outcome, Content<'a, F, M>), Refusal>;
 /// what it did. The file is synced, and so is its folder where that can be. Refused, besides as `recover` is, by
 /// `FileFailed` where something lies there or the file is a log of the database, and by `FileChanged` where what is
 /// read changed meanwhile. Where it fails the file is removed.
-pub fn recover_to<R: Files + AllocGlobal + Clock, M: Count, O: Write, E: Write>(
+pub fn recover_to<R: SystemPaths + AllocGlobal + Clock, M: Count, O: Write, E: Write>(
     job: &Job<'_, R, M>,
     to: &str,
     out: &mut O,
@@ -103,7 +103,7 @@ where
     R::File: SystemFile,
     ensures done { IsDoneOr result }
     ensures copies { CopiesTo (opened_bytes R.File.bytes)
-        (GivesBytes R.File.bytes R.File.keeps_word R.File.never_fails) job.entry.now.source.now to.now result
+        (GivesBytes R.File.bytes R.File.keeps_word R.File.never_fails) R.answered job.entry.now.source.now to.now result
         (O.contents out.old) (O.contents out.new) }
 {
     let before = job.before(false, notes)?;
@@ -114,7 +114,7 @@ where
 }
 
 /// Makes the file, and answers what the recovery comes to.
-fn made_copy<R: Files + AllocGlobal + Clock, M: Count, E: Write>(
+fn made_copy<R: SystemPaths + AllocGlobal + Clock, M: Count, E: Write>(
     job: &Job<'_, R, M>,
     before: &Option<Before>,
     to: &str,
@@ -124,9 +124,9 @@ where
     R::File: SystemFile,
     ensures begun { OnOk result (IsBegun (opened_bytes R.File.bytes) to.now) }
     ensures copied { IfOk result (IsCopied (opened_bytes R.File.bytes)
-        (GivesBytes R.File.bytes R.File.keeps_word R.File.never_fails) job.entry.now.source.now) }
+        (GivesBytes R.File.bytes R.File.keeps_word R.File.never_fails) R.answered job.entry.now.source.now) }
     ensures refused { IfErr result (IsUnmade (opened_bytes R.File.bytes)
-        (GivesBytes R.File.bytes R.File.keeps_word R.File.never_fails) job.entry.now.source.now) }
+        (GivesBytes R.File.bytes R.File.keeps_word R.File.never_fails) R.answered job.entry.now.source.now) }
 {
     let found = found_in(job, notes);
     match job.standing(before, (false, None), found, notes) {
@@ -140,7 +140,7 @@ where
 }
 
 /// Makes the file, and answers what the recovery comes to. Where it fails nothing has the file's name.
-fn make_copy<R: Files + AllocGlobal + Clock, F: FileBytes + Drop, M: Count, E: Write>(
+fn make_copy<R: SystemPaths + AllocGlobal + Clock, F: FileBytes + Drop, M: Count, E: Write>(
     job: &Job<'_, R, M>,
     before: &Option<Before>,
     to: &str,
@@ -188,16 +188,17 @@ fn judge_files<F: SystemFile>(
 }
 
 /// What a recovery of these files comes to.
-fn found_in<'a, R: Files + AllocGlobal + Clock, M: Count, E: Write>(
+fn found_in<'a, R: SystemPaths + AllocGlobal + Clock, M: Count, E: Write>(
     job: &Job<'a, R, M>,
     notes: &mut Notes<'_, E>,
 ) -> Result<Found<'a, OpenedFile<'a, R::File>, M>, Refusal>
 where
     R::File: SystemFile,
     ensures copied { IfOk result (λ found. IsCopied (opened_bytes R.File.bytes)
-        (GivesBytes R.File.bytes R.File.keeps_word R.File.never_fails) job.entry.now.source.now found.outcome) }
+        (GivesBytes R.File.bytes R.File.keeps_word R.File.never_fails) R.answered job.entry.now.source.now
+        found.outcome) }
     ensures refused { IfErr result (IsUnmade (opened_bytes R.File.bytes)
-        (GivesBytes R.File.bytes R.File.keeps_word R.File.never_fails) job.entry.now.source.now) }
+        (GivesBytes R.File.bytes R.File.keeps_word R.File.never_fails) R.answered job.entry.now.source.now) }
 {
     let (meter, source) = (job.meter, job.source);
     let options = source.options;

@@ -21,8 +21,8 @@ use crate::plans::{Recovery, plan_recovery, scan_of};
 use crate::refusals::refusal_of_guard;
 use cli_facts::{Guard, NoteWriter, Notes, Outcome, Refusal, SystemFile, metadata_of};
 use cli_files::{
-    Beheld, Beside, Count, OpenElsewhere, OpenedFile, Paths, Place, Progress, counting_log,
-    open_database, open_logs, paths_of, tell_dropped, tell_length, tell_unread, told,
+    Beheld, Beside, Count, OpenElsewhere, OpenedFile, Paths, Place, Progress, SystemPaths,
+    counting_log, open_database, open_logs, paths_of, tell_dropped, tell_length, tell_unread, told,
 };
 use cli_job::{Answer, Job, Metered, Source, Watch};
 use cli_show::{Contents, ShowError, limits_of};
@@ -49,7 +49,7 @@ const JOURNAL_READS: u64 = 2;
 /// empties FILE-wal, or replays a hot FILE-journal into it and zeroes the journal's header. No file is made, and where
 /// no log counts none is written. Whether another process has it open is asked first, and again before each of the two
 /// files is changed; by force it isn't asked.
-pub fn recover<R: Files + AllocGlobal + Clock, O: Write, E: Write>(
+pub fn recover<R: SystemPaths + AllocGlobal + Clock, O: Write, E: Write>(
     rt: &R,
     of: (&str, bool, Options),
     out: &mut O,
@@ -59,14 +59,14 @@ where
     R::File: SystemFile,
     ensures done { IsDoneOr result }
     ensures recovers { RecoversTo (opened_bytes R.File.bytes)
-        (GivesBytes R.File.bytes R.File.keeps_word R.File.never_fails) of.entry.0.now of.entry.2 result
+        (GivesBytes R.File.bytes R.File.keeps_word R.File.never_fails) R.answered of.entry.0.now of.entry.2 result
         (O.contents out.old) (O.contents out.new) }
 {
     recover_on::<R, FileDisk<R::File>, O, E>(rt, of, out, notes)
 }
 
 /// The same over such a disk of the two files.
-pub fn recover_on<R: Files + AllocGlobal + Clock, D: Over<R::File>, O: Write, E: Write>(
+pub fn recover_on<R: SystemPaths + AllocGlobal + Clock, D: Over<R::File>, O: Write, E: Write>(
     rt: &R,
     of: (&str, bool, Options),
     out: &mut O,
@@ -76,8 +76,8 @@ where
     R::File: SystemFile,
     ensures done { IsDoneOr result }
     ensures recovers { RecoversOn (opened_bytes R.File.bytes)
-        (GivesBytes R.File.bytes R.File.keeps_word R.File.never_fails) D.keeps_word D.state (of.entry.1 ≡ true)
-        of.entry.0.now of.entry.2 result (O.contents out.old) (O.contents out.new) }
+        (GivesBytes R.File.bytes R.File.keeps_word R.File.never_fails) R.answered D.keeps_word D.state
+        (of.entry.1 ≡ true) of.entry.0.now of.entry.2 result (O.contents out.old) (O.contents out.new) }
 {
     let (file, forced, mut options) = of;
     options.front = None;
@@ -106,7 +106,7 @@ where
 }
 
 /// Recovers the file, unless another process is known to have it open.
-fn recovered<R: Files + AllocGlobal, D: Over<R::File>, M: Count, E: Write>(
+fn recovered<R: SystemPaths + AllocGlobal, D: Over<R::File>, M: Count, E: Write>(
     job: &Job<'_, R, M>,
     forced: bool,
     notes: &mut Notes<'_, E>,
@@ -115,10 +115,10 @@ where
     R::File: SystemFile,
     ensures recovered { job.entry.now.source.now.options.front ≡ None
         → IfOk result (IsRecoveredOn (opened_bytes R.File.bytes)
-        (GivesBytes R.File.bytes R.File.keeps_word R.File.never_fails) D.keeps_word D.state (forced ≡ true)
+        (GivesBytes R.File.bytes R.File.keeps_word R.File.never_fails) R.answered D.keeps_word D.state (forced ≡ true)
         job.entry.now.source.now.paths job.entry.now.source.now.options) }
     ensures refused { IfErr result (IsUnrecovered (opened_bytes R.File.bytes)
-        (GivesBytes R.File.bytes R.File.keeps_word R.File.never_fails)
+        (GivesBytes R.File.bytes R.File.keeps_word R.File.never_fails) R.answered
         job.entry.now.source.now.paths job.entry.now.source.now.options) }
 {
     let unread = RefCell::new(None);
@@ -140,7 +140,7 @@ where
 }
 
 /// Recovers the file from the log that counts.
-fn recovered_by<R: Files + AllocGlobal, D: Over<R::File>, G: Gate, M: Count, E: Write>(
+fn recovered_by<R: SystemPaths + AllocGlobal, D: Over<R::File>, G: Gate, M: Count, E: Write>(
     job: &Job<'_, R, M>,
     guard: G,
     notes: &mut Notes<'_, E>,
@@ -149,10 +149,10 @@ where
     R::File: SystemFile,
     ensures recovered { job.entry.now.source.now.options.front ≡ None
         → IfOk result (IsRecoveredOn (opened_bytes R.File.bytes)
-        (GivesBytes R.File.bytes R.File.keeps_word R.File.never_fails) D.keeps_word D.state (G.lets_change guard)
-        job.entry.now.source.now.paths job.entry.now.source.now.options) }
+        (GivesBytes R.File.bytes R.File.keeps_word R.File.never_fails) R.answered D.keeps_word D.state
+        (G.lets_change guard) job.entry.now.source.now.paths job.entry.now.source.now.options) }
     ensures refused { IfErr result (IsUnrecovered (opened_bytes R.File.bytes)
-        (GivesBytes R.File.bytes R.File.keeps_word R.File.never_fails)
+        (GivesBytes R.File.bytes R.File.keeps_word R.File.never_fails) R.answered
         job.entry.now.source.now.paths job.entry.now.source.now.options) }
 {
     let (paths, super_journal) = (&job.source.paths, job.source.options.super_journal);
@@ -204,7 +204,7 @@ struct Planned<F> {
 }
 
 /// Opens the file and the log that counts to write them, and carries out what is planned.
-fn carried_out<'a, R: Files + AllocGlobal, D: Over<R::File>, G: Gate, M: Count, E: Write>(
+fn carried_out<'a, R: SystemPaths + AllocGlobal, D: Over<R::File>, G: Gate, M: Count, E: Write>(
     job: &Job<'a, R, M>,
     guard: G,
     in_use: LogInUse,
@@ -240,7 +240,7 @@ where
 }
 
 /// What is planned.
-fn plan_opened<'a, R: Files + AllocGlobal, M: Count, E: Write>(
+fn plan_opened<'a, R: SystemPaths + AllocGlobal, M: Count, E: Write>(
     job: &Job<'a, R, M>,
     in_use: LogInUse,
     db: R::File,
@@ -318,7 +318,7 @@ fn planned_in<F: FileBytes, E: Write>(
 
 /// Carries out what is planned, with the log that counts, which lies there. Which call the system refused is told, and
 /// what of the log is dropped.
-fn carried_out_on<R: Files + AllocGlobal, D: Over<R::File>, G: Gate, M, E: Write>(
+fn carried_out_on<R: SystemPaths + AllocGlobal, D: Over<R::File>, G: Gate, M, E: Write>(
     job: &Job<'_, R, M>,
     planned: Planned<R::File>,
     log: (R::File, &Place),

@@ -9,6 +9,7 @@ use Rattle.sqview.specs.declared.read_ahead.ReadAhead.{ReadAhead}
 use Rattle.sqview.specs.internal.Laid.{HoldsPart}
 use Rattle.sqview.proofs.file.HeldPartOfFile.{holds_nothing}
 use Rattle.cli_files.specs.Refusals.{IsFromWatch}
+use Rattle.cli_files.specs.Systems.{Answered}
 use Rattle.cli_files.specs.declared.opened_file.OpenedFile.{OpenedFile}
 use Rattle.cli_show.specs.Contents.{AreGiven, AreUnread, contents_of}
 use Rattle.cli_show.specs.declared.contents.Contents.{Contents}
@@ -37,12 +38,13 @@ if_err (Ok value) so is = tt
 if_err (Err error) so is = so error is
 
 -- files that are read ahead are those that were opened, and nothing was read of them yet
-pub opened_ahead : {F : Type 0} (source : Source) (files : Contents (OpenedFile F)) (ahead : Contents (ReadAhead (OpenedFile F))) {most : ℕ} → AreUnread files most ahead
-    → AreOpenedFor false source files → AreOpenedFor false source (files_ahead ahead)
-opened_ahead {F} source files ahead unread opened =
-    let by_db = subst (λ (x : OpenedFile F). AreOpenedFor false source (record { db = x; wal = files.wal; journal = files.journal })) (sym unread.db.same) opened in
-    let by_wal = subst (λ (x : OpenedFile F). AreOpenedFor false source (record { db = ahead.db.file; wal = x; journal = files.journal })) (sym unread.wal.same) by_db in
-    subst (λ (x : OpenedFile F). AreOpenedFor false source (record { db = ahead.db.file; wal = ahead.wal.file; journal = x })) (sym unread.journal.same) by_wal
+pub opened_ahead : {F : Type 0} (bytes : OpenedFile F → List ℕ) (gives : OpenedFile F → Type 0) (answered : Answered) (source : Source) (files : Contents (OpenedFile F))
+    (ahead : Contents (ReadAhead (OpenedFile F))) {most : ℕ} → AreUnread files most ahead
+    → AreOpenedFor bytes gives answered false source files → AreOpenedFor bytes gives answered false source (files_ahead ahead)
+opened_ahead {F} bytes gives answered source files ahead unread opened =
+    let by_db = subst (λ (x : OpenedFile F). AreOpenedFor bytes gives answered false source (record { db = x; wal = files.wal; journal = files.journal })) (sym unread.db.same) opened in
+    let by_wal = subst (λ (x : OpenedFile F). AreOpenedFor bytes gives answered false source (record { db = ahead.db.file; wal = x; journal = files.journal })) (sym unread.wal.same) by_db in
+    subst (λ (x : OpenedFile F). AreOpenedFor bytes gives answered false source (record { db = ahead.db.file; wal = ahead.wal.file; journal = x })) (sym unread.journal.same) by_wal
 
 pub new_ahead : {F : Type 0} (files : Contents (OpenedFile F)) (ahead : Contents (ReadAhead (OpenedFile F))) {most : ℕ} → AreUnread files most ahead → AreNew ahead
 new_ahead files ahead unread = (unread.db.nothing, unread.wal.nothing, unread.journal.nothing)
@@ -70,50 +72,50 @@ module _ (options : Options) (from to : Contents (List ℕ)) (before after : Opt
   deleted_shown between (Ok printed) is _ = (before, after, is)
   deleted_shown between (Err refusal) _ is = is
 
-module _ {F : Type 0} (bytes : OpenedFile F → List ℕ) (gives : OpenedFile F → Type 0) (source : Source) where
+module _ {F : Type 0} (bytes : OpenedFile F → List ℕ) (gives : OpenedFile F → Type 0) (answered : Answered) (source : Source) where
   -- it is refused before anything is compared
-  pub from_undiffed : (difference : Difference) (refusal : Refusal) → IsUndiffed bytes gives source refusal → DiffsFrom bytes gives source difference (Err refusal)
+  pub from_undiffed : (difference : Difference) (refusal : Refusal) → IsUndiffed bytes gives answered source refusal → DiffsFrom bytes gives answered source difference (Err refusal)
   from_undiffed (Rows compared) refusal is = inr (inr (inl is))
   from_undiffed (Deleted between) refusal is = inr is
 
-  pub from_refused : (difference : Difference) (found : Result Printed Refusal) → IsErrAnd found (IsUndiffed bytes gives source)
-      → DiffsFrom bytes gives source difference found
+  pub from_refused : (difference : Difference) (found : Result Printed Refusal) → IsErrAnd found (IsUndiffed bytes gives answered source)
+      → DiffsFrom bytes gives answered source difference found
   from_refused difference (Ok printed) is = absurd is
   from_refused difference (Err refusal) is = from_undiffed difference refusal is
 
   -- what was shown stands, or the watch refuses it
-  pub from_stands : (difference : Difference) (found answer : Result Printed Refusal) → DiffsFrom bytes gives source difference found
-      → (answer ≡ found) ⊎ IsErrAnd answer IsFromWatch → DiffsFrom bytes gives source difference answer
+  pub from_stands : (difference : Difference) (found answer : Result Printed Refusal) → DiffsFrom bytes gives answered source difference found
+      → (answer ≡ found) ⊎ IsErrAnd answer IsFromWatch → DiffsFrom bytes gives answered source difference answer
   from_stands difference found answer diffs =
-      ⊎_elim (λ e. subst (λ (r : Result Printed Refusal). DiffsFrom bytes gives source difference r) (sym e) diffs) (watched answer)
+      ⊎_elim (λ e. subst (λ (r : Result Printed Refusal). DiffsFrom bytes gives answered source difference r) (sym e) diffs) (watched answer)
     where
-      watched : (answer : Result Printed Refusal) → IsErrAnd answer IsFromWatch → DiffsFrom bytes gives source difference answer
+      watched : (answer : Result Printed Refusal) → IsErrAnd answer IsFromWatch → DiffsFrom bytes gives answered source difference answer
       watched (Ok printed) is = absurd is
       watched (Err refusal) is = from_undiffed difference refusal (inr is)
 
   -- those of rows, from the first commit that is known, or why it isn't found
   module _ (compared : Compared) (unnamed : ¬ NamesFrom (map (λ w. w.now) compared.tables.options.now)) where
-    pub from_first : (found : Result Printed Refusal) (first : ℕ) → FirstOpened bytes gives source first → Diffs bytes gives source (Rows (record compared { from = first })) found
-        → DiffsFrom bytes gives source (Rows compared) found
+    pub from_first : (found : Result Printed Refusal) (first : ℕ) → FirstOpened bytes gives answered source first → Diffs bytes gives answered source (Rows (record compared { from = first })) found
+        → DiffsFrom bytes gives answered source (Rows compared) found
     from_first found first opened diffs = inr (inl (unnamed, (first, (opened, inl diffs))))
 
-    pub from_unwritten : (printed : Printed) (first : ℕ) → FirstOpened bytes gives source first → IsUnwritten printed → DiffsFrom bytes gives source (Rows compared) (Ok printed)
+    pub from_unwritten : (printed : Printed) (first : ℕ) → FirstOpened bytes gives answered source first → IsUnwritten printed → DiffsFrom bytes gives answered source (Rows compared) (Ok printed)
     from_unwritten printed first opened failed = inr (inl (unnamed, (first, (opened, inr failed))))
 
-  pub from_unfound : (compared : Compared) (refusal : Refusal) → IsUndiffed bytes gives source refusal ⊎ IsFirstUnopened bytes gives source refusal
-      → DiffsFrom bytes gives source (Rows compared) (Err refusal)
+  pub from_unfound : (compared : Compared) (refusal : Refusal) → IsUndiffed bytes gives answered source refusal ⊎ IsFirstUnopened bytes gives answered source refusal
+      → DiffsFrom bytes gives answered source (Rows compared) (Err refusal)
   from_unfound compared refusal is = inr (inr is)
 
   -- the first commit that is known, of files that were opened
-  module _ (limits : Bounds) (same : limits ≡ limits_named source.options.large) (files : Contents (OpenedFile F)) (opened : AreOpenedFor false source files) where
+  module _ (limits : Bounds) (same : limits ≡ limits_named source.options.large) (files : Contents (OpenedFile F)) (opened : AreOpenedFor bytes gives answered false source files) where
     pub first_opened : (found : Result ℕ Refusal) → (AreGiven gives files → IfOk found (IsFirstCommit limits (lent_bytes (contents_of bytes files))))
-        → IfOk found (FirstOpened bytes gives source)
+        → IfOk found (FirstOpened bytes gives answered source)
     first_opened (Ok first) is =
         record { files = files; opened = opened; begins = λ given. subst (λ (l : Bounds). IsFirstCommit l (lent_bytes (contents_of bytes files)) first) same (is given) }
     first_opened (Err _) is = tt
 
     pub first_unopened : (found : Result ℕ Refusal) → (AreGiven gives files → IfErr found (IsNoFirstCommit limits (lent_bytes (contents_of bytes files))))
-        → IfErr found (λ refusal. IsUndiffed bytes gives source refusal ⊎ IsFirstUnopened bytes gives source refusal)
+        → IfErr found (λ refusal. IsUndiffed bytes gives answered source refusal ⊎ IsFirstUnopened bytes gives answered source refusal)
     first_unopened (Ok _) is = tt
     first_unopened (Err refusal) is = inr (record {
       files = files;
@@ -122,13 +124,13 @@ module _ {F : Type 0} (bytes : OpenedFile F → List ℕ) (gives : OpenedFile F 
     })
 
   -- the changes of each commit
-  pub follows : (compared : Compared) (files : Contents (OpenedFile F)) (found : Result Printed Refusal) (before after : Option (List ℕ)) → AreOpenedFor false source files
+  pub follows : (compared : Compared) (files : Contents (OpenedFile F)) (found : Result Printed Refusal) (before after : Option (List ℕ)) → AreOpenedFor bytes gives answered false source files
       → (AreGiven gives files → IfOk found (λ printed. IsHistoryShown source.options (lent_bytes (contents_of bytes files)) compared before after printed.ended))
       → (AreGiven gives files → IfErr found (IsHistoryRefused source.options (lent_bytes (contents_of bytes files)) compared before after))
-      → compared.commits ≡ true → Diffs bytes gives source (Rows compared) found
+      → compared.commits ≡ true → Diffs bytes gives answered source (Rows compared) found
   follows compared files found before after opened shown refused asked =
-      let is : FollowsOpened bytes gives source compared found = record { files = files; opened = opened; shows = λ given. shows found (shown given) (refused given) } in
-      inl (subst (λ (commits : Bool). RowsOpened bytes gives commits source compared found) (sym asked) is)
+      let is : FollowsOpened bytes gives answered source compared found = record { files = files; opened = opened; shows = λ given. shows found (shown given) (refused given) } in
+      inl (subst (λ (commits : Bool). RowsOpened bytes gives answered commits source compared found) (sym asked) is)
     where
       shows : (found : Result Printed Refusal)
           → IfOk found (λ printed. IsHistoryShown source.options (lent_bytes (contents_of bytes files)) compared before after printed.ended)
@@ -139,11 +141,11 @@ module _ {F : Type 0} (bytes : OpenedFile F → List ℕ) (gives : OpenedFile F 
 
   -- those between both
   pub compares : (difference : Difference) (old new : Contents (ReadAhead (OpenedFile F))) (found : Result Printed Refusal)
-      → AreOpenedFor false source (files_ahead old) → AreNew old → AreOpenedFor false source (files_ahead new) → AreNew new
+      → AreOpenedFor bytes gives answered false source (files_ahead old) → AreNew old → AreOpenedFor bytes gives answered false source (files_ahead new) → AreNew new
       → (AreGiven (λ (a : ReadAhead (OpenedFile F)). gives a.file × HoldsPart (bytes a.file) a.from a.held a.piece.items) old
       → AreGiven (λ (a : ReadAhead (OpenedFile F)). gives a.file × HoldsPart (bytes a.file) a.from a.held a.piece.items) new
       → ShowsBetween source.options difference (contents_of bytes (files_ahead old)) (contents_of bytes (files_ahead new)) found)
-      → ComparesOpened bytes gives source difference found
+      → ComparesOpened bytes gives answered source difference found
   compares difference old new found old_opened old_new new_opened new_new shows = record {
     old = files_ahead old;
     new = files_ahead new;
@@ -153,7 +155,7 @@ module _ {F : Type 0} (bytes : OpenedFile F → List ℕ) (gives : OpenedFile F 
   }
 
   -- of rows they are what is printed where each commit's aren't asked for
-  pub rows_compared : (compared : Compared) (found : Result Printed Refusal) → Compares bytes gives source (Rows compared) found → compared.commits ≡ false
-      → Diffs bytes gives source (Rows compared) found
+  pub rows_compared : (compared : Compared) (found : Result Printed Refusal) → Compares bytes gives answered source (Rows compared) found → compared.commits ≡ false
+      → Diffs bytes gives answered source (Rows compared) found
   rows_compared compared found is asked =
-      ⊎_elim (λ shown. inl (subst (λ (commits : Bool). RowsOpened bytes gives commits source compared found) (sym asked) shown)) (λ refused. inr refused) is
+      ⊎_elim (λ shown. inl (subst (λ (commits : Bool). RowsOpened bytes gives answered commits source compared found) (sym asked) shown)) (λ refused. inr refused) is

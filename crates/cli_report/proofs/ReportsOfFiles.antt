@@ -10,6 +10,7 @@ use Rattle.cli_facts.specs.Runs.{expanded}
 use Rattle.cli_facts.specs.declared.outcome.Refusal.{Refusal}
 use Rattle.cli_files.specs.NewFiles.{IsBegunFile}
 use Rattle.cli_files.specs.Refusals.{IsFromSystem, IsFromWatch}
+use Rattle.cli_files.specs.Systems.{Answered}
 use Rattle.cli_files.specs.declared.logs.Beheld.{Beheld}
 use Rattle.cli_files.specs.declared.new_file.NewFile.{NewFile}
 use Rattle.cli_files.specs.declared.opened_file.OpenedFile.{OpenedFile}
@@ -44,23 +45,23 @@ use Rattle.cli_report.specs.declared.pages.Shown.{Shown}
 use Rattle.cli_report.specs.declared.pages.Template.{Template}
 
 -- the facts of what a survey of counted files found are those of the ones that were opened
-pub facts_are : {F M : Type 0} (bytes : OpenedFile F → List ℕ) (gives : OpenedFile F → Type 0) (source : Source) (asked : Asked) (files : Contents (Counted F M)) (found : Found (Counted F M))
+pub facts_are : {F M : Type 0} (bytes : OpenedFile F → List ℕ) (gives : OpenedFile F → Type 0) (answered : Answered) (source : Source) (asked : Asked) (files : Contents (Counted F M)) (found : Found (Counted F M))
     (log : LogFound) (made : Result (ReportFacts (Counted F M)) Refusal)
     → asked.limits ≡ limits_named source.options.large → asked.at ≡ commit_named source.options → asked.maps.pointer_maps ≡ source.options.pointer_maps
-    → AreOpenedFor false source (all_opened files) → AreFresh files
+    → AreOpenedFor bytes gives answered false source (all_opened files) → AreFresh files
     → (AreGiven (λ (file : Counted F M). gives (opened_of file) × HoldsPart (bytes (opened_of file)) file.file.from file.file.held file.file.piece.items) files
     → IsFoundOf asked.maps.pointer_maps asked.limits (λ (file : Counted F M). bytes (opened_of file)) asked.at (contents_of bytes (all_opened files)) found)
-    → IsLogOf bytes gives source log → IfOk made (λ facts. OnlyReads found facts.found) → IfOk made (λ facts. facts.log ≡ log)
-    → IfOk made (λ facts. map (λ used. used.role) (expanded facts.runs.items) ≡ roles_in found) → IfOk made (AreFactsOf bytes gives source)
-facts_are {F} {M} bytes gives source asked files found log (Err refusal) limits at maps opened fresh is shown reads same runs = tt
-facts_are {F} {M} bytes gives source asked files found log (Ok facts) limits at maps opened fresh is shown reads same runs = record {
+    → IsLogOf bytes gives answered source log → IfOk made (λ facts. OnlyReads found facts.found) → IfOk made (λ facts. facts.log ≡ log)
+    → IfOk made (λ facts. map (λ used. used.role) (expanded facts.runs.items) ≡ roles_in found) → IfOk made (AreFactsOf bytes gives answered source)
+facts_are {F} {M} bytes gives answered source asked files found log (Err refusal) limits at maps opened fresh is shown reads same runs = tt
+facts_are {F} {M} bytes gives answered source asked files found log (Ok facts) limits at maps opened fresh is shown reads same runs = record {
   files = all_opened files;
   opened = opened;
   found = found;
   surveyed = as_asked;
   only_reads = reads;
   runs = runs;
-  log = subst (λ (l : LogFound). IsLogOf bytes gives source l) (sym same) shown;
+  log = subst (λ (l : LogFound). IsLogOf bytes gives answered source l) (sym same) shown;
 }
   where
     all : Contents (List ℕ)
@@ -75,9 +76,9 @@ facts_are {F} {M} bytes gives source asked files found log (Ok facts) limits at 
         subst (λ (b : Bool). IsFoundOf b (limits_named source.options.large) (λ (file : Counted F M). bytes (opened_of file)) (commit_named source.options) all found) maps by_commit
 
 -- the pages of what such facts are of were surveyed
-surveyed_of : {F M : Type 0} (bytes : OpenedFile F → List ℕ) (gives : OpenedFile F → Type 0) (source : Source) (facts : ReportFacts (Counted F M)) → AreFactsOf bytes gives source facts
-    → IsSurveyedOf bytes gives source
-surveyed_of {F} {M} bytes gives source facts are = record {
+surveyed_of : {F M : Type 0} (bytes : OpenedFile F → List ℕ) (gives : OpenedFile F → Type 0) (answered : Answered) (source : Source) (facts : ReportFacts (Counted F M)) → AreFactsOf bytes gives answered source facts
+    → IsSurveyedOf bytes gives answered source
+surveyed_of {F} {M} bytes gives answered source facts are = record {
   files = are.files;
   opened = are.opened;
   surveyed = λ given. (
@@ -87,13 +88,13 @@ surveyed_of {F} {M} bytes gives source facts are = record {
 }
 
 -- files that were counted of which nothing is found
-pub unfound_of : {F M : Type 0} (bytes : OpenedFile F → List ℕ) (gives : OpenedFile F → Type 0) (source : Source) (asked : Asked) (files : Contents (Counted F M)) (refusal : Refusal)
+pub unfound_of : {F M : Type 0} (bytes : OpenedFile F → List ℕ) (gives : OpenedFile F → Type 0) (answered : Answered) (source : Source) (asked : Asked) (files : Contents (Counted F M)) (refusal : Refusal)
     → asked.limits ≡ limits_named source.options.large → asked.at ≡ commit_named source.options → asked.maps.pointer_maps ≡ source.options.pointer_maps
-    → AreOpenedFor false source (all_opened files) → AreFresh files
+    → AreOpenedFor bytes gives answered false source (all_opened files) → AreFresh files
     → (AreGiven (λ (file : Counted F M). gives (opened_of file) × HoldsPart (bytes (opened_of file)) file.file.from file.file.held file.file.piece.items) files
     → IsUnfound asked.maps.pointer_maps asked.limits asked.at (contents_of bytes (all_opened files)) refusal)
-    → IsUnreported bytes gives source refusal
-unfound_of {F} {M} bytes gives source asked files refusal limits at maps opened fresh is = inr (inr (inl (record {
+    → IsUnreported bytes gives answered source refusal
+unfound_of {F} {M} bytes gives answered source asked files refusal limits at maps opened fresh is = inr (inr (inl (record {
   files = all_opened files;
   opened = opened;
   refused = λ given. inl (as_asked given);
@@ -108,7 +109,7 @@ unfound_of {F} {M} bytes gives source asked files refusal limits at maps opened 
         let by_commit = subst (λ (o : Commit). IsUnfound asked.maps.pointer_maps (limits_named source.options.large) o all refusal) at by_limits in
         subst (λ (b : Bool). IsUnfound b (limits_named source.options.large) (commit_named source.options) all refusal) maps by_commit
 
-module _ {F A : Type 0} (bytes : OpenedFile F → List ℕ) (gives : OpenedFile F → Type 0) (source : Source) where
+module _ {F A : Type 0} (bytes : OpenedFile F → List ℕ) (gives : OpenedFile F → Type 0) (answered : Answered) (source : Source) where
   -- what is shown stands, or the watch refuses it
   pub shown_stands : (P : A → Type 0) (found answer : Result A Refusal) → IfOk found P → (answer ≡ found) ⊎ IsErrAnd answer IsFromWatch → IfOk answer P
   shown_stands P found answer is = ⊎_elim (λ e. subst (λ (r : Result A Refusal). IfOk r P) (sym e) is) (watched answer)
@@ -117,74 +118,74 @@ module _ {F A : Type 0} (bytes : OpenedFile F → List ℕ) (gives : OpenedFile 
       watched (Ok value) bad = absurd bad
       watched (Err refusal) is = tt
 
-  pub refused_stands : (found answer : Result A Refusal) → IfErr found (IsUnreported bytes gives source) → (answer ≡ found) ⊎ IsErrAnd answer IsFromWatch
-      → IfErr answer (IsUnreported bytes gives source)
-  refused_stands found answer is = ⊎_elim (λ e. subst (λ (r : Result A Refusal). IfErr r (IsUnreported bytes gives source)) (sym e) is) (watched answer)
+  pub refused_stands : (found answer : Result A Refusal) → IfErr found (IsUnreported bytes gives answered source) → (answer ≡ found) ⊎ IsErrAnd answer IsFromWatch
+      → IfErr answer (IsUnreported bytes gives answered source)
+  refused_stands found answer is = ⊎_elim (λ e. subst (λ (r : Result A Refusal). IfErr r (IsUnreported bytes gives answered source)) (sym e) is) (watched answer)
     where
-      watched : (answer : Result A Refusal) → IsErrAnd answer IsFromWatch → IfErr answer (IsUnreported bytes gives source)
+      watched : (answer : Result A Refusal) → IsErrAnd answer IsFromWatch → IfErr answer (IsUnreported bytes gives answered source)
       watched (Ok value) bad = tt
       watched (Err refusal) is = inr (inl is)
 
 -- a log that isn't read of logs that lie beside the file
-pub log_unread : {F A : Type 0} (P : A → Type 0) (bytes : OpenedFile F → List ℕ) (gives : OpenedFile F → Type 0) (source : Source) (found : Beheld) (wal journal : OpenedFile F)
-    (answer : Result A Refusal) → AreLogsOf source.paths source.options.super_journal found wal journal
-    → (gives wal → gives journal → MatchResult answer P (IsUnreadLog (limits_named source.options.large) (bytes wal) (bytes journal))) → IfErr answer (IsUnreported bytes gives source)
-log_unread P bytes gives source found wal journal (Ok value) opened read = tt
-log_unread P bytes gives source found wal journal (Err refusal) opened read =
+pub log_unread : {F A : Type 0} (P : A → Type 0) (bytes : OpenedFile F → List ℕ) (gives : OpenedFile F → Type 0) (answered : Answered) (source : Source) (found : Beheld) (wal journal : OpenedFile F)
+    (answer : Result A Refusal) → AreLogsOf bytes gives answered source.paths source.options.super_journal found wal journal
+    → (gives wal → gives journal → MatchResult answer P (IsUnreadLog (limits_named source.options.large) (bytes wal) (bytes journal))) → IfErr answer (IsUnreported bytes gives answered source)
+log_unread P bytes gives answered source found wal journal (Ok value) opened read = tt
+log_unread P bytes gives answered source found wal journal (Err refusal) opened read =
     inr (inr (inr (record { found = found; wal = wal; journal = journal; opened = opened; unread = read })))
 
 -- the changes of a log that isn't read of opened files
-pub changes_unread : {F A : Type 0} (bytes : OpenedFile F → List ℕ) (gives : OpenedFile F → Type 0) (source : Source) (files : Contents (OpenedFile F)) (answer : Result A Refusal)
-    → AreOpenedFor false source files
+pub changes_unread : {F A : Type 0} (bytes : OpenedFile F → List ℕ) (gives : OpenedFile F → Type 0) (answered : Answered) (source : Source) (files : Contents (OpenedFile F)) (answer : Result A Refusal)
+    → AreOpenedFor bytes gives answered false source files
     → (AreGiven gives files → IfErr answer (IsUnreadLog (limits_named source.options.large) (bytes files.wal) (bytes files.journal)))
-    → IfErr answer (IsUnreported bytes gives source)
-changes_unread bytes gives source files (Ok value) opened read = tt
-changes_unread bytes gives source files (Err refusal) opened read = inr (inr (inl (record { files = files; opened = opened; refused = λ given. inr (read given) })))
+    → IfErr answer (IsUnreported bytes gives answered source)
+changes_unread bytes gives answered source files (Ok value) opened read = tt
+changes_unread bytes gives answered source files (Err refusal) opened read = inr (inr (inl (record { files = files; opened = opened; refused = λ given. inr (read given) })))
 
 -- the log that was found of logs that lie beside the file
-pub log_shown : {F : Type 0} (P : Refusal → Type 0) (bytes : OpenedFile F → List ℕ) (gives : OpenedFile F → Type 0) (source : Source) (found : Beheld) (wal journal : OpenedFile F)
-    (answer : Result LogFound Refusal) → AreLogsOf source.paths source.options.super_journal found wal journal
-    → (gives wal → gives journal → MatchResult answer (IsLogIn (limits_named source.options.large) source.options.front (bytes wal) (bytes journal)) P) → IfOk answer (IsLogOf bytes gives source)
-log_shown P bytes gives source found wal journal (Ok log) opened read = record { found = found; wal = wal; journal = journal; opened = opened; counts = read }
-log_shown P bytes gives source found wal journal (Err refusal) opened read = tt
+pub log_shown : {F : Type 0} (P : Refusal → Type 0) (bytes : OpenedFile F → List ℕ) (gives : OpenedFile F → Type 0) (answered : Answered) (source : Source) (found : Beheld) (wal journal : OpenedFile F)
+    (answer : Result LogFound Refusal) → AreLogsOf bytes gives answered source.paths source.options.super_journal found wal journal
+    → (gives wal → gives journal → MatchResult answer (IsLogIn (limits_named source.options.large) source.options.front (bytes wal) (bytes journal)) P) → IfOk answer (IsLogOf bytes gives answered source)
+log_shown P bytes gives answered source found wal journal (Ok log) opened read = record { found = found; wal = wal; journal = journal; opened = opened; counts = read }
+log_shown P bytes gives answered source found wal journal (Err refusal) opened read = tt
 
 -- the changes that were kept of opened files
-pub changes_are : {F : Type 0} (bytes : OpenedFile F → List ℕ) (gives : OpenedFile F → Type 0) (source : Source) (files : Contents (OpenedFile F)) (answer : Result Kept Refusal)
-    → AreOpenedFor false source files → (AreGiven gives files → IfOk answer (AreChangesIn source.options (contents_of bytes files)))
-    → IfOk answer (λ kept. AreChangesOf bytes gives source true (Some kept))
-changes_are bytes gives source files (Ok kept) opened is = (files, opened, is)
-changes_are bytes gives source files (Err refusal) opened is = tt
+pub changes_are : {F : Type 0} (bytes : OpenedFile F → List ℕ) (gives : OpenedFile F → Type 0) (answered : Answered) (source : Source) (files : Contents (OpenedFile F)) (answer : Result Kept Refusal)
+    → AreOpenedFor bytes gives answered false source files → (AreGiven gives files → IfOk answer (AreChangesIn source.options (contents_of bytes files)))
+    → IfOk answer (λ kept. AreChangesOf bytes gives answered source true (Some kept))
+changes_are bytes gives answered source files (Ok kept) opened is = (files, opened, is)
+changes_are bytes gives answered source files (Err refusal) opened is = tt
 
 -- what the system refuses
-pub refused_by_system : {F A : Type 0} (bytes : OpenedFile F → List ℕ) (gives : OpenedFile F → Type 0) (source : Source) (made : Result A Refusal) → IfErr made IsFromSystem
-    → IfErr made (IsUnreported bytes gives source)
-refused_by_system bytes gives source (Ok value) is = tt
-refused_by_system bytes gives source (Err refusal) is = inr (inl (inr is))
+pub refused_by_system : {F A : Type 0} (bytes : OpenedFile F → List ℕ) (gives : OpenedFile F → Type 0) (answered : Answered) (source : Source) (made : Result A Refusal) → IfErr made IsFromSystem
+    → IfErr made (IsUnreported bytes gives answered source)
+refused_by_system bytes gives answered source (Ok value) is = tt
+refused_by_system bytes gives answered source (Err refusal) is = inr (inl (inr is))
 
 -- a report of what is shown is done, or fails as what is watched does
-pub reports_done : {F M : Type 0} (bytes : OpenedFile F → List ℕ) (gives : OpenedFile F → Type 0) (source : Source) (with_changes : Bool) (shown : Shown (Counted F M)) (answer : Result Answer ShowError)
-    → IsShownOf bytes gives source with_changes shown → IfOk answer (λ a. a ≡ Done) → IfErr answer (IfRefused IsFromWatch) → ReportsTo bytes gives source answer
-reports_done bytes gives source with_changes shown (Ok answer) is done failed = (done, surveyed_of bytes gives source shown.facts is.facts)
-reports_done bytes gives source with_changes shown (Err (errors.Refused refusal)) is done failed = inr (inl failed)
-reports_done bytes gives source with_changes shown (Err errors.Unwritten) is done failed = tt
+pub reports_done : {F M : Type 0} (bytes : OpenedFile F → List ℕ) (gives : OpenedFile F → Type 0) (answered : Answered) (source : Source) (with_changes : Bool) (shown : Shown (Counted F M)) (answer : Result Answer ShowError)
+    → IsShownOf bytes gives answered source with_changes shown → IfOk answer (λ a. a ≡ Done) → IfErr answer (IfRefused IsFromWatch) → ReportsTo bytes gives answered source answer
+reports_done bytes gives answered source with_changes shown (Ok answer) is done failed = (done, surveyed_of bytes gives answered source shown.facts is.facts)
+reports_done bytes gives answered source with_changes shown (Err (errors.Refused refusal)) is done failed = inr (inl failed)
+reports_done bytes gives answered source with_changes shown (Err errors.Unwritten) is done failed = tt
 
 -- the page that was appended of it is one of what is shown of the job's files
-pub page_printed : {R F M : Type 0} (bytes : OpenedFile F → List ℕ) (gives : OpenedFile F → Type 0) (template : Template) (job : Job R M) (with_changes : Bool) (shown : Shown (Counted F M))
-    (answer : Result Answer ShowError) (before after : Option (List ℕ)) → IsShownOf bytes gives job.source.now with_changes shown
-    → OnOk answer (AppendsPage template job.source.now.file.now shown before after) → OnOk answer (PrintsPage bytes gives template job with_changes before after)
-page_printed bytes gives template job with_changes shown (Ok answer) before after is page = (
+pub page_printed : {R F M : Type 0} (bytes : OpenedFile F → List ℕ) (gives : OpenedFile F → Type 0) (answered : Answered) (template : Template) (job : Job R M) (with_changes : Bool) (shown : Shown (Counted F M))
+    (answer : Result Answer ShowError) (before after : Option (List ℕ)) → IsShownOf bytes gives answered job.source.now with_changes shown
+    → OnOk answer (AppendsPage template job.source.now.file.now shown before after) → OnOk answer (PrintsPage bytes gives answered template job with_changes before after)
+page_printed bytes gives answered template job with_changes shown (Ok answer) before after is page = (
   shown,
   is,
   λ wal journal. page (limits_named job.source.now.options.large) job.source.now.options.front (bytes is.facts.log.wal) (bytes is.facts.log.journal) (is.facts.log.counts wal journal),
 )
-page_printed bytes gives template job with_changes shown (Err error) before after is page = tt
+page_printed bytes gives answered template job with_changes shown (Err error) before after is page = tt
 
 -- and so is the verdict
-pub verdict_printed : {R F M : Type 0} (bytes : OpenedFile F → List ℕ) (gives : OpenedFile F → Type 0) (job : Job R M) (with_changes : Bool) (shown : Shown (Counted F M))
-    (answer : Result Answer ShowError) (before after : Option (List ℕ)) → IsShownOf bytes gives job.source.now with_changes shown
-    → OnOk answer (Appends before after (verdict_text job.source.now.options.style shown.facts.found)) → OnOk answer (PrintsVerdict bytes gives job before after)
-verdict_printed bytes gives job with_changes shown (Ok answer) before after is verdict = (shown.facts, is.facts, verdict)
-verdict_printed bytes gives job with_changes shown (Err error) before after is verdict = tt
+pub verdict_printed : {R F M : Type 0} (bytes : OpenedFile F → List ℕ) (gives : OpenedFile F → Type 0) (answered : Answered) (job : Job R M) (with_changes : Bool) (shown : Shown (Counted F M))
+    (answer : Result Answer ShowError) (before after : Option (List ℕ)) → IsShownOf bytes gives answered job.source.now with_changes shown
+    → OnOk answer (Appends before after (verdict_text job.source.now.options.style shown.facts.found)) → OnOk answer (PrintsVerdict bytes gives answered job before after)
+verdict_printed bytes gives answered job with_changes shown (Ok answer) before after is verdict = (shown.facts, is.facts, verdict)
+verdict_printed bytes gives answered job with_changes shown (Err error) before after is verdict = tt
 
 -- a file that gets a name, whatever its permissions
 pub begun_in : {F : Type 0} (to : List ℕ) (mode : ℕ) (answer : Result (NewFile F) Refusal) → IfOk answer (IsBegunFile to mode)
@@ -212,6 +213,6 @@ kept_as_printed P (Ok done) answer is as_printed = on_any answer is
 kept_as_printed P (Err error) answer is as_printed = subst (λ (r : Result Answer ShowError). OnOk r P) (sym as_printed) tt
 
 -- what refuses it while it is told does
-pub reports_refused : {F : Type 0} (bytes : OpenedFile F → List ℕ) (gives : OpenedFile F → Type 0) (source : Source) (refusal told : Refusal) → told ≡ refusal
-    → IsUnreported bytes gives source refusal → IsUnreported bytes gives source told
-reports_refused bytes gives source refusal told same is = subst (λ (r : Refusal). IsUnreported bytes gives source r) (sym same) is
+pub reports_refused : {F : Type 0} (bytes : OpenedFile F → List ℕ) (gives : OpenedFile F → Type 0) (answered : Answered) (source : Source) (refusal told : Refusal) → told ≡ refusal
+    → IsUnreported bytes gives answered source refusal → IsUnreported bytes gives answered source told
+reports_refused bytes gives answered source refusal told same is = subst (λ (r : Refusal). IsUnreported bytes gives answered source r) (sym same) is

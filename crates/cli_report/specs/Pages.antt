@@ -2,6 +2,7 @@
 use Rattle.std.specs.Prelude.{◌≡◌, ℕ, Bool, List, [], ◌++◌, Option, None, Some}
 use Rattle.std.specs.Io.KnownBytes.{Appends}
 use Rattle.cli_files.specs.NewFiles.{IsBegunFile}
+use Rattle.cli_files.specs.Systems.{Answered}
 use Rattle.cli_files.specs.declared.new_file.NewFile.{NewFile}
 use Rattle.cli_files.specs.declared.opened_file.OpenedFile.{OpenedFile}
 use Rattle.cli_show.specs.Limits.{limits_named}
@@ -28,17 +29,17 @@ IsPage template most wal journal file shown text = (parts : Parts) × ArePartsOf
     × (text ≡ template.head.now ++ (report_text template.version.now file shown.facts parts ++ (changes_text template shown.changes ++ template.tail.now)))
 
 -- The page was printed of what is shown of a job's files, by the bytes of the logs that are.
-abbrev pub PrintsPage : {R F M : Type 0} → (bytes : OpenedFile F → List ℕ) → (gives : OpenedFile F → Type 0) → Template → Job R M → (with_changes : Bool)
+abbrev pub PrintsPage : {R F M : Type 0} → (bytes : OpenedFile F → List ℕ) → (gives : OpenedFile F → Type 0) → (answered : Answered) → Template → Job R M → (with_changes : Bool)
     → (before after : Option (List ℕ)) → Type 0
-PrintsPage {R} {F} {M} bytes gives template job with_changes before after =
-    (shown : Shown (Counted F M)) × (is : IsShownOf bytes gives job.source.now with_changes shown)
+PrintsPage {R} {F} {M} bytes gives answered template job with_changes before after =
+    (shown : Shown (Counted F M)) × (is : IsShownOf bytes gives answered job.source.now with_changes shown)
     × (gives is.facts.log.wal → gives is.facts.log.journal → (text : List ℕ)
     × IsPage template (limits_named job.source.now.options.large).frames (bytes is.facts.log.wal) (bytes is.facts.log.journal) job.source.now.file.now shown text
     × Appends before after text)
 
 -- The verdict was printed of what is found of them.
-abbrev pub PrintsVerdict : {R F M : Type 0} → (bytes : OpenedFile F → List ℕ) → (gives : OpenedFile F → Type 0) → Job R M → (before after : Option (List ℕ)) → Type 0
-PrintsVerdict {R} {F} {M} bytes gives job before after = (facts : ReportFacts (Counted F M)) × AreFactsOf bytes gives job.source.now facts
+abbrev pub PrintsVerdict : {R F M : Type 0} → (bytes : OpenedFile F → List ℕ) → (gives : OpenedFile F → Type 0) → (answered : Answered) → Job R M → (before after : Option (List ℕ)) → Type 0
+PrintsVerdict {R} {F} {M} bytes gives answered job before after = (facts : ReportFacts (Counted F M)) × AreFactsOf bytes gives answered job.source.now facts
     × Appends before after (verdict_text job.source.now.options.style facts.found)
 
 -- A file was begun that gets this name.

@@ -5,6 +5,7 @@ use Rattle.sqview.specs.Logs.{AreTwoLogs}
 use Rattle.cli_words.specs.Commits.{commit_named}
 use Rattle.cli_words.specs.declared.requests.Options.{Options}
 use Rattle.cli_facts.specs.Runs.{expanded}
+use Rattle.cli_files.specs.Systems.{Answered}
 use Rattle.cli_files.specs.declared.logs.Beheld.{Beheld}
 use Rattle.cli_files.specs.declared.opened_file.OpenedFile.{OpenedFile}
 use Rattle.cli_show.specs.Contents.{AreGiven, contents_of}
@@ -28,23 +29,23 @@ abbrev pub IsLogIn : Bounds → (front : Option ℕ) → (wal journal : List ℕ
 IsLogIn limits front wal journal log = IsLogFound limits wal journal log ⊎ ((front ≡ Some 0) × (log ≡ logs.None) × AreTwoLogs wal journal)
 
 -- That of logs which were opened beside the file of a source.
-pub record IsLogOf {F : Type 0} (bytes : OpenedFile F → List ℕ) (gives : OpenedFile F → Type 0) (source : Source) (log : LogFound) : Type 0 where
+pub record IsLogOf {F : Type 0} (bytes : OpenedFile F → List ℕ) (gives : OpenedFile F → Type 0) (answered : Answered) (source : Source) (log : LogFound) : Type 0 where
   pub found : Beheld
   pub wal : OpenedFile F
   pub journal : OpenedFile F
-  pub opened : AreLogsOf source.paths source.options.super_journal found wal journal
+  pub opened : AreLogsOf bytes gives answered source.paths source.options.super_journal found wal journal
   pub counts : gives wal → gives journal → IsLogIn (limits_named source.options.large) source.options.front (bytes wal) (bytes journal) log
 
 -- The facts of a report are those of what a survey finds of files that were opened for a source, and of such a log.
-pub record AreFactsOf {F M : Type 0} (bytes : OpenedFile F → List ℕ) (gives : OpenedFile F → Type 0) (source : Source) (facts : ReportFacts (Counted F M)) : Type 0 where
+pub record AreFactsOf {F M : Type 0} (bytes : OpenedFile F → List ℕ) (gives : OpenedFile F → Type 0) (answered : Answered) (source : Source) (facts : ReportFacts (Counted F M)) : Type 0 where
   pub files : Contents (OpenedFile F)
-  pub opened : AreOpenedFor false source files
+  pub opened : AreOpenedFor bytes gives answered false source files
   pub found : Found (Counted F M)
   pub surveyed : AreGiven gives files
       → IsFoundOf source.options.pointer_maps (limits_named source.options.large) (λ file. bytes (opened_of file)) (commit_named source.options) (contents_of bytes files) found
   pub only_reads : OnlyReads found facts.found
   pub runs : map (λ used. used.role) (expanded facts.runs.items) ≡ roles_in found
-  pub log : IsLogOf bytes gives source facts.log
+  pub log : IsLogOf bytes gives answered source facts.log
 
 -- The changes of the commits of files, as far as 4 MiB hold them.
 abbrev pub AreChangesIn : Options → (files : Contents (List ℕ)) → Kept → Type 0
@@ -52,13 +53,13 @@ AreChangesIn options files kept =
     IsHistoryKept (limits_named options.large) (record { db = files.db; wal = files.wal; journal = files.journal }) [] 4194304 (commit_named options) kept
 
 -- Its changes are those of files that were opened; none where they aren't asked for.
-abbrev pub AreChangesOf : {F : Type 0} → (bytes : OpenedFile F → List ℕ) → (gives : OpenedFile F → Type 0) → Source → (asked : Bool) → Option Kept → Type 0
-AreChangesOf bytes gives source false changes = changes ≡ None
-AreChangesOf bytes gives source true None = ⊥
-AreChangesOf {F} bytes gives source true (Some kept) =
-    (files : Contents (OpenedFile F)) × AreOpenedFor false source files × (AreGiven gives files → AreChangesIn source.options (contents_of bytes files) kept)
+abbrev pub AreChangesOf : {F : Type 0} → (bytes : OpenedFile F → List ℕ) → (gives : OpenedFile F → Type 0) → (answered : Answered) → Source → (asked : Bool) → Option Kept → Type 0
+AreChangesOf bytes gives answered source false changes = changes ≡ None
+AreChangesOf bytes gives answered source true None = ⊥
+AreChangesOf {F} bytes gives answered source true (Some kept) =
+    (files : Contents (OpenedFile F)) × AreOpenedFor bytes gives answered false source files × (AreGiven gives files → AreChangesIn source.options (contents_of bytes files) kept)
 
 -- What a report shows of a source: its facts, and where they are asked for the changes of its commits.
-pub record IsShownOf {F M : Type 0} (bytes : OpenedFile F → List ℕ) (gives : OpenedFile F → Type 0) (source : Source) (with_changes : Bool) (shown : Shown (Counted F M)) : Type 0 where
-  pub facts : AreFactsOf bytes gives source shown.facts
-  pub changes : AreChangesOf bytes gives source with_changes shown.changes
+pub record IsShownOf {F M : Type 0} (bytes : OpenedFile F → List ℕ) (gives : OpenedFile F → Type 0) (answered : Answered) (source : Source) (with_changes : Bool) (shown : Shown (Counted F M)) : Type 0 where
+  pub facts : AreFactsOf bytes gives answered source shown.facts
+  pub changes : AreChangesOf bytes gives answered source with_changes shown.changes

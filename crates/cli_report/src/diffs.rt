@@ -14,7 +14,7 @@ use cli_dump::{
     Printed, first_commit, show_changes, show_deleted_changes, show_history, write_first,
 };
 use cli_facts::{Notes, Refusal, SystemFile};
-use cli_files::{Count, OpenedFile};
+use cli_files::{Count, OpenedFile, SystemPaths};
 use cli_history::Files as Lent;
 use cli_job::{Answer, Job, Wants, open_all};
 use cli_show::{Contents, ShowError, limits_of, read_ahead};
@@ -30,7 +30,7 @@ use std::time::Clock;
 /// changed of them against the one before it, or which cells of deleted rows went and came. No file is opened for
 /// writing, and none is made. Refused by `CommitOverwritten` if a later checkpoint may have changed a database that is
 /// compared, and by `FileChanged` where a file changed meanwhile; lines may have been printed then.
-pub fn print_diff<R: Files + AllocGlobal + Clock, M: Count, O: Write, E: Write>(
+pub fn print_diff<R: SystemPaths + AllocGlobal + Clock, M: Count, O: Write, E: Write>(
     job: &Job<'_, R, M>,
     difference: Difference<'_>,
     out: &mut O,
@@ -39,7 +39,7 @@ pub fn print_diff<R: Files + AllocGlobal + Clock, M: Count, O: Write, E: Write>(
 where
     R::File: SystemFile,
     ensures { DiffsTo (opened_bytes R.File.bytes)
-        (GivesBytes R.File.bytes R.File.keeps_word R.File.never_fails) job.entry.now.source.now
+        (GivesBytes R.File.bytes R.File.keeps_word R.File.never_fails) R.answered job.entry.now.source.now
         difference.entry result }
 {
     match BufWriter::with_capacity(job.rt.alloc(), KEPT, out) {
@@ -60,7 +60,7 @@ where
 }
 
 /// What came of printing changes, if the files are as they were before.
-fn changes_standing<R: Files + AllocGlobal + Clock, M: Count, W: Write, E: Write>(
+fn changes_standing<R: SystemPaths + AllocGlobal + Clock, M: Count, W: Write, E: Write>(
     job: &Job<'_, R, M>,
     difference: Difference<'_>,
     out: &mut W,
@@ -69,7 +69,7 @@ fn changes_standing<R: Files + AllocGlobal + Clock, M: Count, W: Write, E: Write
 where
     R::File: SystemFile,
     ensures { DiffsFrom (opened_bytes R.File.bytes)
-        (GivesBytes R.File.bytes R.File.keeps_word R.File.never_fails) job.entry.now.source.now
+        (GivesBytes R.File.bytes R.File.keeps_word R.File.never_fails) R.answered job.entry.now.source.now
         difference.entry result }
 {
     let before = job.before(false, notes)?;
@@ -111,7 +111,7 @@ fn is_overwritten(printed: &Result<Printed, Refusal>) -> bool
 
 /// The result of printing changes from the requested commit. If none is named, and the database at 0 isn't known, they
 /// begin at the first known commit, and the first line names it.
-fn changes_from<R: Files + AllocGlobal + Clock, M: Count, W: Write, E: Write>(
+fn changes_from<R: SystemPaths + AllocGlobal + Clock, M: Count, W: Write, E: Write>(
     job: &Job<'_, R, M>,
     difference: Difference<'_>,
     out: &mut W,
@@ -120,7 +120,7 @@ fn changes_from<R: Files + AllocGlobal + Clock, M: Count, W: Write, E: Write>(
 where
     R::File: SystemFile,
     ensures { DiffsFrom (opened_bytes R.File.bytes)
-        (GivesBytes R.File.bytes R.File.keeps_word R.File.never_fails) job.entry.now.source.now
+        (GivesBytes R.File.bytes R.File.keeps_word R.File.never_fails) R.answered job.entry.now.source.now
         difference.entry result }
 {
     match difference {
@@ -130,7 +130,7 @@ where
 }
 
 /// The result of printing changes of rows.
-fn rows_from<R: Files + AllocGlobal + Clock, M: Count, W: Write, E: Write>(
+fn rows_from<R: SystemPaths + AllocGlobal + Clock, M: Count, W: Write, E: Write>(
     job: &Job<'_, R, M>,
     compared: Compared<'_>,
     out: &mut W,
@@ -139,7 +139,7 @@ fn rows_from<R: Files + AllocGlobal + Clock, M: Count, W: Write, E: Write>(
 where
     R::File: SystemFile,
     ensures { DiffsFrom (opened_bytes R.File.bytes)
-        (GivesBytes R.File.bytes R.File.keeps_word R.File.never_fails) job.entry.now.source.now
+        (GivesBytes R.File.bytes R.File.keeps_word R.File.never_fails) R.answered job.entry.now.source.now
         (Difference.Rows compared.entry) result }
 {
     let printed = changes_now(job, Difference::Rows(compared), out, notes);
@@ -179,18 +179,18 @@ fn not_begun(error: io::Error) -> Printed
 }
 
 /// The first known commit of the log, of files as they are now.
-fn first_known<R: Files + AllocGlobal + Clock, M: Count, E: Write>(
+fn first_known<R: SystemPaths + AllocGlobal + Clock, M: Count, E: Write>(
     job: &Job<'_, R, M>,
     notes: &mut Notes<'_, E>,
 ) -> Result<u32, Refusal>
 where
     R::File: SystemFile,
     ensures first { IfOk result (FirstOpened (opened_bytes R.File.bytes)
-        (GivesBytes R.File.bytes R.File.keeps_word R.File.never_fails) job.entry.now.source.now) }
+        (GivesBytes R.File.bytes R.File.keeps_word R.File.never_fails) R.answered job.entry.now.source.now) }
     ensures refused { IfErr result (λ refusal. IsUndiffed (opened_bytes R.File.bytes)
-        (GivesBytes R.File.bytes R.File.keeps_word R.File.never_fails) job.entry.now.source.now refusal
+        (GivesBytes R.File.bytes R.File.keeps_word R.File.never_fails) R.answered job.entry.now.source.now refusal
         ⊎ IsFirstUnopened (opened_bytes R.File.bytes)
-        (GivesBytes R.File.bytes R.File.keeps_word R.File.never_fails) job.entry.now.source.now refusal) }
+        (GivesBytes R.File.bytes R.File.keeps_word R.File.never_fails) R.answered job.entry.now.source.now refusal) }
 {
     let (paths, options) = (&job.source.paths, job.source.options);
     match open_all(job.rt, paths, options.super_journal, options.front, notes) {
@@ -207,7 +207,7 @@ where
 }
 
 /// The same of files that are opened for it.
-fn changes_now<R: Files + AllocGlobal + Clock, M: Count, W: Write, E: Write>(
+fn changes_now<R: SystemPaths + AllocGlobal + Clock, M: Count, W: Write, E: Write>(
     job: &Job<'_, R, M>,
     difference: Difference<'_>,
     out: &mut W,
@@ -216,7 +216,7 @@ fn changes_now<R: Files + AllocGlobal + Clock, M: Count, W: Write, E: Write>(
 where
     R::File: SystemFile,
     ensures { Diffs (opened_bytes R.File.bytes)
-        (GivesBytes R.File.bytes R.File.keeps_word R.File.never_fails) job.entry.now.source.now
+        (GivesBytes R.File.bytes R.File.keeps_word R.File.never_fails) R.answered job.entry.now.source.now
         difference.entry result }
 {
     match difference {
@@ -231,7 +231,7 @@ where
 }
 
 /// What came of printing what changed between both commits, of files that are opened for each of them.
-fn between_now<R: Files + AllocGlobal + Clock, M: Count, W: Write, E: Write>(
+fn between_now<R: SystemPaths + AllocGlobal + Clock, M: Count, W: Write, E: Write>(
     job: &Job<'_, R, M>,
     difference: Difference<'_>,
     out: &mut W,
@@ -240,7 +240,7 @@ fn between_now<R: Files + AllocGlobal + Clock, M: Count, W: Write, E: Write>(
 where
     R::File: SystemFile,
     ensures { Compares (opened_bytes R.File.bytes)
-        (GivesBytes R.File.bytes R.File.keeps_word R.File.never_fails) job.entry.now.source.now
+        (GivesBytes R.File.bytes R.File.keeps_word R.File.never_fails) R.answered job.entry.now.source.now
         difference.entry result }
 {
     let from = opened(job, notes)?;
@@ -278,7 +278,7 @@ fn show_between<F: FileBytes + Drop, W: Write>(
 }
 
 /// What came of printing what each commit changed.
-fn history_now<R: Files + AllocGlobal + Clock, M: Count, W: Write, E: Write>(
+fn history_now<R: SystemPaths + AllocGlobal + Clock, M: Count, W: Write, E: Write>(
     job: &Job<'_, R, M>,
     compared: Compared<'_>,
     out: &mut W,
@@ -287,7 +287,7 @@ fn history_now<R: Files + AllocGlobal + Clock, M: Count, W: Write, E: Write>(
 where
     R::File: SystemFile,
     ensures { compared.entry.commits ≡ true → Diffs (opened_bytes R.File.bytes)
-        (GivesBytes R.File.bytes R.File.keeps_word R.File.never_fails) job.entry.now.source.now
+        (GivesBytes R.File.bytes R.File.keeps_word R.File.never_fails) R.answered job.entry.now.source.now
         (Difference.Rows compared.entry) result }
 {
     let (paths, options) = (&job.source.paths, job.source.options);
@@ -305,16 +305,18 @@ where
 }
 
 /// The files, opened and read ahead.
-fn opened<'a, R: Files + AllocGlobal, M, E: Write>(
+fn opened<'a, R: SystemPaths + AllocGlobal, M, E: Write>(
     job: &Job<'a, R, M>,
     notes: &mut Notes<'_, E>,
 ) -> Result<Contents<ReadAhead<OpenedFile<'a, R::File>>>, Refusal>
 where
     R::File: SystemFile,
-    ensures opened { IfOk result (λ files. AreOpenedFor false job.entry.now.source.now (files_ahead files)) }
+    ensures opened { IfOk result (λ files. AreOpenedFor (opened_bytes R.File.bytes)
+        (GivesBytes R.File.bytes R.File.keeps_word R.File.never_fails) R.answered false job.entry.now.source.now
+        (files_ahead files)) }
     ensures new { IfOk result AreNew }
     ensures refused { IfErr result (IsUnopenedFor (opened_bytes R.File.bytes)
-        (GivesBytes R.File.bytes R.File.keeps_word R.File.never_fails) job.entry.now.source.now) }
+        (GivesBytes R.File.bytes R.File.keeps_word R.File.never_fails) R.answered job.entry.now.source.now) }
 {
     let (paths, options) = (&job.source.paths, job.source.options);
     match open_all(job.rt, paths, options.super_journal, options.front, notes) {

@@ -1,7 +1,7 @@
 //! Notes on why commits aren't known.
 use cli_dump::overwritten_at;
 use cli_facts::{NoteWriter, Notes, SystemFile};
-use cli_files::Count;
+use cli_files::{Count, SystemPaths};
 use cli_history::Files as Lent;
 use cli_job::{Job, open_all};
 use cli_show::limits_of;
@@ -10,7 +10,6 @@ use sqval::Limits;
 use sqview::FileBytes;
 use std::alloc::Global;
 use std::io::{self, Write};
-use std::rt::Files;
 use std::time::Clock;
 
 /// Notes why a commit isn't known, if it isn't.
@@ -28,7 +27,7 @@ fn tell_at<F: FileBytes + Copy + Drop, E: Write>(
 
 /// Notes why one commit, or two that are compared, aren't known, if they aren't. Only if refusals are explained, and
 /// with `--json`. The files are opened again; nothing is noted if they can't be read.
-pub fn tell_overwritten<R: Files + AllocGlobal + Clock, M: Count, E: Write>(
+pub fn tell_overwritten<R: SystemPaths + AllocGlobal + Clock, M: Count, E: Write>(
     job: &Job<'_, R, M>,
     commits: (u32, Option<u32>),
     notes: &Notes<'_, E>,

@@ -20,7 +20,9 @@ ghost use Rattle.cli_report.specs.internal.Pages.{AppendsPage};
 use crate::pages::{Page, Shown, Template, WRITTEN, made_whole, write_html};
 use cli_dump::{CHANGES_HEAD, CHANGES_TAIL, Kept, keep_history};
 use cli_facts::{Front, NoteWriter, Notes, Refusal, SystemFile};
-use cli_files::{Beside, Count, NewFile, OpenedFile, begin_file, look_at, open_logs, told};
+use cli_files::{
+    Beside, Count, NewFile, OpenedFile, SystemPaths, begin_file, look_at, open_logs, told,
+};
 use cli_history::Files as Lent;
 use cli_job::{Answer, Counted, Job, Wants, judge_name, kept, open_all, wait_for};
 use cli_show::{
@@ -76,13 +78,13 @@ fn log_in<F: FileBytes>(
 }
 
 /// The log that counts of files as they are now. No note is written of it.
-fn log_now<R: Files + AllocGlobal, M>(job: &Job<'_, R, M>) -> Result<LogFound, Refusal>
+fn log_now<R: SystemPaths + AllocGlobal, M>(job: &Job<'_, R, M>) -> Result<LogFound, Refusal>
 where
     R::File: SystemFile,
     ensures shown { IfOk result (IsLogOf (opened_bytes R.File.bytes)
-        (GivesBytes R.File.bytes R.File.keeps_word R.File.never_fails) job.entry.now.source.now) }
+        (GivesBytes R.File.bytes R.File.keeps_word R.File.never_fails) R.answered job.entry.now.source.now) }
     ensures refused { IfErr result (IsUnreported (opened_bytes R.File.bytes)
-        (GivesBytes R.File.bytes R.File.keeps_word R.File.never_fails) job.entry.now.source.now) }
+        (GivesBytes R.File.bytes R.File.keeps_word R.File.never_fails) R.answered job.entry.now.source.now) }
 {
     let (paths, options) = (&job.source.paths, job.source.options);
     let nowhere = NoteWriter::new(io::sink());
@@ -122,13 +124,14 @@ fn changes_in<F: SystemFile>(
 }
 
 /// What the commits of the log changed of files as they are now. No note is written of it.
-fn changes_now<R: Files + AllocGlobal, M>(job: &Job<'_, R, M>) -> Result<Kept, Refusal>
+fn changes_now<R: SystemPaths + AllocGlobal, M>(job: &Job<'_, R, M>) -> Result<Kept, Refusal>
 where
     R::File: SystemFile,
     ensures kept { IfOk result (λ kept. AreChangesOf (opened_bytes R.File.bytes)
-        (GivesBytes R.File.bytes R.File.keeps_word R.File.never_fails) job.entry.now.source.now true (Some kept)) }
+        (GivesBytes R.File.bytes R.File.keeps_word R.File.never_fails) R.answered job.entry.now.source.now true
+        (Some kept)) }
     ensures refused { IfErr result (IsUnreported (opened_bytes R.File.bytes)
-        (GivesBytes R.File.bytes R.File.keeps_word R.File.never_fails) job.entry.now.source.now) }
+        (GivesBytes R.File.bytes R.File.keeps_word R.File.never_fails) R.answered job.entry.now.source.now) }
 {
     let (paths, options) = (&job.source.paths, job.source.options);
     let nowhere = NoteWriter::new(io::sink());
@@ -146,16 +149,16 @@ where
 }
 
 /// What a report of files shows that are as they are now.
-fn facts_now<'a, R: Files + AllocGlobal + Clock, M: Count, E: Write>(
+fn facts_now<'a, R: SystemPaths + AllocGlobal + Clock, M: Count, E: Write>(
     job: &Job<'a, R, M>,
     notes: &mut Notes<'_, E>,
 ) -> Result<ReportFacts<Counted<'a, R::File, M>>, Refusal>
 where
     R::File: SystemFile,
     ensures facts { IfOk result (AreFactsOf (opened_bytes R.File.bytes)
-        (GivesBytes R.File.bytes R.File.keeps_word R.File.never_fails) job.entry.now.source.now) }
+        (GivesBytes R.File.bytes R.File.keeps_word R.File.never_fails) R.answered job.entry.now.source.now) }
     ensures refused { IfErr result (IsUnreported (opened_bytes R.File.bytes)
-        (GivesBytes R.File.bytes R.File.keeps_word R.File.never_fails) job.entry.now.source.now) }
+        (GivesBytes R.File.bytes R.File.keeps_word R.File.never_fails) R.answered job.entry.now.source.now) }
 {
     let asked = asked_of(job.source.options);
     let log = log_now(job)?;
@@ -185,7 +188,7 @@ fn facts_in<F: FileBytes + Drop>(
 }
 
 /// What a page shows of files that are as they are now.
-fn shown_now<'a, R: Files + AllocGlobal + Clock, M: Count, E: Write>(
+fn shown_now<'a, R: SystemPaths + AllocGlobal + Clock, M: Count, E: Write>(
     job: &Job<'a, R, M>,
     with_changes: bool,
     notes: &mut Notes<'_, E>,
@@ -193,9 +196,10 @@ fn shown_now<'a, R: Files + AllocGlobal + Clock, M: Count, E: Write>(
 where
     R::File: SystemFile,
     ensures shown { IfOk result (IsShownOf (opened_bytes R.File.bytes)
-        (GivesBytes R.File.bytes R.File.keeps_word R.File.never_fails) job.entry.now.source.now with_changes) }
+        (GivesBytes R.File.bytes R.File.keeps_word R.File.never_fails) R.answered job.entry.now.source.now
+        with_changes) }
     ensures refused { IfErr result (IsUnreported (opened_bytes R.File.bytes)
-        (GivesBytes R.File.bytes R.File.keeps_word R.File.never_fails) job.entry.now.source.now) }
+        (GivesBytes R.File.bytes R.File.keeps_word R.File.never_fails) R.answered job.entry.now.source.now) }
 {
     let facts = facts_now(job, notes)?;
     if !with_changes {
@@ -214,7 +218,7 @@ where
 }
 
 /// What a page shows of files that don't change meanwhile, once any change is dated later than their last one.
-fn settled<'a, R: Files + AllocGlobal + Clock, M: Count, E: Write>(
+fn settled<'a, R: SystemPaths + AllocGlobal + Clock, M: Count, E: Write>(
     job: &Job<'a, R, M>,
     with_changes: bool,
     notes: &mut Notes<'_, E>,
@@ -222,9 +226,10 @@ fn settled<'a, R: Files + AllocGlobal + Clock, M: Count, E: Write>(
 where
     R::File: SystemFile,
     ensures shown { IfOk result (IsShownOf (opened_bytes R.File.bytes)
-        (GivesBytes R.File.bytes R.File.keeps_word R.File.never_fails) job.entry.now.source.now with_changes) }
+        (GivesBytes R.File.bytes R.File.keeps_word R.File.never_fails) R.answered job.entry.now.source.now
+        with_changes) }
     ensures refused { IfErr result (IsUnreported (opened_bytes R.File.bytes)
-        (GivesBytes R.File.bytes R.File.keeps_word R.File.never_fails) job.entry.now.source.now) }
+        (GivesBytes R.File.bytes R.File.keeps_word R.File.never_fails) R.answered job.entry.now.source.now) }
 {
     let before = job.before(false, notes)?;
     thread::sleep(job.rt, wait_for(job.rt, &before));
@@ -246,7 +251,7 @@ fn front_of<F: FileBytes>(shown: &Result<Shown<F>, Refusal>) -> Option<Front> {
 /// its folder where that can be. To `-`: prints the page instead. Refused as `check` is, by `FileFailed` where a file
 /// lies there or the page is a log of the database, and by `FileChanged` where what is read changed meanwhile. Where it
 /// fails the page is removed.
-pub fn report_to<R: Files + AllocGlobal + Clock, M: Count, O: Write, E: Write>(
+pub fn report_to<R: SystemPaths + AllocGlobal + Clock, M: Count, O: Write, E: Write>(
     job: &Job<'_, R, M>,
     of: (&str, bool),
     out: &mut O,
@@ -255,7 +260,7 @@ pub fn report_to<R: Files + AllocGlobal + Clock, M: Count, O: Write, E: Write>(
 where
     R::File: SystemFile,
     ensures { ReportsTo (opened_bytes R.File.bytes)
-        (GivesBytes R.File.bytes R.File.keeps_word R.File.never_fails) job.entry.now.source.now result }
+        (GivesBytes R.File.bytes R.File.keeps_word R.File.never_fails) R.answered job.entry.now.source.now result }
 {
     match BufWriter::with_capacity(job.rt.alloc(), WRITTEN, out) {
         Ok(mut lines) => write_report(job, &template(), of, &mut lines, notes),
@@ -264,7 +269,7 @@ where
 }
 
 /// The same, a page of this template, to a writer that keeps lines back.
-pub fn write_report<R: Files + AllocGlobal + Clock, M: Count, W: Write, E: Write>(
+pub fn write_report<R: SystemPaths + AllocGlobal + Clock, M: Count, W: Write, E: Write>(
     job: &Job<'_, R, M>,
     template: &Template<'_>,
     of: (&str, bool),
@@ -274,12 +279,12 @@ pub fn write_report<R: Files + AllocGlobal + Clock, M: Count, W: Write, E: Write
 where
     R::File: SystemFile,
     ensures answers { ReportsTo (opened_bytes R.File.bytes)
-        (GivesBytes R.File.bytes R.File.keeps_word R.File.never_fails) job.entry.now.source.now result }
+        (GivesBytes R.File.bytes R.File.keeps_word R.File.never_fails) R.answered job.entry.now.source.now result }
     ensures page { of.entry.0.now ≡ codes "-" → OnOk result (PrintsPage (opened_bytes R.File.bytes)
-        (GivesBytes R.File.bytes R.File.keeps_word R.File.never_fails) template.entry.now job.entry.now of.entry.1
-        (W.contents out.old) (W.contents out.new)) }
+        (GivesBytes R.File.bytes R.File.keeps_word R.File.never_fails) R.answered template.entry.now
+        job.entry.now of.entry.1 (W.contents out.old) (W.contents out.new)) }
     ensures verdict { of.entry.0.now ≢ codes "-" → OnOk result (PrintsVerdict (opened_bytes R.File.bytes)
-        (GivesBytes R.File.bytes R.File.keeps_word R.File.never_fails) job.entry.now
+        (GivesBytes R.File.bytes R.File.keeps_word R.File.never_fails) R.answered job.entry.now
         (W.contents out.old) (W.contents out.new)) }
     ensures begun { of.entry.0.now ≢ codes "-" → OnOk result (IsBegun (opened_bytes R.File.bytes) of.entry.0.now) }
 {
@@ -290,7 +295,7 @@ where
 }
 
 /// Makes the page of what it shows, and prints the verdict; or prints the page.
-fn shown_to<R: Files + AllocGlobal + Clock, M: Count, F: FileBytes, W: Write, E: Write>(
+fn shown_to<R: SystemPaths + AllocGlobal + Clock, M: Count, F: FileBytes, W: Write, E: Write>(
     job: &Job<'_, R, M>,
     template: &Template<'_>,
     of: (&str, &Shown<F>),
@@ -340,7 +345,7 @@ fn print_page<W: Write, F: FileBytes>(
 }
 
 /// A new file for the page.
-pub(crate) fn new_page<'a, R: Files + AllocGlobal + Clock, M: Count, E: Write>(
+pub(crate) fn new_page<'a, R: SystemPaths + AllocGlobal + Clock, M: Count, E: Write>(
     job: &Job<'_, R, M>,
     to: &'a str,
     notes: &mut Notes<'_, E>,
@@ -360,7 +365,7 @@ where
 }
 
 /// Makes the page. Where it fails nothing has the page's name.
-fn make_page<R: Files + AllocGlobal + Clock, M: Count, F: FileBytes, E: Write>(
+fn make_page<R: SystemPaths + AllocGlobal + Clock, M: Count, F: FileBytes, E: Write>(
     job: &Job<'_, R, M>,
     template: &Template<'_>,
     of: (&str, &Shown<F>),

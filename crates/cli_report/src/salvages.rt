@@ -9,7 +9,7 @@ use crate::reports::new_page;
 use crate::rows::write_printed;
 use cli_dump::{Salvaged, show_salvage};
 use cli_facts::{Notes, Refusal, SystemFile};
-use cli_files::{Count, NewFile, told};
+use cli_files::{Count, NewFile, SystemPaths, told};
 use cli_job::{Answer, Job, Wants, named};
 use cli_show::ShowError;
 use cli_show_rows::Stop;
@@ -23,7 +23,7 @@ const WRITTEN: usize = 65_536;
 /// Makes the file `to`, or prints it where that is `-`: a script of SQL of the rows of a database file that can be
 /// read. Neither that file nor its logs are written, and nothing lies at `to` that isn't whole. With `places` the page
 /// and the cell of each row stand in it. Refused as `rows` is, and by `FileFailed` where something lies at `to`.
-pub fn salvage_to<R: Files + AllocGlobal + Clock, M: Count, O: Write, E: Write>(
+pub fn salvage_to<R: SystemPaths + AllocGlobal + Clock, M: Count, O: Write, E: Write>(
     job: &Job<'_, R, M>,
     to: (&str, bool),
     out: &mut O,
@@ -32,7 +32,8 @@ pub fn salvage_to<R: Files + AllocGlobal + Clock, M: Count, O: Write, E: Write>(
 where
     R::File: SystemFile,
     ensures { SalvagesTo (opened_bytes R.File.bytes)
-        (GivesBytes R.File.bytes R.File.keeps_word R.File.never_fails) job.entry.now.source.now to.entry.1 result }
+        (GivesBytes R.File.bytes R.File.keeps_word R.File.never_fails) R.answered job.entry.now.source.now
+        to.entry.1 result }
 {
     match script_to(job, to, out, notes) {
         Ok(Salvaged { ended, .. }) => answer_of(job, ended, out, notes),
@@ -41,7 +42,7 @@ where
 }
 
 /// Prints the script, or makes the file.
-fn script_to<R: Files + AllocGlobal + Clock, M: Count, O: Write, E: Write>(
+fn script_to<R: SystemPaths + AllocGlobal + Clock, M: Count, O: Write, E: Write>(
     job: &Job<'_, R, M>,
     to: (&str, bool),
     out: &mut O,
@@ -50,7 +51,7 @@ fn script_to<R: Files + AllocGlobal + Clock, M: Count, O: Write, E: Write>(
 where
     R::File: SystemFile,
     ensures { IfOk result (λ salvaged. Scripts (opened_bytes R.File.bytes)
-        (GivesBytes R.File.bytes R.File.keeps_word R.File.never_fails) job.entry.now.source.now to.entry.1
+        (GivesBytes R.File.bytes R.File.keeps_word R.File.never_fails) R.answered job.entry.now.source.now to.entry.1
         salvaged.ended) }
 {
     if to.0 == "-" {
@@ -77,7 +78,7 @@ fn answer_of<R, M, O: Write, E: Write>(
 }
 
 /// Writes the script of files as they are now, if they are as they were before.
-fn script_standing<R: Files + AllocGlobal + Clock, M: Count, W: Write, E: Write>(
+fn script_standing<R: SystemPaths + AllocGlobal + Clock, M: Count, W: Write, E: Write>(
     job: &Job<'_, R, M>,
     places: bool,
     out: &mut W,
@@ -86,7 +87,8 @@ fn script_standing<R: Files + AllocGlobal + Clock, M: Count, W: Write, E: Write>
 where
     R::File: SystemFile,
     ensures { IfOk result (λ salvaged. Scripts (opened_bytes R.File.bytes)
-        (GivesBytes R.File.bytes R.File.keeps_word R.File.never_fails) job.entry.now.source.now places salvaged.ended) }
+        (GivesBytes R.File.bytes R.File.keeps_word R.File.never_fails) R.answered job.entry.now.source.now
+        places salvaged.ended) }
 {
     let before = job.before(false, notes)?;
     let salvaged = script_now(job, places, out, notes);
@@ -98,7 +100,7 @@ where
 }
 
 /// The same of files that are opened now.
-fn script_now<R: Files + AllocGlobal + Clock, M: Count, W: Write, E: Write>(
+fn script_now<R: SystemPaths + AllocGlobal + Clock, M: Count, W: Write, E: Write>(
     job: &Job<'_, R, M>,
     places: bool,
     out: &mut W,
@@ -107,7 +109,8 @@ fn script_now<R: Files + AllocGlobal + Clock, M: Count, W: Write, E: Write>(
 where
     R::File: SystemFile,
     ensures { IfOk result (λ salvaged. Scripts (opened_bytes R.File.bytes)
-        (GivesBytes R.File.bytes R.File.keeps_word R.File.never_fails) job.entry.now.source.now places salvaged.ended) }
+        (GivesBytes R.File.bytes R.File.keeps_word R.File.never_fails) R.answered job.entry.now.source.now
+        places salvaged.ended) }
 {
     let options = job.source.options;
     match job.opened(Wants::UNCOUNTED, notes) {
@@ -117,7 +120,7 @@ where
 }
 
 /// Prints the script.
-fn script_printed<R: Files + AllocGlobal + Clock, M: Count, O: Write, E: Write>(
+fn script_printed<R: SystemPaths + AllocGlobal + Clock, M: Count, O: Write, E: Write>(
     job: &Job<'_, R, M>,
     places: bool,
     out: &mut O,
@@ -126,7 +129,8 @@ fn script_printed<R: Files + AllocGlobal + Clock, M: Count, O: Write, E: Write>(
 where
     R::File: SystemFile,
     ensures { IfOk result (λ salvaged. Scripts (opened_bytes R.File.bytes)
-        (GivesBytes R.File.bytes R.File.keeps_word R.File.never_fails) job.entry.now.source.now places salvaged.ended) }
+        (GivesBytes R.File.bytes R.File.keeps_word R.File.never_fails) R.answered job.entry.now.source.now
+        places salvaged.ended) }
 {
     match BufWriter::with_capacity(job.rt.alloc(), WRITTEN, out) {
         Ok(mut lines) => {
@@ -159,7 +163,7 @@ fn whole(salvaged: Result<Salvaged, Refusal>, flushed: io::Result<()>) -> Result
 }
 
 /// Makes the file. Where the script isn't written to its end nothing has its name.
-fn script_made<R: Files + AllocGlobal + Clock, M: Count, E: Write>(
+fn script_made<R: SystemPaths + AllocGlobal + Clock, M: Count, E: Write>(
     job: &Job<'_, R, M>,
     to: (&str, bool),
     notes: &mut Notes<'_, E>,
@@ -167,7 +171,7 @@ fn script_made<R: Files + AllocGlobal + Clock, M: Count, E: Write>(
 where
     R::File: SystemFile,
     ensures { IfOk result (λ salvaged. Scripts (opened_bytes R.File.bytes)
-        (GivesBytes R.File.bytes R.File.keeps_word R.File.never_fails) job.entry.now.source.now to.entry.1
+        (GivesBytes R.File.bytes R.File.keeps_word R.File.never_fails) R.answered job.entry.now.source.now to.entry.1
         salvaged.ended) }
 {
     let mut made = new_page(job, to.0, notes)?;
@@ -197,7 +201,7 @@ where
 }
 
 /// Writes the script to a new file, and finishes that.
-fn script_filled<R: Files + AllocGlobal + Clock, M: Count, E: Write>(
+fn script_filled<R: SystemPaths + AllocGlobal + Clock, M: Count, E: Write>(
     job: &Job<'_, R, M>,
     made: &mut NewFile<'_, R::File>,
     places: bool,
@@ -206,7 +210,8 @@ fn script_filled<R: Files + AllocGlobal + Clock, M: Count, E: Write>(
 where
     R::File: SystemFile,
     ensures { IfOk result (λ salvaged. Scripts (opened_bytes R.File.bytes)
-        (GivesBytes R.File.bytes R.File.keeps_word R.File.never_fails) job.entry.now.source.now places salvaged.ended) }
+        (GivesBytes R.File.bytes R.File.keeps_word R.File.never_fails) R.answered job.entry.now.source.now
+        places salvaged.ended) }
 {
     let salvaged = script_printed(job, places, made, notes);
     let finished = made.finish();

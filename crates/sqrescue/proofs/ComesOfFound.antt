@@ -3,6 +3,7 @@ use Rattle.std.proofs.Common.{◌≡◌, ◌⊎◌, inl, inr, ⊎_elim, ℕ, Lis
 use Rattle.std.specs.Prelude.{Result, Ok, Err, IsErrAnd}
 use Rattle.cli_words.specs.declared.requests.Options.{Options}
 use Rattle.cli_facts.specs.declared.outcome.Refusal.{Refusal}
+use Rattle.cli_files.specs.Systems.{Answered}
 use Rattle.cli_files.specs.declared.opened_file.OpenedFile.{OpenedFile}
 use Rattle.cli_show.specs.Contents.{AreGiven, contents_of}
 use Rattle.cli_show.specs.Found.{fault_in}
@@ -61,13 +62,13 @@ module _ {F : Type 0} (bytes : F → List ℕ) (gives : F → Type 0) (options :
   answers_refused (Deleted all) refusal finds given = inr (finds given)
 
 -- a line couldn't be written
-untold : {F : Type 0} (bytes : OpenedFile F → List ℕ) (gives : OpenedFile F → Type 0) (source : Source) (command : Command) (answer : Result Answer ShowError)
-    → IsUntold answer → Comes bytes gives source command answer
-untold bytes gives source command answer = ⊎_elim (λ e. subst (λ (r : Result Answer ShowError). Comes bytes gives source command r) (sym e) (inr tt))
-    (λ e. subst (λ (r : Result Answer ShowError). Comes bytes gives source command r) (sym e) (inr (inr (inr (inr refl)))))
+untold : {F : Type 0} (bytes : OpenedFile F → List ℕ) (gives : OpenedFile F → Type 0) (answered : Answered) (source : Source) (command : Command) (answer : Result Answer ShowError)
+    → IsUntold answer → Comes bytes gives answered source command answer
+untold bytes gives answered source command answer = ⊎_elim (λ e. subst (λ (r : Result Answer ShowError). Comes bytes gives answered source command r) (sym e) (inr tt))
+    (λ e. subst (λ (r : Result Answer ShowError). Comes bytes gives answered source command r) (sym e) (inr (inr (inr (inr refl)))))
 
-module _ {F M : Type 0} (bytes : OpenedFile F → List ℕ) (gives : OpenedFile F → Type 0) (source : Source) (command : Command) (before after : Option (List ℕ)) where
-  of_found : (found : Finding (Counted F M)) → FindsOpened bytes gives source command (Ok found) before after → Comes bytes gives source command (answer_of_finding command found)
+module _ {F M : Type 0} (bytes : OpenedFile F → List ℕ) (gives : OpenedFile F → Type 0) (answered : Answered) (source : Source) (command : Command) (before after : Option (List ℕ)) where
+  of_found : (found : Finding (Counted F M)) → FindsOpened bytes gives answered source command (Ok found) before after → Comes bytes gives answered source command (answer_of_finding command found)
   of_found found is = inl (record {
     files = all_opened is.files;
     opened = is.opened;
@@ -75,7 +76,7 @@ module _ {F M : Type 0} (bytes : OpenedFile F → List ℕ) (gives : OpenedFile 
         command found is.finds given;
   })
 
-  of_refused : (refusal : Refusal) → FindsOpened {M = M} bytes gives source command (Err refusal) before after → Comes bytes gives source command (Err (Refused refusal))
+  of_refused : (refusal : Refusal) → FindsOpened {M = M} bytes gives answered source command (Err refusal) before after → Comes bytes gives answered source command (Err (Refused refusal))
   of_refused refusal is = inl (record {
     files = all_opened is.files;
     opened = is.opened;
@@ -84,14 +85,14 @@ module _ {F M : Type 0} (bytes : OpenedFile F → List ℕ) (gives : OpenedFile 
   })
 
   -- what was found is answered, or couldn't be told
-  pub comes_of_found : (found : Finding (Counted F M)) (answer : Result Answer ShowError) → Settles bytes gives source command (Ok found) before after
-      → Tells (answer_of_finding command found) answer → Comes bytes gives source command answer
+  pub comes_of_found : (found : Finding (Counted F M)) (answer : Result Answer ShowError) → Settles bytes gives answered source command (Ok found) before after
+      → Tells (answer_of_finding command found) answer → Comes bytes gives answered source command answer
   comes_of_found found answer settles = ⊎_elim
-      (λ e. subst (λ (r : Result Answer ShowError). Comes bytes gives source command r) (sym e) found_comes) (untold bytes gives source command answer)
+      (λ e. subst (λ (r : Result Answer ShowError). Comes bytes gives answered source command r) (sym e) found_comes) (untold bytes gives answered source command answer)
     where
-      found_comes : Comes bytes gives source command (answer_of_finding command found)
+      found_comes : Comes bytes gives answered source command (answer_of_finding command found)
       found_comes = ⊎_elim (⊎_elim (of_found found) (λ bad. absurd bad.0)) (λ bad. absurd bad) settles
 
   -- what refuses it does
-  pub comes_of_refusal : (refusal : Refusal) → Settles {M = M} bytes gives source command (Err refusal) before after → Comes bytes gives source command (Err (Refused refusal))
+  pub comes_of_refusal : (refusal : Refusal) → Settles {M = M} bytes gives answered source command (Err refusal) before after → Comes bytes gives answered source command (Err (Refused refusal))
   comes_of_refusal refusal = ⊎_elim (⊎_elim (of_refused refusal) (λ unopened. inr (inl unopened.0))) (λ watched. inr (inr watched))

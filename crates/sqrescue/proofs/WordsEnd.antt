@@ -9,6 +9,7 @@ use Rattle.cli_facts.specs.declared.status.Status.{Status}
 use Rattle.cli_words.proofs.CommandLineArguments.{words_long}
 use Rattle.cli_each.specs.Lines.{AreFiles, AreLeft, IsApart, texts}
 use Rattle.cli_each.specs.declared.apart.Apart.{Apart}
+use Rattle.cli_files.specs.Systems.{Answered}
 use Rattle.cli_files.specs.declared.opened_file.OpenedFile.{OpenedFile}
 use Rattle.sqrescue.specs.Each.{EndsApart, EndsOne, EndsSeveral, EndsWords, IsLineFor, IsMeant, with_starter}
 use Rattle.sqrescue.specs.Runs.{EndsLine, EndsUnasked}
@@ -20,40 +21,40 @@ pub if_ok : {A E : Type 0} {P Q : A → Type 0} (answer : Result A E) → ((valu
 if_ok (Ok value) so is = so value is
 if_ok (Err error) so is = tt
 
-module _ {F : Type 0} (bytes : OpenedFile F → List ℕ) (gives : OpenedFile F → Type 0) (words : List (List ℕ)) (apart : Apart) (is_apart : IsApart words apart) (named : List (Bor (List ℕ)))
+module _ {F : Type 0} (bytes : OpenedFile F → List ℕ) (gives : OpenedFile F → Type 0) (answered : Answered) (words : List (List ℕ)) (apart : Apart) (is_apart : IsApart words apart) (named : List (Bor (List ℕ)))
     (same : named ≡ apart.words.items) (places : List ℕ) (files : AreFiles (texts named) places) (before after : Option (List ℕ)) where
   are_files : AreFiles (texts apart.words.items) places
   are_files = subst (λ (l : List (Bor (List ℕ))). AreFiles (texts l) places) same files
 
-  ended : {E : Type 0} (answer : Result ℕ E) → IfOk answer (λ code. EndsApart bytes gives apart.one words apart places code before after)
-      → IfOk answer (λ code. EndsWords bytes gives words code before after)
+  ended : {E : Type 0} (answer : Result ℕ E) → IfOk answer (λ code. EndsApart bytes gives answered apart.one words apart places code before after)
+      → IfOk answer (λ code. EndsWords bytes gives answered words code before after)
   ended answer = if_ok answer (λ code ends. (apart, is_apart, (places, are_files, ends)))
 
   -- as it stands
-  as_line : (one : Option ℕ) (code : ℕ) → AreMeant one places Line → EndsLine bytes gives words code before after → EndsApart bytes gives one words apart places code before after
+  as_line : (one : Option ℕ) (code : ℕ) → AreMeant one places Line → EndsLine bytes gives answered words code before after → EndsApart bytes gives answered one words apart places code before after
   as_line (Some number) code none ends = inr (none, ends)
   as_line None code few ends = inl (few, ends)
 
-  pub ends_line : {E : Type 0} (answer : Result ℕ E) → AreMeant apart.one places Line → IfOk answer (λ code. EndsLine bytes gives words code before after)
-      → IfOk answer (λ code. EndsWords bytes gives words code before after)
+  pub ends_line : {E : Type 0} (answer : Result ℕ E) → AreMeant apart.one places Line → IfOk answer (λ code. EndsLine bytes gives answered words code before after)
+      → IfOk answer (λ code. EndsWords bytes gives answered words code before after)
   ends_line answer meant ends = ended answer (if_ok answer (λ code line. as_line apart.one code meant line) ends)
 
   -- with the file that is meant
-  with_one : (one : Option ℕ) (place code : ℕ) → AreMeant one places (One place) → EndsOne bytes gives apart place code → EndsApart bytes gives one words apart places code before after
+  with_one : (one : Option ℕ) (place code : ℕ) → AreMeant one places (One place) → EndsOne bytes gives answered apart place code → EndsApart bytes gives answered one words apart places code before after
   with_one (Some number) place code meant ends = inl (place, meant, ends)
   with_one None place code none ends = absurd none
 
-  pub ends_one : {E : Type 0} (place : ℕ) (answer : Result ℕ E) → AreMeant apart.one places (One place) → IfOk answer (EndsOne bytes gives apart place)
-      → IfOk answer (λ code. EndsWords bytes gives words code before after)
+  pub ends_one : {E : Type 0} (place : ℕ) (answer : Result ℕ E) → AreMeant apart.one places (One place) → IfOk answer (EndsOne bytes gives answered apart place)
+      → IfOk answer (λ code. EndsWords bytes gives answered words code before after)
   ends_one place answer meant ends = ended answer (if_ok answer (λ code one. with_one apart.one place code meant one) ends)
 
   -- with each of several
-  with_each : (one : Option ℕ) (code : ℕ) → AreMeant one places Each → EndsSeveral bytes gives apart places code → EndsApart bytes gives one words apart places code before after
+  with_each : (one : Option ℕ) (code : ℕ) → AreMeant one places Each → EndsSeveral bytes gives answered apart places code → EndsApart bytes gives answered one words apart places code before after
   with_each (Some number) code none ends = absurd none
   with_each None code many ends = inr (many, ends)
 
-  pub ends_several : {E : Type 0} (answer : Result ℕ E) → AreMeant apart.one places Each → IfOk answer (EndsSeveral bytes gives apart places)
-      → IfOk answer (λ code. EndsWords bytes gives words code before after)
+  pub ends_several : {E : Type 0} (answer : Result ℕ E) → AreMeant apart.one places Each → IfOk answer (EndsSeveral bytes gives answered apart places)
+      → IfOk answer (λ code. EndsWords bytes gives answered words code before after)
   ends_several answer meant ends = ended answer (if_ok answer (λ code several. with_each apart.one code meant several) ends)
 
 pub many_meant : (one : Option ℕ) (places : List ℕ) → AreMeant one places Each → 2 ≤ length places
@@ -86,11 +87,11 @@ pub line_of_left : (starter : Option (Bor (List ℕ) × Bor (List ℕ))) (ws : L
 line_of_left starter ws place left line are is = (left, subst (λ (n : ℕ). AreLeft (texts ws) place n left) (sym (words_long ws)) are, is)
 
 -- the line of the first file, whose words ask for nothing
-pub ends_untold : {F : Type 0} (bytes : OpenedFile F → List ℕ) (gives : OpenedFile F → Type 0) (apart : Apart) (places : List ℕ) (place : ℕ) (named line words : List (Bor (List ℕ))) (status : Status)
+pub ends_untold : {F : Type 0} (bytes : OpenedFile F → List ℕ) (gives : OpenedFile F → Type 0) (answered : Answered) (apart : Apart) (places : List ℕ) (place : ℕ) (named line words : List (Bor (List ℕ))) (status : Status)
     (code : ℕ) → named ≡ apart.words.items → slice_get places 0 ≡ Some place → IsLineFor apart.starter (texts named) place (texts line)
     → ((word : List ℕ) → Contains (texts words) word → Contains (texts line) word) → EndsUnasked (texts words) status → code ≡ status_code status
-    → EndsSeveral bytes gives apart places code
-ends_untold bytes gives apart places place named line words status code same first is only unasked coded = inr (inl (
+    → EndsSeveral bytes gives answered apart places code
+ends_untold bytes gives answered apart places place named line words status code same first is only unasked coded = inr (inl (
   place,
   first,
   (
@@ -101,11 +102,11 @@ ends_untold bytes gives apart places place named line words status code same fir
 ))
 
 -- the line of one file
-pub one_ends : {F E : Type 0} (bytes : OpenedFile F → List ℕ) (gives : OpenedFile F → Type 0) (apart : Apart) (place : ℕ) (named line given : List (Bor (List ℕ))) (before after : Option (List ℕ))
+pub one_ends : {F E : Type 0} (bytes : OpenedFile F → List ℕ) (gives : OpenedFile F → Type 0) (answered : Answered) (apart : Apart) (place : ℕ) (named line given : List (Bor (List ℕ))) (before after : Option (List ℕ))
     (answer : Result ℕ E) → named ≡ apart.words.items → given ≡ line → IsLineFor apart.starter (texts named) place (texts line)
-    → IfOk answer (λ code. EndsLine bytes gives (texts given) code before after) → IfOk answer (EndsOne bytes gives apart place)
-one_ends bytes gives apart place named line given before after answer same as_given is ends = if_ok answer (λ code ended. (
+    → IfOk answer (λ code. EndsLine bytes gives answered (texts given) code before after) → IfOk answer (EndsOne bytes gives answered apart place)
+one_ends bytes gives answered apart place named line given before after answer same as_given is ends = if_ok answer (λ code ended. (
   texts line,
   subst (λ (l : List (Bor (List ℕ))). IsLineFor apart.starter (texts l) place (texts line)) same is,
-  (before, after, subst (λ (l : List (Bor (List ℕ))). EndsLine bytes gives (texts l) code before after) as_given ended),
+  (before, after, subst (λ (l : List (Bor (List ℕ))). EndsLine bytes gives answered (texts l) code before after) as_given ended),
 )) ends

@@ -8,6 +8,7 @@ use Rattle.cli_words.specs.declared.requests.Options.{Options}
 use Rattle.cli_words.specs.declared.requests.Part.{Part}
 use Rattle.cli_show_rows.specs.declared.stop.Stop.{Stop}
 use Rattle.cli_files.specs.Refusals.{IsFromWatch}
+use Rattle.cli_files.specs.Systems.{Answered}
 use Rattle.cli_files.specs.declared.opened_file.OpenedFile.{OpenedFile}
 use Rattle.cli_show.specs.Contents.{AreGiven, contents_of}
 use Rattle.cli_show.specs.Errors.{IfRefused}
@@ -81,17 +82,17 @@ Answers (Places table) options files answer = AnswersPlaces table options files 
 Answers (Deleted all) options files answer = AnswersDeleted all options files answer
 
 -- It answers so of files that were opened for its source, once they give their bytes.
-pub record AnswersOpened {F : Type 0} (bytes : OpenedFile F → List ℕ) (gives : OpenedFile F → Type 0) (source : Source) (command : Command)
+pub record AnswersOpened {F : Type 0} (bytes : OpenedFile F → List ℕ) (gives : OpenedFile F → Type 0) (answered : Answered) (source : Source) (command : Command)
     (answer : Result Answer ShowError) : Type 0 where
   pub files : Contents (OpenedFile F)
-  pub opened : AreOpenedFor (reads_logs command) source files
+  pub opened : AreOpenedFor bytes gives answered (reads_logs command) source files
   pub answers : AreGiven gives files → Answers command source.options (contents_of bytes files) answer
 
 -- none is opened, or the files, which are watched, changed
-abbrev pub IsUnread : {F : Type 0} → (bytes : OpenedFile F → List ℕ) → (gives : OpenedFile F → Type 0) → Source → Refusal → Type 0
-IsUnread bytes gives source refusal = IsUnopenedFor bytes gives source refusal ⊎ IsFromWatch refusal
+abbrev pub IsUnread : {F : Type 0} → (bytes : OpenedFile F → List ℕ) → (gives : OpenedFile F → Type 0) → (answered : Answered) → Source → Refusal → Type 0
+IsUnread bytes gives answered source refusal = IsUnopenedFor bytes gives answered source refusal ⊎ IsFromWatch refusal
 
 -- What a command comes to: that; or it is refused as none is opened or one changed, or a line couldn't be written.
-abbrev pub Comes : {F : Type 0} → (bytes : OpenedFile F → List ℕ) → (gives : OpenedFile F → Type 0) → Source → Command → Result Answer ShowError → Type 0
-Comes bytes gives source command answer = AnswersOpened bytes gives source command answer
-    ⊎ IsErrAnd answer (λ error. IfRefused (IsUnread bytes gives source) error)
+abbrev pub Comes : {F : Type 0} → (bytes : OpenedFile F → List ℕ) → (gives : OpenedFile F → Type 0) → (answered : Answered) → Source → Command → Result Answer ShowError → Type 0
+Comes bytes gives answered source command answer = AnswersOpened bytes gives answered source command answer
+    ⊎ IsErrAnd answer (λ error. IfRefused (IsUnread bytes gives answered source) error)

@@ -1,6 +1,7 @@
 -- With which of its files a line is carried out, and how it ends with one more (own).
 use Rattle.std.specs.Prelude.{◌≡◌, ◌⊎◌, ◌↔◌, IsTrue, ℕ, ◌<◌, ◌≤◌, List, length, Option, None, Some}
 use Rattle.cli_each.specs.declared.apart.Apart.{Apart}
+use Rattle.cli_files.specs.Systems.{Answered}
 use Rattle.cli_files.specs.declared.opened_file.OpenedFile.{OpenedFile}
 use Rattle.sqrescue.specs.Each.{EndsOne, IsMeant}
 use Rattle.sqrescue.specs.declared.each.Ended.{Ended}
@@ -24,5 +25,5 @@ pub record IsMore (code : ℕ) (before after : Ended) : Type 0 where
   pub damaged : IsTrue after.is_damaged ↔ (IsTrue before.is_damaged ⊎ (code ≡ 1))
 
 -- The line with the file at this place ends with a number, which is one more.
-abbrev pub EndsMore : {F : Type 0} → (bytes : OpenedFile F → List ℕ) → (gives : OpenedFile F → Type 0) → Apart → (place : ℕ) → (before after : Ended) → Type 0
-EndsMore bytes gives apart place before after = (code : ℕ) × EndsOne bytes gives apart place code × IsMore code before after
+abbrev pub EndsMore : {F : Type 0} → (bytes : OpenedFile F → List ℕ) → (gives : OpenedFile F → Type 0) → (answered : Answered) → Apart → (place : ℕ) → (before after : Ended) → Type 0
+EndsMore bytes gives answered apart place before after = (code : ℕ) × EndsOne bytes gives answered apart place code × IsMore code before after

@@ -9,6 +9,7 @@ use Rattle.cli_held.specs.Prepared.{IsPrepared}
 use Rattle.cli_held.specs.Todo.{texts}
 use Rattle.cli_held.specs.declared.todo.Todo.{Todo}
 use Rattle.cli_held.specs.declared.todo.Todo.TheVariants.{Run, Tell, Refuse}
+use Rattle.cli_files.specs.Systems.{Answered}
 use Rattle.cli_files.specs.declared.opened_file.OpenedFile.{OpenedFile}
 use Rattle.cli_show.specs.declared.error.ShowError.{ShowError}
 use Rattle.cli_show.specs.declared.error.ShowError.TheVariants as errors
@@ -54,17 +55,17 @@ task_of requests.Version = tasks.Version
 
 -- What it comes to: what is read as its reading does; a recovery in place as what was planned of the file, of which the
 -- outcome is printed; the version is printed, or couldn't be.
-abbrev pub ComesBy : {F : Type 0} → (bytes : OpenedFile F → List ℕ) → (gives : OpenedFile F → Type 0) → Task → Result Answer ShowError
+abbrev pub ComesBy : {F : Type 0} → (bytes : OpenedFile F → List ℕ) → (gives : OpenedFile F → Type 0) → (answered : Answered) → Task → Result Answer ShowError
     → (before after : Option (List ℕ)) → Type 0
-ComesBy bytes gives (tasks.Read read) answer before after = IsRead bytes gives read answer
-ComesBy bytes gives (tasks.Recover file force options) answer before after = RecoversTo bytes gives file.now options answer before after
-ComesBy bytes gives tasks.Version answer before after = Tells (Ok answers.Done) answer
+ComesBy bytes gives answered (tasks.Read read) answer before after = IsRead bytes gives answered read answer
+ComesBy bytes gives answered (tasks.Recover file force options) answer before after = RecoversTo bytes gives answered file.now options answer before after
+ComesBy bytes gives answered tasks.Version answer before after = Tells (Ok answers.Done) answer
 
 -- under these locks, or without them as it is refused
-abbrev pub ComesUnder : {F : Type 0} → (bytes : OpenedFile F → List ℕ) → (gives : OpenedFile F → Type 0) → Under → Request → Result Answer ShowError
+abbrev pub ComesUnder : {F : Type 0} → (bytes : OpenedFile F → List ℕ) → (gives : OpenedFile F → Type 0) → (answered : Answered) → Under → Request → Result Answer ShowError
     → (before after : Option (List ℕ)) → Type 0
-ComesUnder bytes gives (under.Locks locks wait) request answer before after = ComesBy bytes gives (task_of request) answer before after
-ComesUnder bytes gives (under.Refused refusal) request answer before after = answer ≡ Err (errors.Refused refusal)
+ComesUnder bytes gives answered (under.Locks locks wait) request answer before after = ComesBy bytes gives answered (task_of request) answer before after
+ComesUnder bytes gives answered (under.Refused refusal) request answer before after = answer ≡ Err (errors.Refused refusal)
 
 -- a word by which help may be asked for: its name, or an option with an h
 abbrev pub MayAskHelp : (word : List ℕ) → Type 0
@@ -81,34 +82,34 @@ EndsUnasked words statuses.NotUnderstood = Unit {0}
 EndsUnasked words statuses.Refused = Unit {0}
 
 -- A run whose words ask for something ends as that comes to; where it is done, what it prints is all that is printed.
-pub record EndsAsked {F : Type 0} (bytes : OpenedFile F → List ℕ) (gives : OpenedFile F → Type 0) (locks : Under) (words : List (List ℕ)) (status : Status)
+pub record EndsAsked {F : Type 0} (bytes : OpenedFile F → List ℕ) (gives : OpenedFile F → Type 0) (answered : Answered) (locks : Under) (words : List (List ℕ)) (status : Status)
     (before after : Option (List ℕ)) : Type 0 where
   pub request : Request
   pub asks : Asks words request
   pub answer : Result Answer ShowError
   pub printed : Option (List ℕ)
-  pub comes : ComesUnder bytes gives locks request answer before printed
+  pub comes : ComesUnder bytes gives answered locks request answer before printed
   pub ends : status ≡ status_named answer
   pub all : answer ≡ Ok answers.Done → after ≡ printed
 
 -- How a run ends: so, or as its words ask for nothing.
-abbrev pub Ends : {F : Type 0} → (bytes : OpenedFile F → List ℕ) → (gives : OpenedFile F → Type 0) → Under → (words : List (List ℕ)) → Status
+abbrev pub Ends : {F : Type 0} → (bytes : OpenedFile F → List ℕ) → (gives : OpenedFile F → Type 0) → (answered : Answered) → Under → (words : List (List ℕ)) → Status
     → (before after : Option (List ℕ)) → Type 0
-Ends bytes gives locks words status before after = EndsAsked bytes gives locks words status before after ⊎ EndsUnasked words status
+Ends bytes gives answered locks words status before after = EndsAsked bytes gives answered locks words status before after ⊎ EndsUnasked words status
 
 -- with this number
-abbrev pub EndsBy : {F : Type 0} → (bytes : OpenedFile F → List ℕ) → (gives : OpenedFile F → Type 0) → Under → (words : List (List ℕ)) → (code : ℕ)
+abbrev pub EndsBy : {F : Type 0} → (bytes : OpenedFile F → List ℕ) → (gives : OpenedFile F → Type 0) → (answered : Answered) → Under → (words : List (List ℕ)) → (code : ℕ)
     → (before after : Option (List ℕ)) → Type 0
-EndsBy bytes gives locks words code before after = (status : Status) × Ends bytes gives locks words status before after × (code ≡ status_code status)
+EndsBy bytes gives answered locks words code before after = (status : Status) × Ends bytes gives answered locks words status before after × (code ≡ status_code status)
 
 -- What is to be done with a line ends so.
-abbrev pub DoesTodo : {F : Type 0} → (bytes : OpenedFile F → List ℕ) → (gives : OpenedFile F → Type 0) → Todo → (code : ℕ)
+abbrev pub DoesTodo : {F : Type 0} → (bytes : OpenedFile F → List ℕ) → (gives : OpenedFile F → Type 0) → (answered : Answered) → Todo → (code : ℕ)
     → (before after : Option (List ℕ)) → Type 0
-DoesTodo bytes gives (Run words locks wait) code before after = EndsBy bytes gives (under.Locks locks wait) (texts words.items) code before after
-DoesTodo bytes gives (Tell line) code before after = (code ≡ 0) ⊎ (code ≡ 3)
-DoesTodo bytes gives (Refuse words why) code before after = EndsBy bytes gives (under.Refused (refusal_of why)) (texts words.items) code before after
+DoesTodo bytes gives answered (Run words locks wait) code before after = EndsBy bytes gives answered (under.Locks locks wait) (texts words.items) code before after
+DoesTodo bytes gives answered (Tell line) code before after = (code ≡ 0) ⊎ (code ≡ 3)
+DoesTodo bytes gives answered (Refuse words why) code before after = EndsBy bytes gives answered (under.Refused (refusal_of why)) (texts words.items) code before after
 
 -- How the program ends whose line names one file.
-abbrev pub EndsLine : {F : Type 0} → (bytes : OpenedFile F → List ℕ) → (gives : OpenedFile F → Type 0) → (words : List (List ℕ)) → (code : ℕ)
+abbrev pub EndsLine : {F : Type 0} → (bytes : OpenedFile F → List ℕ) → (gives : OpenedFile F → Type 0) → (answered : Answered) → (words : List (List ℕ)) → (code : ℕ)
     → (before after : Option (List ℕ)) → Type 0
-EndsLine bytes gives words code before after = (todo : Todo) × IsPrepared words todo × DoesTodo bytes gives todo code before after
+EndsLine bytes gives answered words code before after = (todo : Todo) × IsPrepared words todo × DoesTodo bytes gives answered todo code before after

@@ -9,7 +9,7 @@ use crate::checking::write_checked;
 use crate::hints::step_after_finding;
 use crate::pages::write_surveyed;
 use cli_facts::{Front, Notes, Quoted, Refusal, SystemFile};
-use cli_files::{Count, Paths, tell_counts};
+use cli_files::{Count, Paths, SystemPaths, tell_counts};
 use cli_job::{Answer, Command, Finding, Job};
 use cli_report::{KEPT, write_printed};
 use cli_show::ShowError;
@@ -24,7 +24,7 @@ use std::time::Clock;
 /// Carries out a command that reads the files of a database, and prints what it finds. No file is opened for writing,
 /// and none is made. Refused by `FileChanged` where a file changed meanwhile; of a part that is shown and of rows,
 /// lines may have been printed then.
-pub(crate) fn answered<R: Files + AllocGlobal + Clock, M: Count, O: Write, E: Write>(
+pub(crate) fn answered<R: SystemPaths + AllocGlobal + Clock, M: Count, O: Write, E: Write>(
     job: &Job<'_, R, M>,
     command: &Command<'_>,
     out: &mut O,
@@ -33,6 +33,7 @@ pub(crate) fn answered<R: Files + AllocGlobal + Clock, M: Count, O: Write, E: Wr
 where
     R::File: SystemFile,
     ensures { Comes (opened_bytes R.File.bytes) (GivesBytes R.File.bytes R.File.keeps_word R.File.never_fails)
+        R.answered
         job.entry.now.source.now command.entry.now result }
 {
     let of = (job.rt.alloc(), job.source.options.style);

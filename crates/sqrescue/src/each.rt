@@ -13,6 +13,7 @@ use crate::program::{told, unasked};
 use cli_args::request;
 use cli_each::{Apart, files_of, line_of, taken_apart};
 use cli_facts::SystemFile;
+use cli_files::SystemPaths;
 use cli_words::asks_complete;
 use std::alloc::{AllocError, Global};
 use std::io::{self, IsTerminal, Write};
@@ -21,7 +22,7 @@ use std::time::Clock;
 
 /// Carries out a command line, and answers the program's status. If it names several files, this is the greatest of
 /// theirs, or 1 for damage. Each line that is printed for one of several names it. An error for want of memory.
-pub(crate) fn answered<R: Files + AllocGlobal + Clock, O: Write, E: Write + IsTerminal>(
+pub(crate) fn answered<R: SystemPaths + AllocGlobal + Clock, O: Write, E: Write + IsTerminal>(
     rt: &R,
     words: &[&str],
     out: &mut O,
@@ -30,7 +31,7 @@ pub(crate) fn answered<R: Files + AllocGlobal + Clock, O: Write, E: Write + IsTe
 where
     R::File: SystemFile,
     ensures ends { IfOk result (λ code. EndsWords (opened_bytes R.File.bytes)
-        (GivesBytes R.File.bytes R.File.keeps_word R.File.never_fails) (texts words.entry.now) code
+        (GivesBytes R.File.bytes R.File.keeps_word R.File.never_fails) R.answered (texts words.entry.now) code
         (O.contents out.old) (O.contents out.new)) }
     ensures least { IfOk result (λ status. status ≤ 3) }
 {
@@ -82,7 +83,7 @@ fn place_of(files: &[usize], number: usize) -> Option<usize>
 }
 
 /// Carries out the line with each of its files. Words that aren't understood are told once, and of no file.
-fn several<R: Files + AllocGlobal + Clock, O: Write, E: Write + IsTerminal>(
+fn several<R: SystemPaths + AllocGlobal + Clock, O: Write, E: Write + IsTerminal>(
     rt: &R,
     apart: &Apart<'_>,
     places: &[usize],
@@ -93,7 +94,7 @@ where
     R::File: SystemFile,
     requires { 2 ≤ length places.now }
     ensures ends { IfOk result (EndsSeveral (opened_bytes R.File.bytes)
-        (GivesBytes R.File.bytes R.File.keeps_word R.File.never_fails) apart.entry.now places.entry.now) }
+        (GivesBytes R.File.bytes R.File.keeps_word R.File.never_fails) R.answered apart.entry.now places.entry.now) }
     ensures least { IfOk result (λ status. status ≤ 3) }
 {
     let alloc = rt.alloc();
@@ -181,7 +182,7 @@ fn started<'a>(
 }
 
 /// Carries out the line with one of its files, of which each line that is printed says that it is.
-fn one_of<R: Files + AllocGlobal + Clock, O: Write, E: Write + IsTerminal>(
+fn one_of<R: SystemPaths + AllocGlobal + Clock, O: Write, E: Write + IsTerminal>(
     rt: &R,
     apart: &Apart<'_>,
     place: usize,
@@ -191,7 +192,7 @@ fn one_of<R: Files + AllocGlobal + Clock, O: Write, E: Write + IsTerminal>(
 where
     R::File: SystemFile,
     ensures ends { IfOk result (EndsOne (opened_bytes R.File.bytes)
-        (GivesBytes R.File.bytes R.File.keeps_word R.File.never_fails) apart.entry.now place) }
+        (GivesBytes R.File.bytes R.File.keeps_word R.File.never_fails) R.answered apart.entry.now place) }
     ensures least { IfOk result (λ status. status ≤ 3) }
 {
     let line = line_for(rt.alloc(), apart.starter, apart.words.as_slice(), place)?;
@@ -239,7 +240,7 @@ impl Ended {
 
 /// Carries out the line with each of its files, one after another, and answers the greatest status; if all is to be
 /// judged, and one is damaged, 1 for damage.
-fn each_of<R: Files + AllocGlobal + Clock, O: Write, E: Write + IsTerminal>(
+fn each_of<R: SystemPaths + AllocGlobal + Clock, O: Write, E: Write + IsTerminal>(
     rt: &R,
     apart: &Apart<'_>,
     places: &[usize],
@@ -250,7 +251,7 @@ where
     R::File: SystemFile,
     requires { 1 ≤ length places.now }
     ensures ends { IfOk result (EndsEach (opened_bytes R.File.bytes)
-        (GivesBytes R.File.bytes R.File.keeps_word R.File.never_fails) apart.entry.now places.entry.now) }
+        (GivesBytes R.File.bytes R.File.keeps_word R.File.never_fails) R.answered apart.entry.now places.entry.now) }
     ensures least { IfOk result (λ status. status ≤ 3) }
 {
     let complete = asks_complete(apart.words.as_slice());
@@ -265,7 +266,7 @@ where
 }
 
 /// Carries out the line with one more of its files, at this place, and answers how it ended with those before.
-fn one_more<R: Files + AllocGlobal + Clock, O: Write, E: Write + IsTerminal>(
+fn one_more<R: SystemPaths + AllocGlobal + Clock, O: Write, E: Write + IsTerminal>(
     rt: &R,
     apart: &Apart<'_>,
     more: (usize, Ended),
@@ -275,7 +276,7 @@ fn one_more<R: Files + AllocGlobal + Clock, O: Write, E: Write + IsTerminal>(
 where
     R::File: SystemFile,
     ensures ends { IfOk result (EndsMore (opened_bytes R.File.bytes)
-        (GivesBytes R.File.bytes R.File.keeps_word R.File.never_fails) apart.entry.now more.0 more.1) }
+        (GivesBytes R.File.bytes R.File.keeps_word R.File.never_fails) R.answered apart.entry.now more.0 more.1) }
     ensures least { more.1.greatest ≤ 3 → IfOk result (λ ended. ended.greatest ≤ 3) }
 {
     let (place, ended) = more;

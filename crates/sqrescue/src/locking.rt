@@ -8,6 +8,7 @@ ghost use Rattle.sqrescue.specs.Runs.{EndsLine};
 
 use crate::program::{self, Under};
 use cli_facts::{Refusal, SystemFile};
+use cli_files::SystemPaths;
 use cli_held::{Todo, Why, prepared};
 use std::io::{self, IsTerminal, Write};
 use std::rt::Files;
@@ -27,7 +28,7 @@ fn refusal_of(why: Why) -> Refusal
 /// Carries out a command line under the locks that the process holds, and answers the program's status; where the words
 /// ask for that, it only says which locks they want, and where those can't be had, it refuses. An error for want of
 /// memory.
-pub(crate) fn answered<R: Files + AllocGlobal + Clock, O: Write, E: Write + IsTerminal>(
+pub(crate) fn answered<R: SystemPaths + AllocGlobal + Clock, O: Write, E: Write + IsTerminal>(
     rt: &R,
     words: &[&str],
     out: &mut O,
@@ -36,7 +37,7 @@ pub(crate) fn answered<R: Files + AllocGlobal + Clock, O: Write, E: Write + IsTe
 where
     R::File: SystemFile,
     ensures ends { IfOk result (λ code. EndsLine (opened_bytes R.File.bytes)
-        (GivesBytes R.File.bytes R.File.keeps_word R.File.never_fails) (texts words.entry.now) code
+        (GivesBytes R.File.bytes R.File.keeps_word R.File.never_fails) R.answered (texts words.entry.now) code
         (O.contents out.old) (O.contents out.new)) }
     ensures least { IfOk result (λ status. status ≤ 3) }
 {

@@ -20,6 +20,7 @@ mod unread;
 
 use crate::output::Output;
 use cli_facts::SystemFile;
+use cli_files::SystemPaths;
 use std::env::{self, Env};
 use std::io::{self, IsTerminal, Write};
 use std::process::ExitCode;
@@ -27,7 +28,7 @@ use std::rt::Files;
 use std::time::Clock;
 
 /// Reads the words and carries them out.
-fn answer<R: Env + Files + AllocGlobal + Clock, O: Write, E: Write + IsTerminal>(
+fn answer<R: Env + SystemPaths + AllocGlobal + Clock, O: Write, E: Write + IsTerminal>(
     rt: &R,
     out: &mut O,
     err: &mut E,
@@ -35,7 +36,7 @@ fn answer<R: Env + Files + AllocGlobal + Clock, O: Write, E: Write + IsTerminal>
 where
     R::File: SystemFile,
     ensures ends { IfOk result (λ code. (words : List (List ℕ)) × EndsWords (opened_bytes R.File.bytes)
-        (GivesBytes R.File.bytes R.File.keeps_word R.File.never_fails) words code
+        (GivesBytes R.File.bytes R.File.keeps_word R.File.never_fails) R.answered words code
         (O.contents out.old) (O.contents out.new)) }
     ensures least { IfOk result (λ status. status ≤ 3) }
 {

@@ -14,10 +14,10 @@ use crate::hints::{next_step, step_after_damage, step_after_untold};
 use crate::readings::{Read, Reading, Task, task_of};
 use cli_args::{LineError, request};
 use cli_facts::{NoteWriter, Notes, Refusal, Status, SystemFile};
-use cli_files::{Count, Progress, tell_lock};
+use cli_files::{Count, Progress, SystemPaths, readings_of, tell_lock};
 use cli_held::Locks;
 use cli_job::{
-    Again, Answer, Begun, Ended, Given, Job, Source, Until, Watch, WhileSame, alone, before_of,
+    Again, Answer, Begun, Ended, Given, Job, Source, Until, Watch, WhileSame, alone, ending_of,
     source_of,
 };
 use cli_recover::{recover, recover_to};
@@ -40,7 +40,7 @@ pub(crate) enum Under {
 /// Carries out a command line, whose first word is the program's name, and answers how the run ends: done (also for
 /// help), with damage that was found, with words that aren't understood, or refused, also where a file or a writer
 /// failed.
-pub(crate) fn run<R: Files + AllocGlobal + Clock, O: Write, E: Write + IsTerminal>(
+pub(crate) fn run<R: SystemPaths + AllocGlobal + Clock, O: Write, E: Write + IsTerminal>(
     rt: &R,
     words: &[&str],
     under: Under,
@@ -49,7 +49,8 @@ pub(crate) fn run<R: Files + AllocGlobal + Clock, O: Write, E: Write + IsTermina
 ) -> Status
 where
     R::File: SystemFile,
-    ensures { Ends (opened_bytes R.File.bytes) (GivesBytes R.File.bytes R.File.keeps_word R.File.never_fails) under
+    ensures { Ends (opened_bytes R.File.bytes) (GivesBytes R.File.bytes R.File.keeps_word R.File.never_fails)
+        R.answered under
         (map (λ w. w.now) words.entry.now) result (O.contents out.old) (O.contents out.new) }
 {
     match request(rt.alloc(), words) {
@@ -126,7 +127,7 @@ fn status_of<O: Write, E: Write>(
 
 /// What a request comes to. Why it is refused, and what to do then or with damage, is noted where that is asked for, or
 /// a person reads it.
-fn noted<R: Files + AllocGlobal + Clock, O: Write, E: Write + IsTerminal>(
+fn noted<R: SystemPaths + AllocGlobal + Clock, O: Write, E: Write + IsTerminal>(
     rt: &R,
     request: Request<'_>,
     under: Under,
@@ -136,7 +137,7 @@ fn noted<R: Files + AllocGlobal + Clock, O: Write, E: Write + IsTerminal>(
 where
     R::File: SystemFile,
     ensures { ComesUnder (opened_bytes R.File.bytes)
-        (GivesBytes R.File.bytes R.File.keeps_word R.File.never_fails) under request.entry result
+        (GivesBytes R.File.bytes R.File.keeps_word R.File.never_fails) R.answered under request.entry result
         (O.contents out.old) (O.contents out.new) }
 {
     let options = options_of(&request);
@@ -194,7 +195,7 @@ fn tell_locks<E: Write>(locks: Locks, notes: &Notes<'_, E>) {
 }
 
 /// How a reading of the files of a job ends.
-fn read_by<R: Files + AllocGlobal + Clock, M: Count, O: Write, E: Write>(
+fn read_by<R: SystemPaths + AllocGlobal + Clock, M: Count, O: Write, E: Write>(
     job: &Job<'_, R, M>,
     reading: Reading<'_>,
     out: &mut O,
@@ -203,7 +204,8 @@ fn read_by<R: Files + AllocGlobal + Clock, M: Count, O: Write, E: Write>(
 where
     R::File: SystemFile,
     ensures { ReadsTo (opened_bytes R.File.bytes)
-        (GivesBytes R.File.bytes R.File.keeps_word R.File.never_fails) reading.entry job.entry.now.source.now result }
+        (GivesBytes R.File.bytes R.File.keeps_word R.File.never_fails) R.answered reading.entry
+        job.entry.now.source.now result }
 {
     match reading {
         Reading::Look(look) => answered(job, &look.command(job.source.options), out, notes),
@@ -215,7 +217,7 @@ where
 }
 
 /// How a reading of these files ends. If a commit isn't known, a note explains why.
-fn read_from<R: Files + AllocGlobal + Clock, O: Write, E: Write>(
+fn read_from<R: SystemPaths + AllocGlobal + Clock, O: Write, E: Write>(
     rt: &R,
     reading: Reading<'_>,
     source: &Source<'_>,
@@ -225,7 +227,8 @@ fn read_from<R: Files + AllocGlobal + Clock, O: Write, E: Write>(
 where
     R::File: SystemFile,
     ensures { ReadsTo (opened_bytes R.File.bytes)
-        (GivesBytes R.File.bytes R.File.keeps_word R.File.never_fails) reading.entry source.entry.now result }
+        (GivesBytes R.File.bytes R.File.keeps_word R.File.never_fails) R.answered reading.entry
+        source.entry.now result }
 {
     let meter = Progress::new(rt, notes.again(), source.options);
     let job = Job {
@@ -242,7 +245,7 @@ where
 
 /// How a reading of these files ends that is printed once more: what was given before is skipped. Refused by
 /// `FileChanged` if it doesn't begin with that.
-fn read_again<R: Files + AllocGlobal + Clock, O: Write, E: Write>(
+fn read_again<R: SystemPaths + AllocGlobal + Clock, O: Write, E: Write>(
     rt: &R,
     reading: Reading<'_>,
     source: &Source<'_>,
@@ -253,7 +256,7 @@ fn read_again<R: Files + AllocGlobal + Clock, O: Write, E: Write>(
 where
     R::File: SystemFile,
     ensures { ReadsTo (opened_bytes R.File.bytes)
-        (GivesBytes R.File.bytes R.File.keeps_word R.File.never_fails) reading.entry source.entry.now result
+        (GivesBytes R.File.bytes R.File.keeps_word R.File.never_fails) R.answered reading.entry source.entry.now result
         ⊎ (result ≡ Err (Refused FileChanged)) }
 {
     let mut again = Again::new(out, given);
@@ -261,10 +264,10 @@ where
     again.settled(answer)
 }
 
-/// How a reading ends of files whose database file is kept unchanged by locks. Once its journal was changed, that file
+/// How a reading ends of files whose database file is kept unchanged by locks. If its journal was changed, that file
 /// alone is read from its beginning, and what was printed before is skipped: the journal's writer never wrote that
-/// file, so both are the same database.
-fn read_journaled<R: Files + AllocGlobal + Clock, O: Write, E: Write>(
+/// file, so both are the same database. If the journal is as it was before again, all of them are read once more.
+fn read_journaled<R: SystemPaths + AllocGlobal + Clock, O: Write, E: Write>(
     rt: &R,
     reading: Reading<'_>,
     source: Source<'_>,
@@ -275,28 +278,26 @@ where
     R::File: SystemFile,
     requires { source.watch ≡ Undated }
     ensures { IsReadTwice (opened_bytes R.File.bytes)
-        (GivesBytes R.File.bytes R.File.keeps_word R.File.never_fails) reading.entry source.entry result }
+        (GivesBytes R.File.bytes R.File.keeps_word R.File.never_fails) R.answered reading.entry source.entry result }
 {
-    match before_of(rt, &source.paths, source.watch, false, notes) {
-        Ok(before) => {
-            let mut same = WhileSame::new(rt, &source.paths, before, &mut *out);
-            let answer = read_from(rt, reading, &source, &mut same, notes);
-            let ended = same.ended(&answer);
-            drop(same);
-            match ended {
-                Ended::Same => answer,
-                Ended::Changed(given) => {
-                    read_again(rt, reading, &alone(source), given, out, notes)
-                }
-                Ended::Unseen => Err(ShowError::Refused(Refusal::FileFailed)),
-            }
-        }
-        Err(refusal) => Err(ShowError::Refused(refusal)),
+    let before = match readings_of(rt, &source.paths, false, notes) {
+        Ok(before) => before,
+        Err(refusal) => return Err(ShowError::Refused(refusal)),
+    };
+    let mut same = WhileSame::new(rt, &source.paths, before, &mut *out);
+    let answer = read_from(rt, reading, &source, &mut same, notes);
+    let end = same.end(&answer);
+    drop(same);
+    match ending_of(rt, &source.paths, &before, end) {
+        Ended::Same => answer,
+        Ended::Changed(given) => read_again(rt, reading, &alone(source), given, out, notes),
+        Ended::Restored(given) => read_again(rt, reading, &source, given, out, notes),
+        Ended::Unseen => Err(ShowError::Refused(Refusal::FileFailed)),
     }
 }
 
 /// How a reading ends under these locks.
-fn read_once<R: Files + AllocGlobal + Clock, O: Write, E: Write>(
+fn read_once<R: SystemPaths + AllocGlobal + Clock, O: Write, E: Write>(
     rt: &R,
     asked: &Read<'_>,
     locks: Locks,
@@ -306,7 +307,7 @@ fn read_once<R: Files + AllocGlobal + Clock, O: Write, E: Write>(
 where
     R::File: SystemFile,
     ensures { IsRead (opened_bytes R.File.bytes)
-        (GivesBytes R.File.bytes R.File.keeps_word R.File.never_fails) asked.entry.now result }
+        (GivesBytes R.File.bytes R.File.keeps_word R.File.never_fails) R.answered asked.entry.now result }
 {
     let reading = asked.reading;
     let of = (asked.file, asked.options);
@@ -320,7 +321,7 @@ where
 }
 
 /// The same, which is made again where others changed what was read, and nothing was printed yet, for so many seconds.
-fn read_under<R: Files + AllocGlobal + Clock, O: Write, E: Write>(
+fn read_under<R: SystemPaths + AllocGlobal + Clock, O: Write, E: Write>(
     rt: &R,
     asked: &Read<'_>,
     under: (Locks, u32),
@@ -330,7 +331,7 @@ fn read_under<R: Files + AllocGlobal + Clock, O: Write, E: Write>(
 where
     R::File: SystemFile,
     ensures { IsRead (opened_bytes R.File.bytes)
-        (GivesBytes R.File.bytes R.File.keeps_word R.File.never_fails) asked.entry.now result }
+        (GivesBytes R.File.bytes R.File.keeps_word R.File.never_fails) R.answered asked.entry.now result }
 {
     let (locks, wait) = under;
     let until = Until::new(rt, wait);
@@ -345,7 +346,7 @@ where
 }
 
 /// What a request comes to, under locks or without those that can't be had.
-fn carried_out<R: Files + AllocGlobal + Clock, O: Write, E: Write>(
+fn carried_out<R: SystemPaths + AllocGlobal + Clock, O: Write, E: Write>(
     rt: &R,
     request: Request<'_>,
     under: Under,
@@ -355,7 +356,7 @@ fn carried_out<R: Files + AllocGlobal + Clock, O: Write, E: Write>(
 where
     R::File: SystemFile,
     ensures { ComesUnder (opened_bytes R.File.bytes)
-        (GivesBytes R.File.bytes R.File.keeps_word R.File.never_fails) under request.entry result
+        (GivesBytes R.File.bytes R.File.keeps_word R.File.never_fails) R.answered under request.entry result
         (O.contents out.old) (O.contents out.new) }
 {
     match under {
@@ -368,7 +369,7 @@ where
 }
 
 /// What a task comes to under these locks; what is read is read again for so many seconds.
-fn done_by<R: Files + AllocGlobal + Clock, O: Write, E: Write>(
+fn done_by<R: SystemPaths + AllocGlobal + Clock, O: Write, E: Write>(
     rt: &R,
     task: Task<'_>,
     under: (Locks, u32),
@@ -378,7 +379,7 @@ fn done_by<R: Files + AllocGlobal + Clock, O: Write, E: Write>(
 where
     R::File: SystemFile,
     ensures { ComesBy (opened_bytes R.File.bytes)
-        (GivesBytes R.File.bytes R.File.keeps_word R.File.never_fails) task.entry result
+        (GivesBytes R.File.bytes R.File.keeps_word R.File.never_fails) R.answered task.entry result
         (O.contents out.old) (O.contents out.new) }
 {
     match task {

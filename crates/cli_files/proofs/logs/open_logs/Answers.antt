@@ -18,5 +18,5 @@ returns-then-len-eq0-clause-left g c = record {
   journal = c.without_journal.result.journal;
   opened = subst (λ (m : Option Metadata). IsOpenedOf c.without_journal.result.journal c.args.paths.now.journal 28 m) (sym c.without_journal.ensures.found.1)
       c.without_journal.ensures.journal;
-  is = λ steady. left_missing g.R.File.SystemFile.bytes c.args.super_journal c.without_journal.result.journal c.without_journal.ensures.journal;
+  is = λ steady. left_missing g.R.File.SystemFile.bytes g.R.SystemPaths.answered c.args.super_journal c.without_journal.result.journal c.without_journal.ensures.journal;
 }

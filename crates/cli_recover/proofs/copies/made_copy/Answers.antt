@@ -11,6 +11,7 @@ pub returns-in-Err-clause-refused : goal.returns-in-Err-clause-refused
 returns-in-Err-clause-refused g c =
     let bytes = opened_bytes g.R.File.SystemFile.bytes in
     let gives = GivesBytes g.R.File.SystemFile.bytes g.R.File.SystemFile.keeps_word g.R.File.SystemFile.never_fails in
+    let answered = g.R.SystemPaths.answered in
     let source = c.args.job.now.source.now in
-    subst (λ (r : Refusal). IsUnmade bytes gives source r) (sym c.told.ensures)
-    (fell bytes gives source c.found_in-found.result (Err c.in-Err.refusal) c.found_in-found.ensures.refused c.in-Err.ensures)
+    subst (λ (r : Refusal). IsUnmade bytes gives answered source r) (sym c.told.ensures)
+    (fell bytes gives answered source c.found_in-found.result (Err c.in-Err.refusal) c.found_in-found.ensures.refused c.in-Err.ensures)

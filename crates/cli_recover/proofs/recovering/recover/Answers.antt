@@ -10,5 +10,6 @@ pub returns-clause-recovers : goal.returns-clause-recovers
 returns-clause-recovers g c =
     let bytes = opened_bytes g.R.File.SystemFile.bytes in
     let gives = GivesBytes g.R.File.SystemFile.bytes g.R.File.SystemFile.keeps_word g.R.File.SystemFile.never_fails in
-    recovers_to bytes gives (λ (d : FileDisk g.row.R-File.Denot). ⊥) (λ (d : FileDisk g.row.R-File.Denot). nothing) (c.args.of.1 ≡ true) c.args.of.0.now c.args.of.2
+    let answered = g.R.SystemPaths.answered in
+    recovers_to bytes gives answered (λ (d : FileDisk g.row.R-File.Denot). ⊥) (λ (d : FileDisk g.row.R-File.Denot). nothing) (c.args.of.1 ≡ true) c.args.of.0.now c.args.of.2
     c.recover_on.result (g.O.Write.contents c.args.out.now) (g.O.Write.contents c.recover_on.new.out) c.recover_on.ensures.recovers

@@ -12,8 +12,9 @@ pub returns-in-Err-clause-recovers : goal.returns-in-Err-clause-recovers
 returns-in-Err-clause-recovers g c =
     let bytes = opened_bytes g.R.File.SystemFile.bytes in
     let gives = GivesBytes g.R.File.SystemFile.bytes g.R.File.SystemFile.keeps_word g.R.File.SystemFile.never_fails in
+    let answered = g.R.SystemPaths.answered in
     let of = c.in_ok-paths_of in
-    recovers_refused bytes gives g.D.Disk.keeps_word g.D.Disk.state (c.args.of.1 ≡ true) c.args.of.0.now c.args.of.2 of.field-0 c.in-Err.refusal c.told.result (g.O.Write.contents c.args.out.now) (g.O.Write.contents c.args.out.now) c.told.ensures
+    recovers_refused bytes gives answered g.D.Disk.keeps_word g.D.Disk.state (c.args.of.1 ≡ true) c.args.of.0.now c.args.of.2 of.field-0 c.in-Err.refusal c.told.result (g.O.Write.contents c.args.out.now) (g.O.Write.contents c.args.out.now) c.told.ensures
     (record { named = of.ensures.named; beside = of.ensures.beside }) c.in-Err.ensures.refused
 
 pub returns-clause-recovers : goal.returns-clause-recovers

@@ -17,4 +17,5 @@ pub returns-in-Err : goal.returns-in-Err
 returns-in-Err g c =
     let bytes = opened_bytes g.R.File.SystemFile.bytes in
     let gives = GivesBytes g.R.File.SystemFile.bytes g.R.File.SystemFile.keeps_word g.R.File.SystemFile.never_fails in
-    (Err NoMemory, from_undiffed bytes gives c.args.job.now.source.now c.args.difference NoMemory (inr (inr (inr refl))), inl refl)
+    let answered = g.R.SystemPaths.answered in
+    (Err NoMemory, from_undiffed bytes gives answered c.args.job.now.source.now c.args.difference NoMemory (inr (inr (inr refl))), inl refl)

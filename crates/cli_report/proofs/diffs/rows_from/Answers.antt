@@ -18,26 +18,30 @@ pub returns-then-from-eq0 : goal.returns-then-from-eq0
 returns-then-from-eq0 g c =
     let bytes = opened_bytes g.R.File.SystemFile.bytes in
     let gives = GivesBytes g.R.File.SystemFile.bytes g.R.File.SystemFile.keeps_word g.R.File.SystemFile.never_fails in
+    let answered = g.R.SystemPaths.answered in
     let source = c.args.job.now.source.now in
-    inl (c.changes_now-printed.ensures, inr (inr (subst (λ (n : ℕ). FirstOpened bytes gives source n) c.if-from-eq0.true c.in-Ok.ensures.first)))
+    inl (c.changes_now-printed.ensures, inr (inr (subst (λ (n : ℕ). FirstOpened bytes gives answered source n) c.if-from-eq0.true c.in-Ok.ensures.first)))
 
 pub returns-in-Ok-write_first : goal.returns-in-Ok-write_first
 returns-in-Ok-write_first g c =
     let bytes = opened_bytes g.R.File.SystemFile.bytes in
     let gives = GivesBytes g.R.File.SystemFile.bytes g.R.File.SystemFile.keeps_word g.R.File.SystemFile.never_fails in
+    let answered = g.R.SystemPaths.answered in
     let source = c.args.job.now.source.now in
-    from_first bytes gives source c.args.compared (c.names_from.ensures.not c.if-names_from.false) c.changes_now.result c.in-Ok.from c.in-Ok.ensures.first c.changes_now.ensures
+    from_first bytes gives answered source c.args.compared (c.names_from.ensures.not c.if-names_from.false) c.changes_now.result c.in-Ok.from c.in-Ok.ensures.first c.changes_now.ensures
 
 pub returns-in-Err-write_first : goal.returns-in-Err-write_first
 returns-in-Err-write_first g c =
     let bytes = opened_bytes g.R.File.SystemFile.bytes in
     let gives = GivesBytes g.R.File.SystemFile.bytes g.R.File.SystemFile.keeps_word g.R.File.SystemFile.never_fails in
+    let answered = g.R.SystemPaths.answered in
     let source = c.args.job.now.source.now in
-    from_unwritten bytes gives source c.args.compared (c.names_from.ensures.not c.if-names_from.false) c.not_begun.result c.in-Ok.from c.in-Ok.ensures.first c.not_begun.ensures
+    from_unwritten bytes gives answered source c.args.compared (c.names_from.ensures.not c.if-names_from.false) c.not_begun.result c.in-Ok.from c.in-Ok.ensures.first c.not_begun.ensures
 
 pub returns-in-Err : goal.returns-in-Err
 returns-in-Err g c =
     let bytes = opened_bytes g.R.File.SystemFile.bytes in
     let gives = GivesBytes g.R.File.SystemFile.bytes g.R.File.SystemFile.keeps_word g.R.File.SystemFile.never_fails in
+    let answered = g.R.SystemPaths.answered in
     let source = c.args.job.now.source.now in
-    from_unfound bytes gives source c.args.compared c.in-Err.refusal c.in-Err.ensures.refused
+    from_unfound bytes gives answered source c.args.compared c.in-Err.refusal c.in-Err.ensures.refused

@@ -13,8 +13,9 @@ pub returns-in-Line-clause-ends : goal.returns-in-Line-clause-ends
 returns-in-Line-clause-ends g c =
     let bytes = opened_bytes g.R.File.SystemFile.bytes in
     let gives = GivesBytes g.R.File.SystemFile.bytes g.R.File.SystemFile.keeps_word g.R.File.SystemFile.never_fails in
+    let answered = g.R.SystemPaths.answered in
     let apart = c.in_ok-apart.apart in
-    ends_line bytes gives (texts c.args.words.now) apart c.in_ok-apart.ensures c.as_slice.result.now c.as_slice.ensures.value c.in_ok-files.files.items
+    ends_line bytes gives answered (texts c.args.words.now) apart c.in_ok-apart.ensures c.as_slice.result.now c.as_slice.ensures.value c.in_ok-files.files.items
     c.in_ok-files.ensures (g.O.Write.contents c.args.out.now) (g.O.Write.contents c.answered.new.out) c.answered.result
     (subst (λ (l : List ℕ). AreMeant apart.one l Line) c.as_slice-2.ensures.value c.in-Line.ensures) c.answered.ensures.ends
 
@@ -22,9 +23,10 @@ pub returns-in-One-clause-ends : goal.returns-in-One-clause-ends
 returns-in-One-clause-ends g c =
     let bytes = opened_bytes g.R.File.SystemFile.bytes in
     let gives = GivesBytes g.R.File.SystemFile.bytes g.R.File.SystemFile.keeps_word g.R.File.SystemFile.never_fails in
+    let answered = g.R.SystemPaths.answered in
     let apart = c.in_ok-apart.apart in
     let place = c.in-One.place in
-    ends_one bytes gives (texts c.args.words.now) apart c.in_ok-apart.ensures c.as_slice.result.now c.as_slice.ensures.value c.in_ok-files.files.items
+    ends_one bytes gives answered (texts c.args.words.now) apart c.in_ok-apart.ensures c.as_slice.result.now c.as_slice.ensures.value c.in_ok-files.files.items
     c.in_ok-files.ensures (g.O.Write.contents c.args.out.now) (g.O.Write.contents c.one_of.new.out) place c.one_of.result
     (subst (λ (l : List ℕ). AreMeant apart.one l (One place)) c.as_slice-2.ensures.value c.in-One.ensures) c.one_of.ensures.ends
 
@@ -32,11 +34,12 @@ pub returns-clause-ends : goal.returns-clause-ends
 returns-clause-ends g c =
     let bytes = opened_bytes g.R.File.SystemFile.bytes in
     let gives = GivesBytes g.R.File.SystemFile.bytes g.R.File.SystemFile.keeps_word g.R.File.SystemFile.never_fails in
+    let answered = g.R.SystemPaths.answered in
     let apart = c.in_ok-apart.apart in
-    ends_several bytes gives (texts c.args.words.now) apart c.in_ok-apart.ensures c.as_slice.result.now c.as_slice.ensures.value c.in_ok-files.files.items
+    ends_several bytes gives answered (texts c.args.words.now) apart c.in_ok-apart.ensures c.as_slice.result.now c.as_slice.ensures.value c.in_ok-files.files.items
     c.in_ok-files.ensures (g.O.Write.contents c.args.out.now) (g.O.Write.contents c.several.new.out) c.several.result
     (subst (λ (l : List ℕ). AreMeant apart.one l Each) c.as_slice-2.ensures.value c.in-Each.ensures)
-    (subst (λ (l : List ℕ). IfOk c.several.result (EndsSeveral bytes gives apart l)) c.as_slice-in-Each.ensures.value c.several.ensures.ends)
+    (subst (λ (l : List ℕ). IfOk c.several.result (EndsSeveral bytes gives answered apart l)) c.as_slice-in-Each.ensures.value c.several.ensures.ends)
 
 pub several-requires : goal.several-requires
 several-requires g c =

@@ -10,7 +10,8 @@ pub returns-in-Locks : goal.returns-in-Locks
 returns-in-Locks g c =
     let bytes = opened_bytes g.R.File.SystemFile.bytes in
     let gives = GivesBytes g.R.File.SystemFile.bytes g.R.File.SystemFile.keeps_word g.R.File.SystemFile.never_fails in
+    let answered = g.R.SystemPaths.answered in
     let before = g.O.Write.contents c.args.out.now in
     let after = g.O.Write.contents c.done_by.new.out in
-    subst (λ (u : Under). ComesUnder bytes gives u c.args.request c.done_by.result before after) (sym c.in-Locks.is)
-    (subst (λ (t : Task). ComesBy bytes gives t c.done_by.result before after) c.task_of.ensures c.done_by.ensures)
+    subst (λ (u : Under). ComesUnder bytes gives answered u c.args.request c.done_by.result before after) (sym c.in-Locks.is)
+    (subst (λ (t : Task). ComesBy bytes gives answered t c.done_by.result before after) c.task_of.ensures c.done_by.ensures)

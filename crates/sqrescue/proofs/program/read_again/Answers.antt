@@ -11,5 +11,6 @@ pub returns : goal.returns
 returns g c =
     let bytes = opened_bytes g.R.File.SystemFile.bytes in
     let gives = GivesBytes g.R.File.SystemFile.bytes g.R.File.SystemFile.keeps_word g.R.File.SystemFile.never_fails in
-    ⊎_elim (λ e. inl (subst (λ (r : Result Answer ShowError). ReadsTo bytes gives c.args.reading c.args.source.now r) (sym e) c.read_from-answer.ensures))
+    let answered = g.R.SystemPaths.answered in
+    ⊎_elim (λ e. inl (subst (λ (r : Result Answer ShowError). ReadsTo bytes gives answered c.args.reading c.args.source.now r) (sym e) c.read_from-answer.ensures))
     inr c.settled.ensures

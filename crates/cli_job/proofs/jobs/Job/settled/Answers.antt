@@ -9,5 +9,6 @@ pub returns-in-Err : goal.returns-in-Err
 returns-in-Err g c =
     let bytes = opened_bytes g.R.File.SystemFile.bytes in
     let gives = GivesBytes g.R.File.SystemFile.bytes g.R.File.SystemFile.keeps_word g.R.File.SystemFile.never_fails in
-    subst (λ (r : Refusal). Settles {M = g.row.M.Denot} bytes gives c.args.self.now.source.now c.args.command.now (Err r)
+    let answered = g.R.SystemPaths.answered in
+    subst (λ (r : Refusal). Settles {M = g.row.M.Denot} bytes gives answered c.args.self.now.source.now c.args.command.now (Err r)
     (g.W.Write.contents c.args.out.now) (g.W.Write.contents c.untold.new.out)) (sym c.told.ensures) c.in-Err.ensures
