@@ -56,7 +56,8 @@ abbrev pub with_chosen : App → App
 with_chosen a = with_rule (with_rule (with_rule a (text (codes "part"))) (number (codes "point"))) (number (codes "image"))
 
 abbrev pub with_told : App → App
-with_told a = with_rule (with_rule (with_rule (with_rule (with_rule a (flag (codes "why"))) (flag (codes "json"))) (flag (codes "points"))) (number (codes "lines"))) (text (codes "keep"))
+with_told a =
+    with_rule (with_rule (with_rule (with_rule (with_rule (with_rule a (flag (codes "why"))) (flag (codes "json"))) (flag (codes "points"))) (number (codes "lines"))) (text (codes "keep"))) (text (codes "states"))
 
 -- the command line, with the values that options take
 abbrev pub line : (sectors metas promises : ValueParser) → App
@@ -140,6 +141,7 @@ pub record IsRequest (rows : List Row) (request : Request) : Type 0 where
   pub images : first_of (codes "IMAGES") rows ≡ Some request.images.now
   pub asks : first_of (codes "ASKS") rows ≡ Some request.asks.now
   pub keep : option_map (λ path. path.now) request.keep ≡ first_of (codes "keep") rows
+  pub states : option_map (λ path. path.now) request.states ≡ first_of (codes "states") rows
   pub plan : IsPlan rows request.plan
 
 -- What words ask for of a command line: a request exactly where clap takes them and the part is one; otherwise help, or why they ask

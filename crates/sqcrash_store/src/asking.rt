@@ -1,7 +1,7 @@
 //! A command is asked of files (own).
 ghost use Rattle.std.specs.Prelude.{◌≡◌, ◌↔◌, [], ◌∷◌, IsTrue, IfErr, MatchResult, map};
 ghost use Rattle.std.specs.String.{string_bytes};
-ghost use Rattle.sqcrash_store.specs.Refused.{IsOfFiles, PutRefused, SaidRefused, is_file_name};
+ghost use Rattle.sqcrash_store.specs.Refused.{IsOfFiles, IsOfMemory, PutRefused, SaidRefused, is_file_name};
 ghost use Rattle.sqcrash_store.specs.Runs.{IsSaid};
 
 use crate::found::Found;
@@ -57,6 +57,8 @@ pub struct Asking<'a, R, I, W> {
     pub answers: &'a mut I,
     pub asks: W,
     pub asked: u64,
+    /// The answers of the first images, where they are known, so that these aren't asked of.
+    pub known: &'a [Answer],
     /// The folder in which those are made that are kept; none are where there is none.
     pub keep: Option<&'a str>,
     pub kept: u64,
@@ -88,6 +90,16 @@ pub fn said(alloc: Global, line: &str) -> Result<Answer, Refusal>
     Ok(Answer {
         is_sound: is_zero(status),
         line: String::from_str(alloc, text)?,
+    })
+}
+
+/// The same answer.
+fn copied(alloc: Global, answer: &Answer) -> Result<Answer, Refusal>
+    ensures { IfErr result IsOfMemory }
+{
+    Ok(Answer {
+        is_sound: answer.is_sound,
+        line: String::from_str(alloc, answer.line.as_str())?,
     })
 }
 
@@ -144,6 +156,9 @@ impl<R: Files + AllocGlobal, I: BufRead, W: Write> Judge for Asking<'_, R, I, W>
         let alloc = self.rt.alloc();
         let number = self.asked;
         self.asked = number.wrapping_add(1);
+        if let Some(answer) = self.known.get(number as usize) {
+            return copied(alloc, answer);
+        }
         let folder = format!(in alloc; "{}/{number}", self.path)?;
         fs::create_dir(self.rt, folder.as_str()).map_err(failed)?;
         put(self.rt, folder.as_str(), image, names)?;

@@ -33,6 +33,8 @@ pub struct Request<'a> {
     pub asks: &'a str,
     /// The folder in which images are made that are kept.
     pub keep: Option<&'a str>,
+    /// Whose lines are what the command said of the states.
+    pub states: Option<&'a str>,
 }
 
 /// Why a line asks for nothing.
@@ -273,11 +275,18 @@ fn with_told<'a>(alloc: Global, command: Command<'a>) -> Result<Command<'a>, All
         "DIR",
         "Makes the folder DIR/pPOINT-iIMAGE of images with something wrong, the first 1000, and why beside it",
     );
+    let states = text(
+        alloc,
+        "states",
+        "FILE",
+        "What the command said of the states, in their order, a line each: it isn't asked of these",
+    );
     let command = with(command, why)?;
     let command = with(command, json)?;
     let command = with(command, points)?;
     let command = with(command, lines)?;
-    with(command, keep)
+    let command = with(command, keep)?;
+    with(command, states)
 }
 
 /// The program's command line, with these values of its options.
@@ -432,6 +441,7 @@ fn matched<'a>(matches: &ArgMatches<'a>, part: Option<Part>) -> Option<Request<'
         images: value(matches, "IMAGES")?,
         asks: value(matches, "ASKS")?,
         keep: value(matches, "keep"),
+        states: value(matches, "states"),
     })
 }
 

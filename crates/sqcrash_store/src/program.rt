@@ -1,15 +1,19 @@
 //! The program over a runtime's files, a reader of answers and two writers.
-ghost use Rattle.std.specs.Prelude.{◌≡◌, ◌⊎◌, ◌≤◌, map};
+ghost use Rattle.std.specs.Prelude.{◌≡◌, ◌⊎◌, ◌≤◌, IfErr, map};
 ghost use Rattle.std.specs.IoError.{error_kind};
 ghost use Rattle.std.specs.declared.io.ErrorKind.TheVariants.{OutOfMemory};
 ghost use Rattle.sqcrash_store.specs.Ends.{Comes, Ends, IsStatusOf};
-ghost use Rattle.sqcrash_store.specs.Refused.{IsOfFiles};
+ghost use Rattle.sqcrash_store.specs.Refused.{IsOfFiles, IsOfMemory};
 
-use crate::asking::Asking;
+use crate::asking::{Asking, said};
 use crate::commands::{LineError, Request, request_of};
 use crate::judging::judge_trace;
 use crate::outcome::Refusal;
+use crate::states::is_mark;
 use crate::tally::Tally;
+use crate::verdict::Answer;
+use rig_store::Trace;
+use std::alloc::Global;
 use std::fmt::Display;
 use std::fs;
 use std::fs::OpenOptions;
@@ -66,6 +70,56 @@ fn failed(error: io::Error) -> Refusal
     }
 }
 
+/// How many states a run has that the command names: one before the first call, and one at each mark.
+fn state_count(alloc: Global, trace: &[u8]) -> usize {
+    let Ok(trace) = Trace::read(alloc, trace) else {
+        return 0;
+    };
+    let mut count: usize = 1;
+    for call in &trace.calls {
+        if is_mark(call) {
+            count = count.saturating_add(1);
+        }
+    }
+    count
+}
+
+/// The answers that the first lines of a text say, up to one that is none, and no more than so many.
+fn answers_of(alloc: Global, text: &str, most: usize) -> Result<Vec<Answer>, Refusal>
+    ensures { IfErr result IsOfMemory }
+{
+    let mut answers = Vec::new(alloc);
+    for line in text.lines() {
+        if answers.len() >= most {
+            break;
+        }
+        match said(alloc, line) {
+            Ok(answer) => answers.push(answer)?,
+            Err(Refusal::NoMemory) => return Err(Refusal::NoMemory),
+            Err(_) => break,
+        }
+    }
+    Ok(answers)
+}
+
+/// What the command said of the first states of a run, by a file, if one is given.
+fn known_states<R: Files + AllocGlobal>(
+    rt: &R,
+    path: Option<&str>,
+    trace: &[u8],
+) -> Result<Vec<Answer>, Refusal>
+    ensures { IfErr result IsOfFiles }
+{
+    let Some(path) = path else {
+        return Ok(Vec::new(rt.alloc()));
+    };
+    let bytes = fs::read(rt, path).map_err(failed)?;
+    match std::str::from_utf8(&bytes) {
+        Ok(text) => answers_of(rt.alloc(), text, state_count(rt.alloc(), trace)),
+        Err(_) => Ok(Vec::new(rt.alloc())),
+    }
+}
+
 /// Judges the trace that is asked for.
 fn carried_out<R: Files + AllocGlobal, I: BufRead, O: Write>(
     rt: &R,
@@ -76,6 +130,7 @@ fn carried_out<R: Files + AllocGlobal, I: BufRead, O: Write>(
     ensures { Comes request.now.plan (O.contents out.old) (O.contents out.new) result }
 {
     let bytes = fs::read(rt, request.trace).map_err(failed)?;
+    let known = known_states(rt, request.states, &bytes)?;
     let asks = OpenOptions::new()
         .write(true)
         .open(rt, request.asks)
@@ -86,6 +141,7 @@ fn carried_out<R: Files + AllocGlobal, I: BufRead, O: Write>(
         answers,
         asks,
         asked: 0,
+        known: &known,
         keep: request.keep,
         kept: 0,
     };
