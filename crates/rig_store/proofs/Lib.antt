@@ -1,3 +1,4 @@
+pub mod ChangesOfNames
 pub mod ConsecutiveCalls
 pub mod DifferingNames
 pub mod ListsThatGrow

@@ -17,7 +17,7 @@ takes_all plan s = not s.tears && nat_le (store_ways s) plan.images
 
 -- 3 of so many draws, in parts of 10,000, rounded up: if none of them is wrong, with 95 % confidence fewer of all are
 abbrev pub bound_of : (drawn : ℕ) → ℕ
-bound_of n = cond (nat_eq n 0) 10000 (min (30000 / n + cond (nat_lt 0 (30000 % n)) 1 0) 10000)
+bound_of n = cond (nat_eq n 0) 10000 (min (30000 / n + min 1 (30000 % n)) 10000)
 
 -- images of a point were drawn, and nothing is wrong with those: so fewer are wrong than the bound, with 95 % confidence
 abbrev pub is_bounded : Cover → Bool

@@ -1,5 +1,5 @@
 -- The images of a point are judged, counted and told (own).
-use Rattle.std.specs.Prelude.{◌≡◌, ◌⊎◌, ℕ, ◌+◌, ◌/◌, ◌^◌, ◌<◌, ◌≤◌, Bool, true, false, cond, not, nat_eq, List, [], ◌∷◌, ◌++◌, length, map, take, drop, get_or, fold, Option, Some, None}
+use Rattle.std.specs.Prelude.{◌≡◌, ◌⊎◌, ℕ, ◌+◌, ◌/◌, ◌<◌, ◌≤◌, Bool, true, false, cond, not, nat_eq, List, [], ◌∷◌, ◌++◌, length, map, take, drop, get_or, fold, Option, MatchOption}
 use Rattle.std.specs.List.{All, filter}
 use Rattle.std.specs.String.{string_bytes}
 use Rattle.rig_store.specs.Differing.{AreDifferences}
@@ -93,8 +93,7 @@ drawn_count plan = plan.images + cond plan.tears (third_of plan.images) 0
 
 -- the ways in which a crash may leave the files were counted, unless sectors tear or there are too many
 abbrev pub AreCounted : StoreState → Option Ways → Type 0
-AreCounted s None = (s.tears ≡ true) ⊎ (2 ^ 64 ≤ store_ways s)
-AreCounted s (Some ways) = (s.tears ≡ false) × AreWays s ways × (ways.images < 2 ^ 64)
+AreCounted s ways = MatchOption ways ((s.tears ≡ true) ⊎ (18446744073709551615 < store_ways s)) (λ w. (s.tears ≡ false) × AreWays s w × (w.images ≤ 18446744073709551615))
 
 -- how many images are taken at a point: all, or as many as are drawn
 abbrev pub taken_count : Plan → StoreState → ℕ

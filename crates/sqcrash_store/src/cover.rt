@@ -32,8 +32,7 @@ pub fn bound_of(drawn: u64) -> u64
     if drawn == 0 {
         return 10000;
     }
-    let least = 30000 / drawn + u64::from(30000 % drawn > 0);
-    least.min(10000)
+    30000u64.div_ceil(drawn).min(10000)
 }
 
 /// Whether such a bound is known at a point.
