@@ -14,6 +14,13 @@ use std::fs;
 use std::io::{self, BufRead, Write};
 use std::rt::Files;
 
+/// Which states a crash may show that are right: from this one on, which is known to be durable, up to that one.
+#[derive(Clone, Copy, Debug, PartialEq, Eq)]
+pub struct Right {
+    pub known: u64,
+    pub last: u64,
+}
+
 /// Who says of files whether they are sound, and which state they show.
 pub trait Judge {
     ghost use Rattle.std.specs.Prelude.{◌∷◌, [], ℕ, List, Option, None, IfOk, IfErr, OnOk, map};
@@ -29,9 +36,14 @@ pub trait Judge {
     /// The images that were handed to it to be kept, where these are known.
     ghost kept: { Self → Option (List Judged) } = { λ _. None };
 
-    /// Is asked of an image, whose names have these texts. Refused by FileFailed, Unwritten, NoAnswer and NoMemory, and
+    /// Is asked of an image, whose names have these texts, and which a crash left or, as a state, no crash. Refused by FileFailed, Unwritten, NoAnswer and NoMemory, and
     /// by Name where one of these names isn't that of a file in a folder.
-    fn judge(&mut self, image: &Image, names: &[String]) -> Result<Answer, Refusal>
+    fn judge(
+        &mut self,
+        image: &Image,
+        names: &[String],
+        right: Option<Right>,
+    ) -> Result<Answer, Refusal>
         ensures says { IfOk result (says (image_of image.now)) }
         ensures kept { OnOk result (Keeps (kept self.old) (kept self.new) []) }
         ensures refused { IfErr result (JudgeRefused (map (λ n. string_bytes n) names.now)) };
@@ -152,7 +164,12 @@ fn put<R: Files + AllocGlobal>(
 impl<R: Files + AllocGlobal, I: BufRead, W: Write> Judge for Asking<'_, R, I, W> {
     ghost says = { λ image answer. Unit {0} };
 
-    fn judge(&mut self, image: &Image, names: &[String]) -> Result<Answer, Refusal> {
+    fn judge(
+        &mut self,
+        image: &Image,
+        names: &[String],
+        right: Option<Right>,
+    ) -> Result<Answer, Refusal> {
         let alloc = self.rt.alloc();
         let number = self.asked;
         self.asked = number.wrapping_add(1);
@@ -162,7 +179,10 @@ impl<R: Files + AllocGlobal, I: BufRead, W: Write> Judge for Asking<'_, R, I, W>
         let folder = format!(in alloc; "{}/{number}", self.path)?;
         fs::create_dir(self.rt, folder.as_str()).map_err(failed)?;
         put(self.rt, folder.as_str(), image, names)?;
-        writeln!(self.asks, "{number}")?;
+        match right {
+            Some(Right { known, last }) => writeln!(self.asks, "{number} {known} {last}")?,
+            None => writeln!(self.asks, "{number}")?,
+        }
         self.asks.flush()?;
         let mut line = String::new(alloc);
         if self.answers.read_line(&mut line).map_err(failed)? == 0 {

@@ -93,7 +93,7 @@ fn take_where<J: Judge>(
         return Ok(());
     }
     let image = present(alloc, store)?;
-    let answer = judge.judge(&image, names)?;
+    let answer = judge.judge(&image, names, None)?;
     states.push(answer)?;
     Ok(())
 }

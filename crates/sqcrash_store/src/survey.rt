@@ -21,7 +21,7 @@ ghost use Rattle.sqcrash_store.specs.Verdicts.{is_wrong};
 ghost use Rattle.sqcrash_store.specs.declared.outcome.Refusal.TheVariants.{TooMany};
 
 use crate::asked::is_asked;
-use crate::asking::Judge;
+use crate::asking::{Judge, Right};
 use crate::crash::Crash;
 use crate::found::Found;
 use crate::outcome::{Refusal, more};
@@ -143,7 +143,11 @@ fn found_of<J: Judge>(
     ensures kept { OnOk result (Keeps (J.kept judge.old) (J.kept judge.new) []) }
     ensures refused { IfErr result (JudgeRefused (judging_of bench.now).names) }
 {
-    let answer = judge.judge(drawn.image, bench.names)?;
+    let right = Right {
+        known: point.crash.known,
+        last: (bench.states.len() as u64).saturating_sub(1),
+    };
+    let answer = judge.judge(drawn.image, bench.names, Some(right))?;
     let verdict = verdict_of(bench.states, point.crash.known, &answer);
     let differences = differences(bench.alloc, point.store, drawn.image)?;
     Ok(Found {
