@@ -68,7 +68,7 @@ impl History {
         alloc: Global,
         source: &mut S,
     ) -> Result<Option<usize>, SnapshotError>
-        ensures shown { S.gives_pages source.old
+        ensures shown { S.reads_right source.old
             → IfOk result (IsLastShown (commits_of self.now) (S.pages source.old)) }
         ensures memory { S.gives_pages source.old → IfErr result (λ e. e ≡ NoMemory) }
         ensures keeps { KeepsPages S.pages S.size S.reads_right S.gives_pages source.old source.new }
@@ -100,14 +100,16 @@ impl History {
         view: &mut View<F>,
         near: &mut Near,
     ) -> Result<bool, SnapshotError>
-        ensures shown { F.gives_bytes view.old.db × F.gives_bytes view.old.log
+        ensures shown { F.reads_right view.old.db × F.reads_right view.old.log
             → IsNear (last_of (commits_of self.now)) (F.bytes view.old.db) near.old
             → IfOk result (λ shown. IsTrue shown ↔ ShowsLast (commits_of self.now) (pages_of F.bytes view.old)) }
-        ensures near { F.gives_bytes view.old.db × F.gives_bytes view.old.log
+        ensures near { F.reads_right view.old.db × F.reads_right view.old.log
             → IsNear (last_of (commits_of self.now)) (F.bytes view.old.db) near.old
             → IsNear (last_of (commits_of self.now)) (F.bytes view.old.db) near.new }
         ensures memory { F.gives_bytes view.old.db × F.gives_bytes view.old.log → IfErr result (λ e. e ≡ NoMemory) }
         ensures same { shape_of F.bytes view.new ≡ shape_of F.bytes view.old }
+        ensures still_right { F.reads_right view.old.db × F.reads_right view.old.log
+            → F.reads_right view.new.db × F.reads_right view.new.log }
         ensures still_gives { F.gives_bytes view.old.db × F.gives_bytes view.old.log
             → F.gives_bytes view.new.db × F.gives_bytes view.new.log }
     {
@@ -131,7 +133,7 @@ impl History {
 
     /// The database of a source, beside the last commit.
     fn take<S: PageSource>(&self, alloc: Global, source: &mut S) -> Result<Snapshot, SnapshotError>
-        ensures taken { S.gives_pages source.old → IfOk result (λ s. IsTaken (S.pages source.old) (commit_of s)) }
+        ensures taken { S.reads_right source.old → IfOk result (λ s. IsTaken (S.pages source.old) (commit_of s)) }
         ensures memory { S.gives_pages source.old → IfErr result (λ e. e ≡ NoMemory) }
     {
         match self.commits.last() {
@@ -148,10 +150,10 @@ impl History {
         view: &mut View<F>,
         near: &mut Near,
     ) -> Result<bool, SnapshotError>
-        ensures noted { F.gives_bytes view.old.db × F.gives_bytes view.old.log
+        ensures noted { F.reads_right view.old.db × F.reads_right view.old.log
             → IsNear (last_of (commits_of self.old)) (F.bytes view.old.db) near.old → IfOk result
             (λ taken. IsAdded (pages_of F.bytes view.old) taken (commits_of self.old) (commits_of self.new)) }
-        ensures near { F.gives_bytes view.old.db × F.gives_bytes view.old.log
+        ensures near { F.reads_right view.old.db × F.reads_right view.old.log
             → IsNear (last_of (commits_of self.old)) (F.bytes view.old.db) near.old
             → IsNear (last_of (commits_of self.new)) (F.bytes view.old.db) near.new }
         ensures err { OnErr result (commits_of self.new ≡ commits_of self.old) }

@@ -45,7 +45,7 @@ fn placed(shown: usize, known: usize) -> Judgment
 
 /// The judgment of a database of no commit.
 fn unshown<S: PageSource>(alloc: Global, source: &mut S) -> Result<Judgment, SnapshotError>
-    ensures judged { S.gives_pages source.old → IfOk result (λ j. (commits : List Commit) (known : ℕ)
+    ensures judged { S.reads_right source.old → IfOk result (λ j. (commits : List Commit) (known : ℕ)
         → IsLastShown commits (S.pages source.old) None
         → IsJudged commits known (S.pages source.old) (S.size source.old) j) }
     ensures memory { S.gives_pages source.old → IfErr result (λ e. e ≡ NoMemory) }
@@ -64,7 +64,7 @@ pub fn judge_source<S: PageSource>(
     known: usize,
     source: &mut S,
 ) -> Result<Judgment, SnapshotError>
-    ensures judged { S.gives_pages source.old
+    ensures judged { S.reads_right source.old
         → IfOk result (IsJudged (commits_of history.now) known (S.pages source.old) (S.size source.old)) }
     ensures memory { S.gives_pages source.old → IfErr result (λ e. e ≡ NoMemory) }
 {

@@ -23,7 +23,7 @@ fn leaf_count_of(bytes: &[u8]) -> u32
 
 /// How many leaves the trunk `p` names.
 fn leaf_count<S: PageSource>(alloc: Global, source: &mut S, p: u32) -> Result<u32, SnapshotError>
-    ensures count { S.gives_pages source.old → IfOk result (λ n. n ≡ leaf_count_in (page (S.pages source.old) p)) }
+    ensures count { S.reads_right source.old → IfOk result (λ n. n ≡ leaf_count_in (page (S.pages source.old) p)) }
     ensures memory { S.gives_pages source.old → IsPage (S.pages source.old) p → IfErr result (λ e. e ≡ NoMemory) }
     ensures keeps { KeepsPages S.pages S.size S.reads_right S.gives_pages source.old source.new }
 {
@@ -41,7 +41,7 @@ fn leaves_among<S: PageSource>(
     source: &mut S,
     pages: &[u32],
 ) -> Result<Vec<u32>, SnapshotError>
-    ensures leaves { S.gives_pages source.old
+    ensures leaves { S.reads_right source.old
         → IfOk result (λ v. v.items ≡ leaves_of (S.pages source.old) 0 pages.now) }
     ensures memory { S.gives_pages source.old → Every (IsPage (S.pages source.old)) pages.now
         → IfErr result (λ e. e ≡ NoMemory) }
@@ -63,7 +63,7 @@ fn leaves_among<S: PageSource>(
 /// The leaves of the freelist, whose bytes SQLite neither journals nor logs; none where the freelist isn't sound.
 /// Refused by Unread, where a page can't be read, and NoMemory.
 pub fn free_leaves<S: PageSource>(alloc: Global, source: &mut S) -> Result<Vec<u32>, SnapshotError>
-    ensures leaves { S.gives_pages source.old → IfOk result (λ v. AreLeaves (S.pages source.old) v.items) }
+    ensures leaves { S.reads_right source.old → IfOk result (λ v. AreLeaves (S.pages source.old) v.items) }
     ensures memory { S.gives_pages source.old → IfErr result (λ e. e ≡ NoMemory) }
     ensures keeps { KeepsPages S.pages S.size S.reads_right S.gives_pages source.old source.new }
 {

@@ -30,7 +30,7 @@ impl Model for Page {
 impl Page {
     /// Page `p` of a source.
     fn read<S: PageSource>(alloc: Global, source: &mut S, p: u32) -> Result<Page, SnapshotError>
-        ensures read { S.gives_pages source.old → IfOk result (λ read. read ≡ page (S.pages source.old) p) }
+        ensures read { S.reads_right source.old → IfOk result (λ read. read ≡ page (S.pages source.old) p) }
         ensures memory { S.gives_pages source.old → IsPage (S.pages source.old) p → IfErr result (λ e. e ≡ NoMemory) }
         ensures keeps { KeepsPages S.pages S.size S.reads_right S.gives_pages source.old source.new }
     {
@@ -77,7 +77,7 @@ fn read_pages<S: PageSource>(
     source: &mut S,
     before: &[Page],
 ) -> Result<Vec<Page>, SnapshotError>
-    ensures read { S.gives_pages source.old → IfOk result (λ v. v.items ≡ S.pages source.old) }
+    ensures read { S.reads_right source.old → IfOk result (λ v. v.items ≡ S.pages source.old) }
     ensures memory { S.gives_pages source.old → IfErr result (λ e. e ≡ NoMemory) }
     ensures keeps { KeepsPages S.pages S.size S.reads_right S.gives_pages source.old source.new }
 {
@@ -110,7 +110,7 @@ impl Snapshot {
 
     /// The database of a source. Refused by Unread, where a page can't be read, and NoMemory.
     pub fn take<S: PageSource>(alloc: Global, source: &mut S) -> Result<Snapshot, SnapshotError>
-        ensures taken { S.gives_pages source.old → IfOk result (λ s. IsTaken (S.pages source.old) (commit_of s)) }
+        ensures taken { S.reads_right source.old → IfOk result (λ s. IsTaken (S.pages source.old) (commit_of s)) }
         ensures memory { S.gives_pages source.old → IfErr result (λ e. e ≡ NoMemory) }
         ensures keeps { KeepsPages S.pages S.size S.reads_right S.gives_pages source.old source.new }
     {
@@ -123,7 +123,7 @@ impl Snapshot {
         alloc: Global,
         source: &mut S,
     ) -> Result<Snapshot, SnapshotError>
-        ensures taken { S.gives_pages source.old → IfOk result (λ s. IsTaken (S.pages source.old) (commit_of s)) }
+        ensures taken { S.reads_right source.old → IfOk result (λ s. IsTaken (S.pages source.old) (commit_of s)) }
         ensures memory { S.gives_pages source.old → IfErr result (λ e. e ≡ NoMemory) }
         ensures keeps { KeepsPages S.pages S.size S.reads_right S.gives_pages source.old source.new }
     {
@@ -186,7 +186,7 @@ impl Snapshot {
         alloc: Global,
         source: &mut S,
     ) -> Result<bool, SnapshotError>
-        ensures shown { S.gives_pages source.old
+        ensures shown { S.reads_right source.old
             → IfOk result (λ shown. IsTrue shown ↔ Shows (commit_of self.now) (S.pages source.old)) }
         ensures memory { S.gives_pages source.old → IfErr result (λ e. e ≡ NoMemory) }
         ensures keeps { KeepsPages S.pages S.size S.reads_right S.gives_pages source.old source.new }
@@ -213,14 +213,16 @@ impl Snapshot {
         view: &mut View<F>,
         near: &mut Near,
     ) -> Result<bool, SnapshotError>
-        ensures shown { F.gives_bytes view.old.db × F.gives_bytes view.old.log
+        ensures shown { F.reads_right view.old.db × F.reads_right view.old.log
             → IsNear (commit_of self.now) (F.bytes view.old.db) near.old
             → IfOk result (λ shown. IsTrue shown ↔ Shows (commit_of self.now) (pages_of F.bytes view.old)) }
-        ensures near { F.gives_bytes view.old.db × F.gives_bytes view.old.log
+        ensures near { F.reads_right view.old.db × F.reads_right view.old.log
             → IsNear (commit_of self.now) (F.bytes view.old.db) near.old
             → IsNear (commit_of self.now) (F.bytes view.old.db) near.new }
         ensures memory { F.gives_bytes view.old.db × F.gives_bytes view.old.log → IfErr result (λ e. e ≡ NoMemory) }
         ensures same { shape_of F.bytes view.new ≡ shape_of F.bytes view.old }
+        ensures still_right { F.reads_right view.old.db × F.reads_right view.old.log
+            → F.reads_right view.new.db × F.reads_right view.new.log }
         ensures still_gives { F.gives_bytes view.old.db × F.gives_bytes view.old.log
             → F.gives_bytes view.new.db × F.gives_bytes view.new.log }
     {

@@ -16,7 +16,7 @@ pub(crate) fn fault_of<S: PageSource>(
     alloc: Global,
     source: &mut S,
 ) -> Result<Option<CheckError>, SnapshotError>
-    ensures fault { S.gives_pages source.old → IfOk result (λ fault. MatchOption fault
+    ensures fault { S.reads_right source.old → IfOk result (λ fault. MatchOption fault
         (IsSound (S.pages source.old) (S.size source.old)) (IsFaulty (S.pages source.old) (S.size source.old))) }
     ensures memory { S.gives_pages source.old → IfErr result (λ e. e ≡ NoMemory) }
 {

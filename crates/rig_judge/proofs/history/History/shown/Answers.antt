@@ -13,8 +13,8 @@ loop-k-preserved g c =
     let within : c.loop-k.k ≤ length xs = omega (arith, c.loop-k.auto.k, c.len-k.ensures, c.args.self.now.commits.ok.0) in
     let shown = c.in_ok-is_shown.field-0 in (
       keeps_on was.0 c.is_shown.ensures.keeps,
-      λ gives.
+      λ right.
           let is : IsTrue shown ↔ Shows (commit_of c.index.result.now) (g.S.PageSource.pages c.args.source.now) =
-          subst (λ (d : Database). IsTrue shown ↔ Shows (commit_of c.index.result.now) d) was.0.same_pages (c.in_ok-is_shown.ensures.shown (was.0.still_gives gives)) in
-          step_none xs c.loop-k.k c.index.result.now (g.S.PageSource.pages c.args.source.now) shown (omega arith) within c.index.ensures c.if-branch.false is (was.1 gives),
+          subst (λ (d : Database). IsTrue shown ↔ Shows (commit_of c.index.result.now) d) was.0.same_pages (c.in_ok-is_shown.ensures.shown (was.0.still_right right)) in
+          step_none xs c.loop-k.k c.index.result.now (g.S.PageSource.pages c.args.source.now) shown (omega arith) within c.index.ensures c.if-branch.false is (was.1 right),
     )

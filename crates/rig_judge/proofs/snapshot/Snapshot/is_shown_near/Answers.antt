@@ -4,17 +4,17 @@ use Rattle.sqval.specs.Database.{Database, page}
 use Rattle.sqview.specs.Laid.{place_of}
 use Rattle.sqview.specs.LogView.{pages_of}
 use Rattle.sqview.specs.Shapes.{Shape}
-use Rattle.sqview.proofs.openings.PagesOfView.{length_laid, ok_now, same_pages}
+use Rattle.sqview.proofs.openings.PagesOfView.{length_laid, same_pages}
 use Rattle.rig_judge.specs.Shown.{AgreesAt, commit_of}
 use Rattle.rig_judge.proofs.KnownPages.{known_agrees, known_too}
 use Rattle.rig_judge.proofs.NumberedCommits.{more_agree}
 use Rattle.rig_judge.proofs.snapshot.Snapshot.is_shown_near.Goals as goal
 
 pub returns-in_err-fit-clause-near : goal.returns-in_err-fit-clause-near
-returns-in_err-fit-clause-near g c = λ gives is. c.fit.ensures.near (commit_of c.args.self.now) (g.F.FileBytes.bytes c.args.view.now.db) is
+returns-in_err-fit-clause-near g c = λ right is. c.fit.ensures.near (commit_of c.args.self.now) (g.F.FileBytes.bytes c.args.view.now.db) is
 
 pub returns-in_err-bytes-clause-near : goal.returns-in_err-bytes-clause-near
-returns-in_err-bytes-clause-near g c = λ gives is. c.fit.ensures.near (commit_of c.args.self.now) (g.F.FileBytes.bytes c.args.view.now.db) is
+returns-in_err-bytes-clause-near g c = λ right is. c.fit.ensures.near (commit_of c.args.self.now) (g.F.FileBytes.bytes c.args.view.now.db) is
 
 pub loop-i-init : goal.loop-i-init
 loop-i-init g c = (
@@ -22,8 +22,9 @@ loop-i-init g c = (
   omega (arith, c.in_ok-bytes.ensures.len, c.in_ok-bytes.bytes.ok.0, c.get-size.ensures.value, c.page_size.ensures),
   c.in_ok-fit.ensures.size ∙ c.get-size.ensures.value ∙ c.page_size.ensures,
   λ gives. gives,
-  λ gives is. c.fit.ensures.near (commit_of c.args.self.now) (g.F.FileBytes.bytes c.args.view.now.db) is,
-  λ gives is p low high. absurd (omega arith),
+  λ right is. c.fit.ensures.near (commit_of c.args.self.now) (g.F.FileBytes.bytes c.args.view.now.db) is,
+  λ right is p low high. absurd (omega arith),
+  λ right. right,
 )
 
 pub loop-i-preserved-then-knows : goal.loop-i-preserved-then-knows
@@ -41,7 +42,8 @@ loop-i-preserved-then-knows g c =
       was.2,
       was.3,
       was.4,
-      λ gives is. more_agree commit (pages_of bytes v) n (was.5 gives is) (known_agrees commit c.loop-i.near v.page_size v.count (bytes v.db) (bytes v.log) v.places.items n less was.2 (was.4 gives is) own known.1),
+      λ right is. more_agree commit (pages_of bytes v) n (was.5 right is) (known_agrees commit c.loop-i.near v.page_size v.count (bytes v.db) (bytes v.log) v.places.items n less was.2 (was.4 right is) own known.1),
+      was.6,
     )
 
 pub loop-i-preserved : goal.loop-i-preserved
@@ -63,16 +65,17 @@ loop-i-preserved g c =
       ap length kept ∙ long ∙ was.1,
       c.learn.ensures.size ∙ was.2,
       λ gives. c.read.ensures.still_gives (was.3 gives),
-      λ gives is.
-          c.learn.ensures.near commit (file v.db) (was.4 gives is) (λ yes at.
+      λ right is.
+          c.learn.ensures.near commit (file v.db) (was.4 right is) (λ yes at.
           let own : place_of v.places.items (n + 1) ≡ 0 = ap (λ (s : Shape). place_of s.places (n + 1)) (sym was.0) ∙ sym c.place-place.ensures ∙ at in
           let read : c.deref-in-loop-i.result.now ≡ page d (n + 1) =
-          c.deref-in-loop-i.ensures.value ∙ kept ∙ ok_now c.read.result (c.read.ensures.never_fails (was.3 gives)) (c.read.ensures.read (g.met.F.FileBytes.right c.loop-i.view.db (was.3 gives).0, g.met.F.FileBytes.right c.loop-i.view.log (was.3 gives).1))
+          c.deref-in-loop-i.ensures.value ∙ kept ∙ c.in_ok-read.ensures.read (was.6 right)
           ∙ ap (λ (x : Database). page x (n + 1)) (same_pages file c.loop-i.view v was.0) in
           known_too commit c.loop-i.near.size v.page_size v.count (file v.db) (file v.log) v.places.items n c.deref-in-loop-i.result.now less was.2 own read (c.has-same.ensures.0 yes)),
-      λ gives is.
+      λ right is.
           let read : c.deref.result.now ≡ page d (n + 1) =
-          c.deref.ensures.value ∙ kept ∙ ok_now c.read.result (c.read.ensures.never_fails (was.3 gives)) (c.read.ensures.read (g.met.F.FileBytes.right c.loop-i.view.db (was.3 gives).0, g.met.F.FileBytes.right c.loop-i.view.log (was.3 gives).1))
+          c.deref.ensures.value ∙ kept ∙ c.in_ok-read.ensures.read (was.6 right)
           ∙ ap (λ (x : Database). page x (n + 1)) (same_pages file c.loop-i.view v was.0) in
-          more_agree commit d n (was.5 gives is) (subst (AgreesAt commit (n + 1)) read (c.agrees.ensures.0 c.if-not-agrees.false)),
+          more_agree commit d n (was.5 right is) (subst (AgreesAt commit (n + 1)) read (c.agrees.ensures.0 c.if-not-agrees.false)),
+      λ right. c.read.ensures.still_right (was.6 right),
     )
