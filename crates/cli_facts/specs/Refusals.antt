@@ -1,4 +1,5 @@
 -- Which refusal each error becomes.
+use Rattle.std.specs.Prelude.{◌≡◌, ◌≢◌}
 use Rattle.cli_facts.specs.declared.outcome.Refusal.{Refusal}
 use Rattle.cli_facts.specs.declared.outcome.Refusal.TheVariants.{FileFailed, TooLarge, TwoLogs, NotADatabase, NoSuchCommit, CommitOverwritten, NoMemory}
 use Rattle.sqpast.specs.declared.past_error.PastError.{PastError}
@@ -17,3 +18,7 @@ refusal_of views.NoSuchCommit = NoSuchCommit
 abbrev pub refusal_of_past : PastError → Refusal
 refusal_of_past (past.Refused error) = refusal_of error
 refusal_of_past past.CommitOverwritten = CommitOverwritten
+
+-- If a file couldn't be read, not all of its bytes are given. Any other refusal has this cause.
+abbrev pub UnlessFileFailed : (gives : Type 0) → Refusal → (cause : Type 0) → Type 0
+UnlessFileFailed gives refusal cause = (refusal ≡ FileFailed → ¬ gives) × (refusal ≢ FileFailed → cause)

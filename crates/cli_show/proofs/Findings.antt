@@ -1,9 +1,9 @@
 -- What is found of the view that is asked for is found of the files.
-use Rattle.std.proofs.Common.{◌≡◌, ◌⊎◌, ℕ, List, Bool, inl, inr, refl, sym, ap, subst}
+use Rattle.std.proofs.Common.{◌≡◌, ◌≢◌, ◌⊎◌, ℕ, List, Bool, inl, inr, refl, sym, ap, subst}
 use Rattle.std.specs.Prelude.{Option, None, Some, Result, Ok, Err, IfOk, IfErr, IfSome}
 use Rattle.sqval.specs.Limits.{Bounds}
 use Rattle.sqview.specs.LogView.{pages_of}
-use Rattle.sqview.specs.Verdicts.{IsVerdictWith, IsUnjudgedWith, verdict_without}
+use Rattle.sqview.specs.Verdicts.{IsVerdictWith, IsUnjudgedWith, UnlessFailed, verdict_without}
 use Rattle.sqview.specs.declared.judge_error.JudgeError.{JudgeError}
 use Rattle.sqview.specs.declared.judge_error.JudgeError.TheVariants as judgments
 use Rattle.sqview.specs.declared.verdict.Verdict.{Verdict}
@@ -14,13 +14,14 @@ use Rattle.sqpast.specs.declared.used.Counts.{Counts}
 use Rattle.sqpast.specs.declared.past_error.PastError.TheVariants.{Refused as Why}
 use Rattle.cli_words.specs.declared.requests.Commit.{Commit}
 use Rattle.cli_facts.specs.Fronts.{IsFrontOf}
+use Rattle.cli_facts.specs.Refusals.{UnlessFileFailed}
 use Rattle.cli_facts.specs.internal.Refusals.{refusal_of_judge}
 use Rattle.cli_facts.specs.declared.fronts.Front.{Front}
 use Rattle.cli_facts.specs.declared.outcome.Refusal.{Refusal}
 use Rattle.cli_show.specs.Fronts.{IsAskedFront}
 use Rattle.cli_show.specs.Views.{IsAskedView, AskedRefused, IsFound, IsHeadless, IsNotFound}
 use Rattle.cli_show.specs.declared.views.Finding.{Finding}
-use Rattle.cli_show.proofs.AskedFronts.{asked_read, front_asked, shows_asked}
+use Rattle.cli_show.proofs.AskedFronts.{front_asked, shows_asked}
 
 -- what was found, beside this front
 IsFinding : (front : Option Front) → Result Verdict JudgeError → Finding → Type 0
@@ -65,15 +66,17 @@ module _ {F : Type 0} (maps : Bool) (limits : Bounds) (bytes : F → List ℕ) (
   found_of at v (Ok verdict) shown finds = inl (v.page_size, pages_of bytes v, shows_asked limits bytes db wal journal v at shown, finds)
   found_of at v (Err e) shown finds = tt
 
-  unjudged_of : (at : Commit) (v : View F) (q : Result Verdict JudgeError) → IsAskedView limits bytes at db wal journal v → IfErr q (IsUnjudgedWith maps (pages_of bytes v))
-      → IfErr q (λ e. IsNotFound maps limits at db wal journal (refusal_of_judge e))
-  unjudged_of at v (Ok verdict) shown refused = tt
-  unjudged_of at v (Err judgments.AutoVacuum) shown refused = (v.page_size, pages_of bytes v, shows_asked limits bytes db wal journal v at shown, refused)
-  unjudged_of at v (Err judgments.NoMemory) shown refused = tt
-  unjudged_of at v (Err judgments.TwoLogs) shown refused = absurd refused
-  unjudged_of at v (Err judgments.TooLarge) shown refused = absurd refused
-  unjudged_of at v (Err judgments.Unread) shown refused = absurd refused
-  unjudged_of at v (Err judgments.NoSuchCommit) shown refused = absurd refused
+  unjudged_of : (g h : Type 0) (at : Commit) (v : View F) (q : Result Verdict JudgeError) → IsAskedView limits bytes at db wal journal v → (g → h)
+      → IfErr q (λ e. UnlessFailed h e (IsUnjudgedWith maps (pages_of bytes v) e))
+      → IfErr q (λ e. UnlessFileFailed g (refusal_of_judge e) (IsNotFound maps limits at db wal journal (refusal_of_judge e)))
+  unjudged_of g h at v (Ok verdict) shown still refused = tt
+  unjudged_of g h at v (Err judgments.AutoVacuum) shown still refused =
+      (λ is. cc, λ _. (v.page_size, pages_of bytes v, shows_asked limits bytes db wal journal v at shown, refused.1 (λ is. cc)))
+  unjudged_of g h at v (Err judgments.NoMemory) shown still refused = (λ is. cc, λ _. tt)
+  unjudged_of g h at v (Err judgments.TwoLogs) shown still refused = absurd (refused.1 (λ is. cc))
+  unjudged_of g h at v (Err judgments.TooLarge) shown still refused = absurd (refused.1 (λ is. cc))
+  unjudged_of g h at v (Err judgments.Unread) shown still refused = (λ _ gives. refused.0 refl (still gives), λ other. absurd (other refl))
+  unjudged_of g h at v (Err judgments.NoSuchCommit) shown still refused = absurd (refused.1 (λ is. cc))
 
   -- of a view
   module _ (at : Commit) (v : View F) (front : Option Front) (q : Result Verdict JudgeError) (r : Result Finding Refusal) (shown : IsAskedView limits bytes at db wal journal v) where
@@ -87,27 +90,29 @@ module _ {F : Type 0} (maps : Bool) (limits : Bounds) (bytes : F → List ℕ) (
         (all_ok (λ verdict. IsAskedFront at wal journal front ⊎ ((front ≡ None) × IsHeadless limits at db wal journal verdict)) q
         (λ verdict. inl (front_asked limits bytes db wal journal v at front shown stands)))
 
-    pub view_refused : IfErr r (λ x. (error : JudgeError) × (q ≡ Err error) × (x ≡ refusal_of_judge error)) → IfErr q (IsUnjudgedWith maps (pages_of bytes v))
-        → IfErr r (IsNotFound maps limits at db wal journal)
-    view_refused is refused = refused_by (IsNotFound maps limits at db wal journal) q r is (unjudged_of at v q shown refused)
+    pub view_refused : {g h : Type 0} → IfErr r (λ x. (error : JudgeError) × (q ≡ Err error) × (x ≡ refusal_of_judge error)) → (g → h)
+        → IfErr q (λ e. UnlessFailed h e (IsUnjudgedWith maps (pages_of bytes v) e))
+        → IfErr r (λ x. UnlessFileFailed g x (IsNotFound maps limits at db wal journal x))
+    view_refused {g = g} {h = h} is still refused = refused_by (λ x. UnlessFileFailed g x (IsNotFound maps limits at db wal journal x)) q r is (unjudged_of g h at v q shown still refused)
 
 -- where there is no view
 module _ (maps : Bool) (limits : Bounds) (at : Commit) (db wal journal : List ℕ) where
-  headless : (error : ViewError) → AskedRefused limits at db wal journal (Why error) → IfOk (verdict_without error) (IsHeadless limits at db wal journal)
-  headless (views.Header fault) refused = (refl, refused)
+  headless : (error : ViewError) → (error ≢ views.Unread → AskedRefused limits at db wal journal (Why error)) → IfOk (verdict_without error) (IsHeadless limits at db wal journal)
+  headless (views.Header fault) refused = (refl, refused (λ is. cc))
   headless views.TwoLogs refused = tt
   headless views.TooLarge refused = tt
   headless views.Unread refused = tt
   headless views.NoMemory refused = tt
   headless views.NoSuchCommit refused = tt
 
-  unviewed : (error : ViewError) → AskedRefused limits at db wal journal (Why error) → IfErr (verdict_without error) (λ e. IsNotFound maps limits at db wal journal (refusal_of_judge e))
-  unviewed (views.Header fault) refused = tt
-  unviewed views.TwoLogs refused = refused
-  unviewed views.TooLarge refused = refused
-  unviewed views.Unread refused = absurd (asked_read limits at db wal journal refused)
-  unviewed views.NoMemory refused = tt
-  unviewed views.NoSuchCommit refused = refused
+  unviewed : (g : Type 0) (error : ViewError) → (error ≡ views.Unread → ¬ g) → (error ≢ views.Unread → AskedRefused limits at db wal journal (Why error))
+      → IfErr (verdict_without error) (λ e. UnlessFileFailed g (refusal_of_judge e) (IsNotFound maps limits at db wal journal (refusal_of_judge e)))
+  unviewed g (views.Header fault) unread refused = tt
+  unviewed g views.TwoLogs unread refused = (λ is. cc, λ _. refused (λ is. cc))
+  unviewed g views.TooLarge unread refused = (λ is. cc, λ _. refused (λ is. cc))
+  unviewed g views.Unread unread refused = (λ _. unread refl, λ other. absurd (other refl))
+  unviewed g views.NoMemory unread refused = (λ is. cc, λ _. tt)
+  unviewed g views.NoSuchCommit unread refused = (λ is. cc, λ _. refused (λ is. cc))
 
   weaker : (q : Result Verdict JudgeError) → IfOk q (IsHeadless limits at db wal journal) → IfOk q (IsFound maps limits at db wal journal)
   weaker (Ok verdict) is = inr is
@@ -118,7 +123,7 @@ module _ (maps : Bool) (limits : Bounds) (at : Commit) (db wal journal : List �
   beside (Ok verdict) is = inr (refl, is)
   beside (Err e) is = tt
 
-  module _ (error : ViewError) (q : Result Verdict JudgeError) (r : Result Finding Refusal) (refused : AskedRefused limits at db wal journal (Why error)) (same : q ≡ verdict_without error) where
+  module _ (error : ViewError) (q : Result Verdict JudgeError) (r : Result Finding Refusal) (refused : error ≢ views.Unread → AskedRefused limits at db wal journal (Why error)) (same : q ≡ verdict_without error) where
     here : IfOk q (IsHeadless limits at db wal journal)
     here = subst (λ (o : Result Verdict JudgeError). IfOk o (IsHeadless limits at db wal journal)) (sym same) (headless error refused)
 
@@ -130,6 +135,7 @@ module _ (maps : Bool) (limits : Bounds) (at : Commit) (db wal journal : List �
     none_front is =
         front_by (λ f verdict. IsAskedFront at wal journal f ⊎ ((f ≡ None) × IsHeadless limits at db wal journal verdict)) None q r is (beside q here)
 
-    pub none_refused : IfErr r (λ x. (error : JudgeError) × (q ≡ Err error) × (x ≡ refusal_of_judge error)) → IfErr r (IsNotFound maps limits at db wal journal)
-    none_refused is = refused_by (IsNotFound maps limits at db wal journal) q r is
-        (subst (λ (o : Result Verdict JudgeError). IfErr o (λ e. IsNotFound maps limits at db wal journal (refusal_of_judge e))) (sym same) (unviewed error refused))
+    pub none_refused : (g : Type 0) → (error ≡ views.Unread → ¬ g) → IfErr r (λ x. (error : JudgeError) × (q ≡ Err error) × (x ≡ refusal_of_judge error))
+        → IfErr r (λ x. UnlessFileFailed g x (IsNotFound maps limits at db wal journal x))
+    none_refused g unread is = refused_by (λ x. UnlessFileFailed g x (IsNotFound maps limits at db wal journal x)) q r is
+        (subst (λ (o : Result Verdict JudgeError). IfErr o (λ e. UnlessFileFailed g (refusal_of_judge e) (IsNotFound maps limits at db wal journal (refusal_of_judge e)))) (sym same) (unviewed g error unread refused))

@@ -16,3 +16,4 @@ mod LastSegments
 mod RunsInOrder
 mod RunsOfPages
 mod PartsOfReports
+pub mod ReadViews

@@ -1,10 +1,13 @@
 //! The view that is asked for, and what is found there.
 ghost use Rattle.std.specs.Prelude.{◌≡◌, ◌⊎◌, Err, IfErr, IfOk, IfSome, MatchResult, None, Ok};
+ghost use Rattle.cli_facts.specs.Refusals.{UnlessFileFailed};
 ghost use Rattle.cli_facts.specs.internal.Refusals.{refusal_of_judge};
 ghost use Rattle.sqview.specs.declared.judge_error.JudgeError.{JudgeError};
 ghost use Rattle.cli_show.specs.Fronts.{IsAskedFront};
 ghost use Rattle.sqview.specs.LogView.{pages_of};
-ghost use Rattle.sqview.specs.declared.view_error.ViewError.TheVariants.{NoMemory};
+ghost use Rattle.sqview.specs.Logs.{IsRead};
+ghost use Rattle.sqpast.specs.Files.{IsPastRead};
+ghost use Rattle.sqpast.specs.Past.{IsSource};
 ghost use Rattle.sqpast.specs.Used.{AreCounts, IsUsedPart};
 ghost use Rattle.cli_show.specs.Views.{AreAskedCounts, AskedAnswer, AskedRefused, IsAskedView, IsFound, IsHeadless};
 ghost use Rattle.cli_show.specs.Views.{IsNotFound, ReadsLog, WholeAnswer};
@@ -29,9 +32,14 @@ pub fn whole_view_of<F: FileBytes + Drop>(
 ) -> Result<View<F>, PastError>
     ensures answer { F.gives_bytes db × F.gives_bytes wal × F.gives_bytes journal
         → WholeAnswer limits F.bytes at (F.bytes db) (F.bytes wal) (F.bytes journal) result }
+    ensures right { F.reads_right db × F.reads_right wal × F.reads_right journal → IsPastRead result
+        → WholeAnswer limits F.bytes at (F.bytes db) (F.bytes wal) (F.bytes journal) result }
+    ensures read { F.gives_bytes db × F.gives_bytes wal × F.gives_bytes journal → IsPastRead result }
+    ensures still_right { F.reads_right db × F.reads_right wal × F.reads_right journal
+        → IfOk result (λ view. F.reads_right view.db × F.reads_right view.log) }
     ensures still_gives { F.gives_bytes db × F.gives_bytes wal × F.gives_bytes journal
         → IfOk result (λ view. F.gives_bytes view.db × F.gives_bytes view.log) }
-    ensures reads { F.gives_bytes db × F.gives_bytes wal × F.gives_bytes journal
+    ensures reads { F.reads_right db × F.reads_right wal × F.reads_right journal
         → IfOk result (λ view. ReadsLog at (F.bytes wal) (F.bytes journal) (F.bytes view.log)) }
 {
     match at {
@@ -56,11 +64,14 @@ pub struct Used<F> {
 
 /// Leaves of a view the pages that SQLite would use.
 fn used_of<F: FileBytes + Drop>(alloc: Global, whole: View<F>) -> Result<Used<F>, ViewError>
-    ensures used { F.gives_bytes whole.db × F.gives_bytes whole.log
+    ensures used { F.reads_right whole.db × F.reads_right whole.log
         → IfOk result (λ used. IsUsedPart F.bytes whole used.view) }
-    ensures counts { F.gives_bytes whole.db × F.gives_bytes whole.log
+    ensures counts { F.reads_right whole.db × F.reads_right whole.log
         → IfOk result (λ used. AreCounts (pages_of F.bytes whole) used.counts) }
-    ensures refused { F.gives_bytes whole.db × F.gives_bytes whole.log → IfErr result (λ error. error ≡ NoMemory) }
+    ensures refused { IfErr result IsSource }
+    ensures read { F.gives_bytes whole.db × F.gives_bytes whole.log → IsRead result }
+    ensures still_right { F.reads_right whole.db × F.reads_right whole.log
+        → IfOk result (λ used. F.reads_right used.view.db × F.reads_right used.view.log) }
     ensures still_gives { F.gives_bytes whole.db × F.gives_bytes whole.log
         → IfOk result (λ used. F.gives_bytes used.view.db × F.gives_bytes used.view.log) }
 {
@@ -82,14 +93,17 @@ pub fn used_view_of<F: FileBytes + Drop>(
     journal: F,
     at: Commit,
 ) -> Result<Used<F>, PastError>
-    ensures answer { F.gives_bytes db × F.gives_bytes wal × F.gives_bytes journal
+    ensures right { F.reads_right db × F.reads_right wal × F.reads_right journal → IsPastRead result
         → MatchResult result (λ used. IsAskedView limits F.bytes at (F.bytes db) (F.bytes wal) (F.bytes journal)
         used.view) (AskedRefused limits at (F.bytes db) (F.bytes wal) (F.bytes journal)) }
-    ensures counts { F.gives_bytes db × F.gives_bytes wal × F.gives_bytes journal
+    ensures counts { F.reads_right db × F.reads_right wal × F.reads_right journal
         → IfOk result (λ used. AreAskedCounts at (F.bytes db) (F.bytes wal) (F.bytes journal) used.counts) }
+    ensures read { F.gives_bytes db × F.gives_bytes wal × F.gives_bytes journal → IsPastRead result }
+    ensures still_right { F.reads_right db × F.reads_right wal × F.reads_right journal
+        → IfOk result (λ used. F.reads_right used.view.db × F.reads_right used.view.log) }
     ensures still_gives { F.gives_bytes db × F.gives_bytes wal × F.gives_bytes journal
         → IfOk result (λ used. F.gives_bytes used.view.db × F.gives_bytes used.view.log) }
-    ensures reads { F.gives_bytes db × F.gives_bytes wal × F.gives_bytes journal
+    ensures reads { F.reads_right db × F.reads_right wal × F.reads_right journal
         → IfOk result (λ used. ReadsLog at (F.bytes wal) (F.bytes journal) (F.bytes used.view.log)) }
 {
     match whole_view_of(alloc, limits, db, wal, journal, at) {
@@ -112,9 +126,14 @@ pub fn view_of<F: FileBytes + Drop>(
 ) -> Result<View<F>, PastError>
     ensures answer { F.gives_bytes db × F.gives_bytes wal × F.gives_bytes journal
         → AskedAnswer limits F.bytes at (F.bytes db) (F.bytes wal) (F.bytes journal) result }
+    ensures right { F.reads_right db × F.reads_right wal × F.reads_right journal → IsPastRead result
+        → AskedAnswer limits F.bytes at (F.bytes db) (F.bytes wal) (F.bytes journal) result }
+    ensures read { F.gives_bytes db × F.gives_bytes wal × F.gives_bytes journal → IsPastRead result }
+    ensures still_right { F.reads_right db × F.reads_right wal × F.reads_right journal
+        → IfOk result (λ view. F.reads_right view.db × F.reads_right view.log) }
     ensures still_gives { F.gives_bytes db × F.gives_bytes wal × F.gives_bytes journal
         → IfOk result (λ view. F.gives_bytes view.db × F.gives_bytes view.log) }
-    ensures reads { F.gives_bytes db × F.gives_bytes wal × F.gives_bytes journal
+    ensures reads { F.reads_right db × F.reads_right wal × F.reads_right journal
         → IfOk result (λ view. ReadsLog at (F.bytes wal) (F.bytes journal) (F.bytes view.log)) }
 {
     match used_view_of(alloc, limits, db, wal, journal, at) {
@@ -176,15 +195,17 @@ pub fn judged<F: FileBytes + Drop>(
     wal: F,
     journal: F,
 ) -> Result<Finding, Refusal>
-    ensures found { F.gives_bytes db × F.gives_bytes wal × F.gives_bytes journal → IfOk result (λ found.
+    ensures found { F.reads_right db × F.reads_right wal × F.reads_right journal → IfOk result (λ found.
         IsFound asked.maps.pointer_maps asked.limits asked.at (F.bytes db) (F.bytes wal) (F.bytes journal)
         found.verdict) }
-    ensures front { F.gives_bytes db × F.gives_bytes wal × F.gives_bytes journal → IfOk result (λ found.
+    ensures front { F.reads_right db × F.reads_right wal × F.reads_right journal → IfOk result (λ found.
         IsAskedFront asked.at (F.bytes wal) (F.bytes journal) found.front ⊎ ((found.front ≡ None)
         × IsHeadless asked.limits asked.at (F.bytes db) (F.bytes wal) (F.bytes journal) found.verdict)) }
-    ensures refused { F.gives_bytes db × F.gives_bytes wal × F.gives_bytes journal → IfErr result
-        (IsNotFound asked.maps.pointer_maps asked.limits asked.at (F.bytes db) (F.bytes wal) (F.bytes journal)) }
-    ensures counts { F.gives_bytes db × F.gives_bytes wal × F.gives_bytes journal → IfOk result (λ found.
+    ensures refused { F.reads_right db × F.reads_right wal × F.reads_right journal → IfErr result (λ refusal.
+        UnlessFileFailed (F.gives_bytes db × F.gives_bytes wal × F.gives_bytes journal) refusal
+        (IsNotFound asked.maps.pointer_maps asked.limits asked.at (F.bytes db) (F.bytes wal) (F.bytes journal)
+        refusal)) }
+    ensures counts { F.reads_right db × F.reads_right wal × F.reads_right journal → IfOk result (λ found.
         IfSome found.counts (AreAskedCounts asked.at (F.bytes db) (F.bytes wal) (F.bytes journal))) }
 {
     match used_view_of(alloc, asked.limits, db, wal, journal, asked.at) {
