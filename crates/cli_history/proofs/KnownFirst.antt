@@ -1,16 +1,17 @@
 -- The first commit of a log at which the database is known.
-use Rattle.std.proofs.Common.{◌≡◌, ◌⊎◌, ◌<◌, ◌≤◌, ℕ, List, Bool, Result, Ok, Err, refl, ⊎_elim, inr, arith}
+use Rattle.std.proofs.Common.{◌≡◌, ◌⊎◌, ◌<◌, ◌≤◌, ℕ, List, Bool, Result, Ok, Err, refl, sym, ap, subst, ⊎_elim, inl, inr, arith}
 use Rattle.std.specs.Prelude.{zero, suc, Option, None, MatchOption, IfOk, IfErr}
 use Rattle.sqval.specs.Limits.{Bounds}
 use Rattle.sqwal.specs.Frames.{IsCommit, IsFront}
 use Rattle.sqwal.specs.Header.{named_size}
 use Rattle.sqwal.specs.Took.{TookWithin}
 use Rattle.sqwal.specs.declared.scan.Scan.{Scan}
+use Rattle.sqview.specs.Logs.{IsRead}
 use Rattle.sqview.specs.declared.view_error.ViewError.{ViewError}
-use Rattle.sqview.specs.declared.view_error.ViewError.TheVariants.{Unread, NoMemory}
+use Rattle.sqview.specs.declared.view_error.ViewError.TheVariants.{NoMemory}
 use Rattle.sqpast.specs.Commits.{AreKnown, IsFirstKnown, NoneIsKnown}
 use Rattle.sqpast.specs.Past.{IsSource}
-use Rattle.sqpast.specs.Files.{PastRefusedWithin}
+use Rattle.sqpast.specs.Files.{IsPastRead, PastRefusedWithin}
 use Rattle.sqpast.specs.declared.past_error.PastError.{PastError}
 use Rattle.sqpast.specs.declared.past_error.PastError.TheVariants.{CommitOverwritten, Refused}
 use Rattle.cli_history.specs.declared.files.Files.{Files}
@@ -78,6 +79,16 @@ pub none_later : (w file : List ℕ) (scan : Scan) (error : PastError)
 none_later w file scan error are = λ most front took at some.
     let next = are most front took at in absurd (front_known w file front next.0 at some next.1 next.2)
 
--- files that are given are read
-pub source_memory : (error : ViewError) → IsSource error → (error ≡ Unread → ⊥) → error ≡ NoMemory
-source_memory error source read = ⊎_elim (λ unread. absurd (read unread)) (λ memory. memory) source
+-- if no read failed, memory ran out
+pub source_memory : (A : Type 0) (error : ViewError) → IsSource error → IsPastRead {A = A} (Err (Refused error)) → Refused error ≡ Refused NoMemory
+source_memory A error (inl unread) read = absurd (subst (λ (e : ViewError). IsPastRead {A = A} (Err (Refused e))) unread read)
+source_memory A error (inr memory) read = ap Refused memory
+
+-- memory that ran out
+pub memory_source : {A : Type 0} (r : Result A ViewError) → IfErr r (λ error. error ≡ NoMemory) → IfErr r IsSource
+memory_source (Ok _) why = tt
+memory_source (Err e) why = inr why
+
+pub memory_read : {A : Type 0} (r : Result A ViewError) → IfErr r (λ error. error ≡ NoMemory) → IsRead r
+memory_read (Ok _) why = tt
+memory_read {A} (Err e) why = subst (λ (error : ViewError). IsRead {A = A} (Err error)) (sym why) tt

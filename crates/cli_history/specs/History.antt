@@ -8,11 +8,12 @@ use Rattle.sqview.specs.At.{AtRefusedWithin, ViewsAt}
 use Rattle.sqview.specs.LogView.{pages_of}
 use Rattle.sqview.specs.declared.view.View.{View as Shown}
 use Rattle.sqview.specs.declared.view_error.ViewError.{ViewError}
+use Rattle.sqview.specs.declared.view_error.ViewError.TheVariants.{Unread}
 use Rattle.sqpast.specs.Files.{PastRefusedWithin, PastViews}
 use Rattle.sqpast.specs.Used.{used_part}
 use Rattle.sqpast.specs.declared.past_error.PastError.{PastError}
 use Rattle.sqpast.specs.declared.past_error.PastError.TheVariants.{Refused}
-use Rattle.cli_show_rows.specs.Stops.{IsWriteError}
+use Rattle.cli_show_rows.specs.Stops.{IsUnreadStop, IsWriteError}
 use Rattle.cli_show_diff.specs.declared.form.ChangeForm.{ChangeForm}
 use Rattle.cli_show_diff.specs.declared.form.ChangeForm.TheVariants as changes
 use Rattle.cli_show_diff.specs.Changes.{AreChangesPrinted, AreChangesStopped}
@@ -66,11 +67,16 @@ IsCommitPrinted files front names form before frame old new =
     (d_size e_size : ℕ) × (d e : Database) × ShowsAt files front before d_size d × ShowsAt files front frame e_size e
     × ((mid : Option (List ℕ)) × Appends old mid (mark_text form frame) × AreChangesPrinted d e names (form_named form frame) mid new)
 
--- They weren't: one of both databases isn't shown, the writer failed, or the printing stopped.
+-- A file couldn't be read.
+abbrev pub IsUnreadHistory : HistoryError → Type 0
+IsUnreadHistory (View error) = error ≡ Refused Unread
+IsUnreadHistory (Stop stop) = IsUnreadStop stop
+
+-- They weren't: one of both databases isn't shown, or couldn't be read; the writer failed; or the printing stopped.
 abbrev pub IsCommitStopped : (limits : Bounds) → Files (List ℕ) → (front : Option ℕ) → (names : List (List ℕ)) → CommitForm → (before frame : ℕ) → HistoryError
     → (old new : Option (List ℕ)) → Type 0
 IsCommitStopped limits files front names form before frame (View error) old new =
-    (RefusesAt limits files front before error ⊎ RefusesAt limits files front frame error) × (old ≡ new)
+    ((error ≡ Refused Unread) ⊎ (RefusesAt limits files front before error ⊎ RefusesAt limits files front frame error)) × (old ≡ new)
 IsCommitStopped limits files front names form before frame (Stop stop) old new =
     IsWriteError stop
     ⊎ ((d_size e_size : ℕ) × (d e : Database) × ShowsAt files front before d_size d × ShowsAt files front frame e_size e

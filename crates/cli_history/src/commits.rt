@@ -5,7 +5,7 @@ ghost use Rattle.sqwal.specs.Took.{TookWithin};
 ghost use Rattle.sqjournal.specs.Journal.{IsHot};
 ghost use Rattle.cli_show_diff.specs.Changes.{texts_of};
 ghost use Rattle.cli_history.specs.History.{AreCommitsPrinted, AreCommitsStopped, AreGiven, IsCommitPrinted};
-ghost use Rattle.cli_history.specs.History.{IsCommitStopped, bytes_of, form_named, mark_text};
+ghost use Rattle.cli_history.specs.History.{IsCommitStopped, IsUnreadHistory, bytes_of, form_named, mark_text};
 
 use crate::error::HistoryError;
 use crate::files::{Files, view_at};
@@ -67,14 +67,15 @@ fn print_commit<F: FileBytes + Copy + Drop, W: Write>(
     step: (u32, u32),
     out: &mut W,
 ) -> Result<(), HistoryError>
-    ensures ok { AreGiven F.gives_bytes files → TookWithin told.now.limits.frames (F.bytes files.wal)
+    ensures ok { AreGiven F.reads_right files → TookWithin told.now.limits.frames (F.bytes files.wal)
         told.now.scan.now → ¬ IsHot (F.bytes files.journal) → OnOk result (IsCommitPrinted
         (bytes_of F.bytes files) told.now.front (texts_of told.now.selected.names.now) told.now.form step.0 step.1
         (W.contents out.old) (W.contents out.new)) }
-    ensures err { AreGiven F.gives_bytes files → TookWithin told.now.limits.frames (F.bytes files.wal)
+    ensures err { AreGiven F.reads_right files → TookWithin told.now.limits.frames (F.bytes files.wal)
         told.now.scan.now → ¬ IsHot (F.bytes files.journal) → IfErr result (λ error. IsCommitStopped
         told.now.limits (bytes_of F.bytes files) told.now.front (texts_of told.now.selected.names.now) told.now.form
         step.0 step.1 error (W.contents out.old) (W.contents out.new)) }
+    ensures unread { IfErr result (λ error. IsUnreadHistory error → ¬ AreGiven F.gives_bytes files) }
 {
     let (before, frame) = step;
     let mut old = match view_at(alloc, told.limits, files, told.scan, told.front, before) {
@@ -111,15 +112,17 @@ pub fn print_commits<F: FileBytes + Copy + Drop, W: Write>(
     out: &mut W,
 ) -> Result<(), HistoryError>
     // What is printed are the changes of these commits, each behind the one before it.
-    ensures ok { AreGiven F.gives_bytes files → TookWithin told.now.limits.frames (F.bytes files.wal)
+    ensures ok { AreGiven F.reads_right files → TookWithin told.now.limits.frames (F.bytes files.wal)
         told.now.scan.now → ¬ IsHot (F.bytes files.journal) → OnOk result (AreCommitsPrinted
         (bytes_of F.bytes files) told.now.front (texts_of told.now.selected.names.now) told.now.form from
         frames.entry.now (W.contents out.old) (W.contents out.new)) }
     // The first of them are, and this is why the next one isn't.
-    ensures err { AreGiven F.gives_bytes files → TookWithin told.now.limits.frames (F.bytes files.wal)
+    ensures err { AreGiven F.reads_right files → TookWithin told.now.limits.frames (F.bytes files.wal)
         told.now.scan.now → ¬ IsHot (F.bytes files.journal) → IfErr result (λ error. AreCommitsStopped
         told.now.limits (bytes_of F.bytes files) told.now.front (texts_of told.now.selected.names.now) told.now.form
         from frames.entry.now error (W.contents out.old) (W.contents out.new)) }
+    // That a page couldn't be read is told only where a read failed.
+    ensures unread { IfErr result (λ error. IsUnreadHistory error → ¬ AreGiven F.gives_bytes files) }
 {
     let mut before = from;
     for frame in frames {

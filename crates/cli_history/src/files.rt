@@ -2,7 +2,9 @@
 ghost use Rattle.std.specs.Prelude.{◌≡◌, ◌↔◌, IfErr, IfOk, IsTrue, Some};
 ghost use Rattle.sqwal.specs.Took.{TookWithin};
 ghost use Rattle.sqjournal.specs.Journal.{IsHot};
-ghost use Rattle.sqview.specs.declared.view_error.ViewError.TheVariants.{NoMemory};
+ghost use Rattle.sqview.specs.Logs.{IsRead};
+ghost use Rattle.sqpast.specs.Files.{IsPastRead};
+ghost use Rattle.sqpast.specs.Past.{IsSource};
 ghost use Rattle.sqpast.specs.Used.{IsUsedPart};
 ghost use Rattle.cli_history.specs.History.{AnswersAt, AreGiven, bytes_of};
 ghost use Rattle.cli_history.specs.internal.Whole.{AnswersWholeAt};
@@ -40,8 +42,12 @@ fn whole_at<F: FileBytes + Copy + Drop>(
     front: Option<u32>,
     frame: u32,
 ) -> Result<View<F>, PastError>
-    ensures answer { AreGiven F.gives_bytes files → TookWithin limits.frames (F.bytes files.wal) scan.now
-        → ¬ IsHot (F.bytes files.journal) → AnswersWholeAt limits F.bytes (bytes_of F.bytes files) front frame result }
+    ensures right { AreGiven F.reads_right files → IsPastRead result
+        → TookWithin limits.frames (F.bytes files.wal) scan.now → ¬ IsHot (F.bytes files.journal)
+        → AnswersWholeAt limits F.bytes (bytes_of F.bytes files) front frame result }
+    ensures read { AreGiven F.gives_bytes files → IsPastRead result }
+    ensures still_right { AreGiven F.reads_right files
+        → IfOk result (λ view. F.reads_right view.db × F.reads_right view.log) }
     ensures still_gives { AreGiven F.gives_bytes files
         → IfOk result (λ view. F.gives_bytes view.db × F.gives_bytes view.log) }
 {
@@ -59,8 +65,11 @@ fn whole_at<F: FileBytes + Copy + Drop>(
 
 /// Leaves of a view the pages that SQLite would use.
 fn used_of<F: FileBytes + Drop>(alloc: Global, whole: View<F>) -> Result<View<F>, ViewError>
-    ensures used { F.gives_bytes whole.db × F.gives_bytes whole.log → IfOk result (IsUsedPart F.bytes whole) }
-    ensures refused { F.gives_bytes whole.db × F.gives_bytes whole.log → IfErr result (λ error. error ≡ NoMemory) }
+    ensures used { F.reads_right whole.db × F.reads_right whole.log → IfOk result (IsUsedPart F.bytes whole) }
+    ensures refused { IfErr result IsSource }
+    ensures read { F.gives_bytes whole.db × F.gives_bytes whole.log → IsRead result }
+    ensures still_right { F.reads_right whole.db × F.reads_right whole.log
+        → IfOk result (λ view. F.reads_right view.db × F.reads_right view.log) }
     ensures still_gives { F.gives_bytes whole.db × F.gives_bytes whole.log
         → IfOk result (λ view. F.gives_bytes view.db × F.gives_bytes view.log) }
 {
@@ -80,8 +89,12 @@ pub(crate) fn view_at<F: FileBytes + Copy + Drop>(
     front: Option<u32>,
     frame: u32,
 ) -> Result<View<F>, PastError>
-    ensures answer { AreGiven F.gives_bytes files → TookWithin limits.frames (F.bytes files.wal) scan.now
-        → ¬ IsHot (F.bytes files.journal) → AnswersAt limits F.bytes (bytes_of F.bytes files) front frame result }
+    ensures right { AreGiven F.reads_right files → IsPastRead result
+        → TookWithin limits.frames (F.bytes files.wal) scan.now → ¬ IsHot (F.bytes files.journal)
+        → AnswersAt limits F.bytes (bytes_of F.bytes files) front frame result }
+    ensures read { AreGiven F.gives_bytes files → IsPastRead result }
+    ensures still_right { AreGiven F.reads_right files
+        → IfOk result (λ view. F.reads_right view.db × F.reads_right view.log) }
     ensures still_gives { AreGiven F.gives_bytes files
         → IfOk result (λ view. F.gives_bytes view.db × F.gives_bytes view.log) }
 {

@@ -1,1 +1,2 @@
 pub mod known
+pub mod ReadAnswers

@@ -1,11 +1,4 @@
-use Rattle.sqpast.specs.declared.used.Counts.{Counts}
-use Rattle.cli_history.proofs.ViewsShown.{only_memory}
 use Rattle.cli_history.proofs.files.used_of.Goals as goal
 
-pub returns-in-Ok-clause-used : goal.returns-in-Ok-clause-used
-returns-in-Ok-clause-used g c = λ gives.
-    let w = c.args.whole in
-    c.in-Ok.ensures.used (g.met.F.FileBytes.right w.db gives.0, g.met.F.FileBytes.right w.log gives.1)
-
 pub returns-in-Err-clause-refused : goal.returns-in-Err-clause-refused
-returns-in-Err-clause-refused g c = λ gives. only_memory Counts c.in-Err.error c.in-Err.ensures.refused.0 (c.in-Err.ensures.read gives)
+returns-in-Err-clause-refused g c = c.in-Err.ensures.refused.0

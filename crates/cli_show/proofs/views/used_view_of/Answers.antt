@@ -1,7 +1,8 @@
 use Rattle.sqview.specs.declared.view.View.{View}
+use Rattle.sqpast.proofs.ReadAnswers.{past_as, past_of}
 use Rattle.cli_show.specs.declared.views.Used.{Used}
 use Rattle.cli_show.proofs.AskedFronts.{counts_asked, reads_same}
-use Rattle.cli_show.proofs.ReadViews.{past_as, past_of, source_refused}
+use Rattle.cli_show.proofs.ReadViews.{source_refused}
 use Rattle.cli_show.proofs.views.used_view_of.Goals as goal
 
 pub returns-in-Ok-used_of-clause-right : goal.returns-in-Ok-used_of-clause-right

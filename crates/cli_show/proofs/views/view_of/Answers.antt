@@ -1,6 +1,6 @@
 use Rattle.sqview.specs.declared.view.View.{View}
 use Rattle.cli_show.specs.declared.views.Used.{Used}
-use Rattle.cli_show.proofs.ReadViews.{past_as}
+use Rattle.sqpast.proofs.ReadAnswers.{past_as}
 use Rattle.cli_show.proofs.views.view_of.Goals as goal
 
 pub returns-in-Ok-clause-right : goal.returns-in-Ok-clause-right
