@@ -5,11 +5,10 @@ use Rattle.sqval.specs.Limits.{Bounds}
 use Rattle.sqview.specs.LogView.{pages_of}
 use Rattle.sqview.specs.declared.view.View.{View}
 use Rattle.sqview.specs.declared.view_error.ViewError.{ViewError}
-use Rattle.sqview.specs.declared.view_error.ViewError.TheVariants.{NoMemory, Unread}
-use Rattle.sqview.specs.declared.view_error.ViewError.TheVariants as views
+use Rattle.sqview.specs.declared.view_error.ViewError.TheVariants.{NoMemory}
 use Rattle.sqpast.specs.Past.{IsSource}
 use Rattle.sqpast.specs.Used.{IsUsedPart}
-use Rattle.sqpast.specs.declared.past_error.PastError.TheVariants.{CommitOverwritten, Refused}
+use Rattle.sqpast.specs.declared.past_error.PastError.TheVariants.{Refused}
 use Rattle.sqpast.specs.Files.{IsPastRead, PastAnswerWithin}
 use Rattle.sqpast.specs.declared.past_error.PastError.{PastError}
 use Rattle.cli_history.specs.declared.files.Files.{Files}
@@ -45,16 +44,3 @@ pub source_refused : (A : Type 0) (limits : Bounds) (files : Files (List ℕ)) (
 source_refused A limits files front frame error (inl unread) read = absurd (subst (λ (e : ViewError). IsPastRead {A = A} (Err (Refused e))) unread read)
 source_refused A limits files front frame error (inr memory) read =
     subst (λ (e : ViewError). RefusesAt limits files front frame (Refused e)) (sym memory) (memory_refused limits files front frame)
-
--- either a read failed, or this is the answer
-pub or_unread : (A : Type 0) (error : PastError) (P Q : Type 0) → (IsPastRead {A = A} (Err error) → P ⊎ Q) → (error ≡ Refused Unread) ⊎ (P ⊎ Q)
-or_unread A (Refused (views.Header fault)) P Q is = inr (is tt)
-or_unread A (Refused views.TwoLogs) P Q is = inr (is tt)
-or_unread A (Refused views.TooLarge) P Q is = inr (is tt)
-or_unread A (Refused Unread) P Q is = inl refl
-or_unread A (Refused NoMemory) P Q is = inr (is tt)
-or_unread A (Refused views.NoSuchCommit) P Q is = inr (is tt)
-or_unread A CommitOverwritten P Q is = inr (is tt)
-
-pub read_unread : (A : Type 0) (error : PastError) → error ≡ Refused Unread → ¬ IsPastRead {A = A} (Err error)
-read_unread A error is read = subst (λ (e : PastError). IsPastRead {A = A} (Err e)) is read

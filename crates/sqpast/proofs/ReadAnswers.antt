@@ -1,5 +1,5 @@
 -- Answers that aren't that a file couldn't be read.
-use Rattle.std.proofs.Common.{◌≢◌, ℕ, List, Result, refl}
+use Rattle.std.proofs.Common.{◌≡◌, ◌≢◌, ◌⊎◌, ℕ, List, Result, inl, inr, refl, subst}
 use Rattle.std.specs.Prelude.{Ok, Err}
 use Rattle.sqval.specs.Limits.{Bounds}
 use Rattle.sqview.specs.Logs.{IsRead}
@@ -56,3 +56,16 @@ answered_read limits bytes m db wal journal (Err (Refused views.Unread)) answer 
 answered_read limits bytes m db wal journal (Err (Refused views.NoMemory)) answer = tt
 answered_read limits bytes m db wal journal (Err (Refused views.NoSuchCommit)) answer = tt
 answered_read limits bytes m db wal journal (Err CommitOverwritten) answer = tt
+
+-- either a file couldn't be read, or this is the answer
+pub or_unread : (A : Type 0) (error : PastError) (P : Type 0) → (IsPastRead {A = A} (Err error) → P) → (error ≡ Refused views.Unread) ⊎ P
+or_unread A (Refused (views.Header fault)) P is = inr (is tt)
+or_unread A (Refused views.TwoLogs) P is = inr (is tt)
+or_unread A (Refused views.TooLarge) P is = inr (is tt)
+or_unread A (Refused views.Unread) P is = inl refl
+or_unread A (Refused views.NoMemory) P is = inr (is tt)
+or_unread A (Refused views.NoSuchCommit) P is = inr (is tt)
+or_unread A CommitOverwritten P is = inr (is tt)
+
+pub read_unread : (A : Type 0) (error : PastError) → error ≡ Refused views.Unread → ¬ IsPastRead {A = A} (Err error)
+read_unread A error is read = subst (λ (e : PastError). IsPastRead {A = A} (Err e)) is read

@@ -1,9 +1,9 @@
 use Rattle.std.proofs.Common.{inl, inr, refl, subst}
 use Rattle.sqview.specs.LogView.{pages_of}
 use Rattle.sqview.specs.declared.view.View.{View}
+use Rattle.sqpast.proofs.ReadAnswers.{or_unread, read_unread}
 use Rattle.cli_show_diff.specs.Changes.{AreChangesPrinted, AreChangesStopped, texts_of}
 use Rattle.cli_show_diff.specs.declared.form.ChangeForm.{ChangeForm}
-use Rattle.cli_history.proofs.ViewsShown.{or_unread, read_unread}
 use Rattle.cli_history.proofs.commits.print_commit.Goals as goal
 
 pub returns-in-Ok-print_changes-clause-ok : goal.returns-in-Ok-print_changes-clause-ok
@@ -50,11 +50,11 @@ returns-clause-err g c = λ right took cold.
 
 pub returns-in-Err-clause-err : goal.returns-in-Err-clause-err
 returns-in-Err-clause-err g c = λ right took cold.
-    (or_unread (View g.row.F.Denot) c.in-Err.error _ _ (λ read. inl (c.in-Err.ensures.right right read took cold)), refl)
+    (or_unread (View g.row.F.Denot) c.in-Err.error _ (λ read. inl (c.in-Err.ensures.right right read took cold)), refl)
 
 pub returns-in-Err-view_at-clause-err : goal.returns-in-Err-view_at-clause-err
 returns-in-Err-view_at-clause-err g c = λ right took cold.
-    (or_unread (View g.row.F.Denot) c.in-Err-view_at.error _ _ (λ read. inr (c.in-Err-view_at.ensures.right right read took cold)), refl)
+    (or_unread (View g.row.F.Denot) c.in-Err-view_at.error _ (λ read. inr (c.in-Err-view_at.ensures.right right read took cold)), refl)
 
 pub returns-in-Err-clause-unread : goal.returns-in-Err-clause-unread
 returns-in-Err-clause-unread g c = λ unread given. read_unread (View g.row.F.Denot) c.in-Err.error unread (c.in-Err.ensures.read given)
