@@ -1,5 +1,5 @@
 -- What is said of the rowids of a text.
-use Rattle.std.proofs.Common.{◌≡◌, ◌<◌, ◌≤◌, ◌∙◌, ℕ, Bool, List, length, Option, Some, None, sym, ap, arith}
+use Rattle.std.proofs.Common.{◌≡◌, ◌<◌, ◌≤◌, ◌∙◌, ℕ, List, length, Option, Some, None, sym, ap, arith}
 use Rattle.std.specs.Prelude.{not}
 use Rattle.schema_ast.specs.Tables.{MakesTable}
 use Rattle.schema_ast.specs.declared.tables.MadeTable.{MadeTable}
