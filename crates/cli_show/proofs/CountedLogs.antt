@@ -9,6 +9,7 @@ use Rattle.sqview.specs.Logs.{CountsAnswer}
 use Rattle.sqview.specs.declared.logs.LogInUse.{LogInUse}
 use Rattle.sqview.specs.declared.view_error.ViewError.{ViewError}
 use Rattle.cli_facts.specs.Fronts.{IsLogFront}
+use Rattle.cli_facts.specs.Refusals.{UnlessFileFailed}
 use Rattle.cli_facts.specs.declared.fronts.Front.{Front}
 use Rattle.cli_facts.specs.declared.outcome.Refusal.{Refusal}
 use Rattle.cli_facts.specs.declared.outcome.Refusal.TheVariants.{NoMemory}
@@ -36,6 +37,8 @@ pub commits_shown : (wal journal : List ℕ) (r : Result (Option Front) ShowErro
 commits_shown wal journal (Ok front) limit scan cold took found = log_shown wal journal front cold (found limit wal took)
 commits_shown wal journal (Err error) limit scan cold took found = tt
 
-pub log_found : (limits : Bounds) (wal journal : List ℕ) (r : Result LogFound Refusal) → IfOk r (IsLogFound limits wal journal) → IfErr r (λ refusal. refusal ≡ NoMemory) → MatchResult r (IsLogFound limits wal journal) (IsUnreadLog limits wal journal)
-log_found limits wal journal (Ok found) is memory = is
-log_found limits wal journal (Err refusal) is memory = subst (λ (x : Refusal). IsUnreadLog limits wal journal x) (sym memory) tt
+pub log_found : (limits : Bounds) (wal journal : List ℕ) (gives : Type 0) (r : Result LogFound Refusal) → IfOk r (IsLogFound limits wal journal) → IfErr r (λ refusal. refusal ≡ NoMemory)
+    → MatchResult r (IsLogFound limits wal journal) (λ refusal. UnlessFileFailed gives refusal (IsUnreadLog limits wal journal refusal))
+log_found limits wal journal gives (Ok found) is memory = is
+log_found limits wal journal gives (Err refusal) is memory =
+    subst (λ (x : Refusal). UnlessFileFailed gives x (IsUnreadLog limits wal journal x)) (sym memory) ((λ failed given. cc), λ other. tt)

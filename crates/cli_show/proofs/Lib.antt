@@ -17,3 +17,4 @@ mod RunsInOrder
 mod RunsOfPages
 mod PartsOfReports
 pub mod ReadViews
+mod ReadLogs

@@ -1,11 +1,16 @@
 -- Views that aren't refused for a file that couldn't be read.
-use Rattle.std.proofs.Common.{◌≡◌, ℕ, List, inl, inr, sym, subst}
-use Rattle.std.specs.Prelude.{Err}
+use Rattle.std.proofs.Common.{◌≡◌, ◌≢◌, ℕ, List, inl, inr, refl, sym, subst}
+use Rattle.std.specs.Prelude.{Err, IfErr, MatchResult, Ok, Result}
 use Rattle.sqval.specs.Limits.{Bounds}
 use Rattle.sqpast.specs.Files.{IsPastRead}
 use Rattle.sqpast.specs.Past.{IsSource}
-use Rattle.sqpast.specs.declared.past_error.PastError.TheVariants.{Refused}
+use Rattle.sqpast.specs.declared.past_error.PastError.{PastError}
+use Rattle.sqpast.specs.declared.past_error.PastError.TheVariants.{CommitOverwritten, Refused}
 use Rattle.sqview.specs.declared.view_error.ViewError.{ViewError}
+use Rattle.sqview.specs.declared.view_error.ViewError.TheVariants as views
+use Rattle.cli_facts.specs.Refusals.{UnlessFileFailed, refusal_of_past}
+use Rattle.cli_facts.specs.declared.outcome.Refusal.{Refusal}
+use Rattle.cli_facts.specs.declared.outcome.Refusal.TheVariants.{FileFailed, NoMemory}
 use Rattle.cli_words.specs.declared.requests.Commit.{Commit}
 use Rattle.cli_show.specs.Views.{AskedRefused}
 use Rattle.cli_show.proofs.AskedFronts.{memory_refused}
@@ -15,3 +20,50 @@ pub source_refused : (A : Type 0) (limits : Bounds) (at : Commit) (db wal journa
     → AskedRefused limits at db wal journal (Refused error)
 source_refused A limits at db wal journal error (inl unread) read = absurd (subst (λ (e : ViewError). IsPastRead {A = A} (Err (Refused e))) unread read)
 source_refused A limits at db wal journal error (inr memory) read = subst (λ (e : ViewError). AskedRefused limits at db wal journal (Refused e)) (sym memory) (memory_refused limits at db wal journal)
+
+-- a refusal that isn't that a file couldn't be read
+pub unless_other : (gives P : Type 0) (refusal : Refusal) → refusal ≢ FileFailed → P → UnlessFileFailed gives refusal P
+unless_other gives P refusal other p = ((λ failed. absurd (other failed)), λ _. p)
+
+pub unless_memory : (gives P : Type 0) → P → UnlessFileFailed gives NoMemory P
+unless_memory gives P p = unless_other gives P NoMemory (λ failed. cc) p
+
+-- the refusal of a view
+past_refusal : (A : Type 0) (error : PastError) (gives P : Type 0) → (gives → IsPastRead {A = A} (Err error)) → (IsPastRead {A = A} (Err error) → P)
+    → UnlessFileFailed gives (refusal_of_past error) P
+past_refusal A (Refused (views.Header fault)) gives P read is = ((λ failed given. cc), λ other. is tt)
+past_refusal A (Refused views.TwoLogs) gives P read is = ((λ failed given. cc), λ other. is tt)
+past_refusal A (Refused views.TooLarge) gives P read is = ((λ failed given. cc), λ other. is tt)
+past_refusal A (Refused views.Unread) gives P read is = ((λ failed given. read given), λ other. absurd (other refl))
+past_refusal A (Refused views.NoMemory) gives P read is = ((λ failed given. cc), λ other. is tt)
+past_refusal A (Refused views.NoSuchCommit) gives P read is = ((λ failed given. cc), λ other. is tt)
+past_refusal A CommitOverwritten gives P read is = ((λ failed given. cc), λ other. is tt)
+
+pub unless_past : (A : Type 0) (error : PastError) (refusal : Refusal) (gives P : Type 0) → (gives → IsPastRead {A = A} (Err error)) → (IsPastRead {A = A} (Err error) → P)
+    → refusal ≡ refusal_of_past error → UnlessFileFailed gives refusal P
+unless_past A error refusal gives P read is same =
+    subst (λ (r : Refusal). UnlessFileFailed gives r P) (sym same) (past_refusal A error gives P read is)
+
+-- of one that couldn't be read
+pub failed_unread : (error : PastError) → refusal_of_past error ≡ FileFailed → error ≡ Refused views.Unread
+failed_unread (Refused (views.Header fault)) is = cc
+failed_unread (Refused views.TwoLogs) is = cc
+failed_unread (Refused views.TooLarge) is = cc
+failed_unread (Refused views.Unread) is = refl
+failed_unread (Refused views.NoMemory) is = cc
+failed_unread (Refused views.NoSuchCommit) is = cc
+failed_unread CommitOverwritten is = cc
+
+-- the same of another fact, or of more files
+pub unless_as : (few all P Q : Type 0) (refusal : Refusal) → (all → few) → (P → Q) → UnlessFileFailed few refusal P → UnlessFileFailed all refusal Q
+unless_as few all P Q refusal given follows is = ((λ failed gives. is.0 failed (given gives)), λ other. follows (is.1 other))
+
+pub err_unless : {A : Type 0} (r : Result A Refusal) (gives : Type 0) (P Q : Refusal → Type 0) → ((e : Refusal) → P e → Q e)
+    → IfErr r (λ e. UnlessFileFailed gives e (P e)) → IfErr r (λ e. UnlessFileFailed gives e (Q e))
+err_unless (Ok _) gives P Q follows is = tt
+err_unless (Err e) gives P Q follows is = unless_as gives gives (P e) (Q e) e (λ given. given) (follows e) is
+
+pub match_unless : {A : Type 0} (r : Result A Refusal) (few all : Type 0) (P : A → Type 0) (Q : Refusal → Type 0) → (all → few)
+    → MatchResult r P (λ e. UnlessFileFailed few e (Q e)) → MatchResult r P (λ e. UnlessFileFailed all e (Q e))
+match_unless (Ok _) few all P Q given is = is
+match_unless (Err e) few all P Q given is = unless_as few all (Q e) (Q e) e given (λ q. q) is

@@ -1,11 +1,13 @@
 //! The log that counts.
-ghost use Rattle.std.specs.Prelude.{◌≡◌, ℕ, List, length as list_length, IfOk, IfErr, MatchResult, OnOk};
+ghost use Rattle.std.specs.Prelude.{◌≡◌, ◌≢◌, ℕ, List, length as list_length, Err, IfOk, IfErr, MatchResult};
+ghost use Rattle.std.specs.Prelude.{Ok, OnOk};
 ghost use Rattle.std.specs.Io.KnownBytes.{Appends};
 ghost use Rattle.sqjournal.specs.Journal.{IsHot};
 ghost use Rattle.sqval.specs.Limits.{Bounds};
 ghost use Rattle.sqwal.specs.Took.{TookWithin};
 ghost use Rattle.cli_facts.specs.Fronts.{IsLogFront};
-ghost use Rattle.cli_facts.specs.declared.outcome.Refusal.TheVariants.{NoMemory};
+ghost use Rattle.cli_facts.specs.Refusals.{UnlessFileFailed};
+ghost use Rattle.cli_facts.specs.declared.outcome.Refusal.TheVariants.{FileFailed, NoMemory};
 ghost use Rattle.cli_show.specs.Behind.{IsWholeLogText};
 ghost use Rattle.cli_show.specs.Contents.{AreGiven, KeepsBytes, contents_of};
 ghost use Rattle.cli_show.specs.Fronts.{IsShownFront};
@@ -59,6 +61,8 @@ impl Shown {
 /// A hot journal that is replayed. Refused by `TooLarge`, `NoMemory`, and `FileFailed`.
 pub fn replayed<F: FileBytes>(alloc: Global, journal: &mut F) -> Result<Replay, Refusal>
     ensures found { F.gives_bytes journal.old → ReplayFound (F.bytes journal.old) result }
+    ensures right { F.reads_right journal.old → MatchResult result (λ replay. ReplayFound (F.bytes journal.old)
+        (Ok replay)) (λ refusal. refusal ≢ FileFailed → ReplayFound (F.bytes journal.old) (Err refusal)) }
     ensures same { KeepsBytes F.bytes F.gives_bytes journal.old journal.new }
 {
     match replay_log(alloc, journal)? {
@@ -76,6 +80,9 @@ pub fn scanned<F: FileBytes>(
     wal: &mut F,
 ) -> Result<Result<Scan, WalFormatError>, Refusal>
     ensures found { F.gives_bytes wal.old → ScanFound limits (F.bytes wal.old) result }
+    ensures right { F.reads_right wal.old → MatchResult result (λ found. ScanFound limits (F.bytes wal.old) (Ok found))
+        (λ refusal. refusal ≢ FileFailed → ScanFound limits (F.bytes wal.old) (Err refusal)) }
+    ensures still_right { F.reads_right wal.old → F.reads_right wal.new }
     ensures same { KeepsBytes F.bytes F.gives_bytes wal.old wal.new }
 {
     match scan_log_within(alloc, limits, wal)? {
@@ -260,9 +267,10 @@ pub fn log_of<F: FileBytes>(
     wal: &mut F,
     journal: &mut F,
 ) -> Result<LogFound, Refusal>
-    ensures { F.gives_bytes wal.old → F.gives_bytes journal.old → MatchResult result
-        (IsLogFound limits (F.bytes wal.old) (F.bytes journal.old))
-        (IsUnreadLog limits (F.bytes wal.old) (F.bytes journal.old)) }
+    ensures { F.reads_right wal.old → F.reads_right journal.old → MatchResult result
+        (IsLogFound limits (F.bytes wal.old) (F.bytes journal.old)) (λ refusal. UnlessFileFailed
+        (F.gives_bytes wal.old × F.gives_bytes journal.old) refusal
+        (IsUnreadLog limits (F.bytes wal.old) (F.bytes journal.old) refusal)) }
 {
     match log_in_use(wal, journal)? {
         LogInUse::Neither => Ok(LogFound::None),
