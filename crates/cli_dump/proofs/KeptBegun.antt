@@ -1,12 +1,14 @@
 -- Where the commits that are kept begin.
-use Rattle.std.proofs.Common.{◌≡◌, ◌≢◌, ℕ, zero, suc, ◌≤◌, ◌<◌, Bool, true, false, List, [], ◌∷◌, length, inl, inr, refl, sym, ap, ◌∙◌, subst, arith}
+use Rattle.std.proofs.Common.{◌≡◌, ◌≢◌, ◌⊎◌, ⊎_elim, ℕ, zero, suc, ◌≤◌, ◌<◌, Bool, true, false, List, [], ◌∷◌, length, inl, inr, refl, sym, ap, ◌∙◌, subst, arith}
 use Rattle.std.specs.Prelude.{Option, Some, None, Result, Ok, Err, cond, not, nat_lt}
 use Rattle.std.specs.List.{All, filter}
 use Rattle.std.proofs.lemmas.List.Elements.{filter_passes}
 use Rattle.sqval.specs.Limits.{Bounds}
 use Rattle.sqwal.specs.Header.{named_size}
 use Rattle.sqpast.specs.Files.{PastRefusedWithin}
+use Rattle.sqview.specs.declared.view_error.ViewError.TheVariants.{Unread}
 use Rattle.sqpast.specs.declared.past_error.PastError.{PastError}
+use Rattle.sqpast.specs.declared.past_error.PastError.TheVariants.{Refused}
 use Rattle.cli_words.specs.Commits.{last_of}
 use Rattle.cli_words.specs.declared.requests.Commit.{Commit}
 use Rattle.cli_words.specs.declared.requests.Commit.TheVariants.{Last, Front, At}
@@ -35,12 +37,15 @@ not_front (Front zero) frame is = λ same. none_between frame is
 not_front (Front (suc m)) frame is = λ same. cc
 not_front (At m) frame is = λ same. cc
 
-module _ (limits : Bounds) (files : Files (List ℕ)) (names : List (List ℕ)) (most : ℕ) (to : Commit) (error : PastError) (none : IsNoneShown limits files error) where
+module _ (limits : Bounds) (files : Files (List ℕ)) (names : List (List ℕ)) (most : ℕ) (to : Commit) (error : PastError) (none : (error ≡ Refused Unread) ⊎ IsNoneShown limits files error) where
   -- the first commit isn't told
   untold : (frame : ℕ) → is_between 0 (last_of to) frame ≡ true → IsCommitUntold limits files (front_named to) names Json 0 frame (View error)
-  untold frame is =
+  untold frame is = ⊎_elim
+      (λ unread. (Some [], (0, frame, Some [], refl, refl, (inl unread, refl))))
+      (λ (none : IsNoneShown limits files error).
       let refused = subst (λ (e : PastError). PastRefusedWithin limits 0 files.db files.wal files.journal e) (sym none.1) none.2 in
-      (Some [], (0, frame, Some [], refl, refl, (inl (inl (not_front to frame is, refused)), refl)))
+      (Some [], (0, frame, Some [], refl, refl, (inr (inl (inl (not_front to frame is, refused))), refl))))
+      none
 
   none_are_kept : (frames : List ℕ) (text : List ℕ) (kept : Kept) → ((frame : ℕ) (rest : List ℕ) → frames ≡ frame ∷ rest → is_between 0 (last_of to) frame ≡ true)
       → kept.from ≡ 0 → kept.text.items ≡ [] → IsFirstLeftOut frames error kept.ended

@@ -3,3 +3,4 @@ mod KeptBegun
 mod OverwrittenCommits
 pub mod PlacesShown
 pub mod DeletedShown
+mod UnreadEnds

@@ -7,6 +7,7 @@ use Rattle.cli_words.specs.declared.requests.Style.{Style}
 use Rattle.cli_show.specs.Views.{AskedShows}
 use Rattle.cli_show_deleted.specs.Printed.{AreDeletedPrinted, AreDeletedStopped}
 use Rattle.cli_show_frames.specs.Frames.{AreAllPrinted, AreAllStopped}
+use Rattle.cli_show_rows.specs.Stops.{IsUnreadStop}
 use Rattle.cli_show_rows.specs.declared.stop.Stop.{Stop}
 use Rattle.cli_dump.specs.Places.{AskedStands}
 
@@ -21,9 +22,10 @@ abbrev pub AreCellsStopped : (all : Bool) → (size : ℕ) → Database → Styl
 AreCellsStopped false size d style stop before after = AreDeletedStopped d size stop before after
 AreCellsStopped true size d style stop before after = AreAllStopped size d style stop before after
 
--- Those of the database that is asked for were printed, to their end or up to the stop that is told.
+-- Those of the database that is asked for were printed, to their end or up to the stop that is told, where that isn't a page
+-- that couldn't be read.
 abbrev pub AreDeletedShown : Options → (all : Bool) → (db wal journal : List ℕ) → (before after : Option (List ℕ)) → Result (Unit {0}) Stop → Type 0
 AreDeletedShown options all db wal journal before after ended =
     (size : ℕ) × (m : ℕ) × (d : Database) × AskedShows (commit_named options) size db wal journal d × AskedStands (commit_named options) wal journal m
     × MatchResult ended (λ _. AreCellsPrinted all size wal m d options.style before after)
-    (λ stop. AreCellsStopped all size d options.style stop before after)
+    (λ stop. (¬ IsUnreadStop stop) → AreCellsStopped all size d options.style stop before after)

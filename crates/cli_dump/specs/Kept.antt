@@ -2,13 +2,15 @@
 use Rattle.std.specs.Prelude.{◌≡◌, ◌⊎◌, ℕ, ◌+◌, ◌<◌, ◌≤◌, List, [], ◌∷◌, ◌++◌, length, take, slice_get, Option, Some}
 use Rattle.sqval.specs.Limits.{Bounds}
 use Rattle.sqwal.specs.Header.{named_size}
+use Rattle.sqview.specs.declared.view_error.ViewError.TheVariants.{Unread}
 use Rattle.sqpast.specs.declared.past_error.PastError.{PastError}
+use Rattle.sqpast.specs.declared.past_error.PastError.TheVariants.{Refused}
 use Rattle.cli_history.specs.declared.commits.CommitForm.{CommitForm}
 use Rattle.cli_history.specs.declared.commits.CommitForm.TheVariants.{Json}
 use Rattle.cli_history.specs.declared.error.HistoryError.{HistoryError}
 use Rattle.cli_history.specs.declared.error.HistoryError.TheVariants.{View}
 use Rattle.cli_history.specs.declared.files.Files.{Files}
-use Rattle.cli_history.specs.History.{AreCommitsPrinted, AreCommitsStopped, last_of}
+use Rattle.cli_history.specs.History.{AreCommitsPrinted, AreCommitsStopped, IsUnreadHistory, last_of}
 use Rattle.cli_history.specs.Ranges.{AreBetween, IsFirstShown, IsNoneShown}
 use Rattle.cli_words.specs.Commits as commits
 use Rattle.cli_words.specs.declared.requests.Commit.{Commit}
@@ -53,11 +55,18 @@ abbrev pub IsFirstLeftOut : (frames : List ℕ) → PastError → Ended → Type
 IsFirstLeftOut [] error ended = ended ≡ Whole
 IsFirstLeftOut (frame ∷ frames) error ended = ended ≡ Stopped frame (View error)
 
--- They begin behind the first commit that is known. If that isn't found, the first one is left out, for the same reason.
+-- If one is left out as a page or a file couldn't be read, not each one is given.
+abbrev pub EndsUnread : (gives : Type 0) → Ended → Type 0
+EndsUnread gives Whole = Unit {0}
+EndsUnread gives (Full at) = Unit {0}
+EndsUnread gives (Stopped at error) = IsUnreadHistory error → ¬ gives
+
+-- They begin behind the first commit that is known. If that isn't found, or a file couldn't be read for it, the first one is
+-- left out, for the same reason.
 abbrev pub IsBegun : (limits : Bounds) → Files (List ℕ) → (frames : List ℕ) → Kept → Type 0
 IsBegun limits files frames kept =
     IsFirstShown limits files kept.from
-    ⊎ ((kept.from ≡ 0) × ((error : PastError) × IsNoneShown limits files error × IsFirstLeftOut frames error kept.ended))
+    ⊎ ((kept.from ≡ 0) × ((error : PastError) × ((error ≡ Refused Unread) ⊎ IsNoneShown limits files error) × IsFirstLeftOut frames error kept.ended))
 
 -- Those of the commits of a log are, as JSON, behind the first one that is known and up to this one.
 abbrev pub IsRangeKept : (limits : Bounds) → Files (List ℕ) → (names : List (List ℕ)) → (most : ℕ) → (to : Commit) → Kept → Type 0

@@ -1,6 +1,7 @@
 //! The commit at which changes begin if none is named.
 ghost use Rattle.std.specs.Prelude.{IfErr, IfOk, OnOk};
 ghost use Rattle.std.specs.Io.KnownBytes.{Appends};
+ghost use Rattle.cli_facts.specs.Refusals.{UnlessFileFailed};
 ghost use Rattle.cli_history.specs.History.{AreGiven, bytes_of};
 ghost use Rattle.cli_dump.specs.Begins.{IsFirstCommit, IsNoFirstCommit, first_text};
 
@@ -22,8 +23,9 @@ pub fn first_commit<F: FileBytes + Copy + Drop>(
     limits: Limits,
     files: Files<F>,
 ) -> Result<u32, Refusal>
-    ensures first { AreGiven F.gives_bytes files → IfOk result (IsFirstCommit limits (bytes_of F.bytes files)) }
-    ensures refused { AreGiven F.gives_bytes files → IfErr result (IsNoFirstCommit limits (bytes_of F.bytes files)) }
+    ensures first { AreGiven F.reads_right files → IfOk result (IsFirstCommit limits (bytes_of F.bytes files)) }
+    ensures refused { AreGiven F.reads_right files → IfErr result (λ refusal. UnlessFileFailed
+        (AreGiven F.gives_bytes files) refusal (IsNoFirstCommit limits (bytes_of F.bytes files) refusal)) }
 {
     let found = match found_of(alloc, limits, &files) {
         Ok(found) => found,

@@ -1,10 +1,13 @@
 //! The changes of rows between two commits of a log.
 ghost use Rattle.std.specs.Prelude.{◌≡◌, IfErr, IfOk, OnOk};
 ghost use Rattle.cli_words.specs.Commits.{commit_of};
+ghost use Rattle.cli_facts.specs.Refusals.{UnlessFileFailed};
 ghost use Rattle.cli_show.specs.Contents.{AreGiven, contents_of};
 ghost use Rattle.cli_show.specs.Fronts.{IsAskedFront};
 ghost use Rattle.cli_show_diff.specs.Changes.{AreChangesPrinted, AreChangesStopped, texts_of};
+ghost use Rattle.cli_show_rows.specs.Stops.{IsUnreadStop};
 ghost use Rattle.cli_dump.specs.Changes.{AreChangesShown, AreNamed, IsUncompared, change_form_named};
+ghost use Rattle.cli_dump.specs.Rows.{TellsUnread};
 
 use crate::rows::Printed;
 use cli_facts::{Front, Refusal};
@@ -44,12 +47,13 @@ fn print_between<S: PageSource, T: PageSource, W: Write>(
     form: AskedForm,
     out: &mut W,
 ) -> Result<(), Stop>
-    ensures ok { S.gives_pages old.old → T.gives_pages new.old → OnOk result (AreChangesPrinted (S.pages old.old)
+    ensures ok { S.reads_right old.old → T.reads_right new.old → OnOk result (AreChangesPrinted (S.pages old.old)
         (T.pages new.old) (texts_of names.entry.now) (change_form_named form)
         (W.contents out.old) (W.contents out.new)) }
-    ensures err { S.gives_pages old.old → T.gives_pages new.old → IfErr result (λ stop. AreChangesStopped
+    ensures err { S.reads_right old.old → T.reads_right new.old → IfErr result (λ stop. AreChangesStopped
         (S.pages old.old) (T.pages new.old) (texts_of names.entry.now) (change_form_named form) stop
         (W.contents out.old) (W.contents out.new)) }
+    ensures unread { IfErr result (λ stop. IsUnreadStop stop → S.gives_pages old.old → ¬ T.gives_pages new.old) }
 {
     let needed = true;
     let form = change_form_of(form);
@@ -65,14 +69,17 @@ fn show_named<F: FileBytes + Drop, W: Write>(
     of: (Compared<'_>, &[&str]),
     out: &mut W,
 ) -> Result<Printed, Refusal>
-    ensures front { AreGiven F.gives_bytes from → AreGiven F.gives_bytes to → IfOk result (λ printed.
+    ensures front { AreGiven F.reads_right from → AreGiven F.reads_right to → IfOk result (λ printed.
         IsAskedFront (commit_of of.entry.0.to options.front) (F.bytes to.wal) (F.bytes to.journal) printed.front) }
-    ensures shown { AreGiven F.gives_bytes from → AreGiven F.gives_bytes to
+    ensures shown { AreGiven F.reads_right from → AreGiven F.reads_right to
         → AreNamed of.entry.0 (texts_of of.entry.1.now) → IfOk result (λ printed. AreChangesShown
         options of.entry.0 (contents_of F.bytes from) (contents_of F.bytes to) (W.contents out.old) (W.contents out.new)
         printed.ended) }
-    ensures refused { AreGiven F.gives_bytes from → AreGiven F.gives_bytes to → IfErr result (IsUncompared options
-        of.entry.0 (contents_of F.bytes from) (contents_of F.bytes to)) }
+    ensures unread { IfOk result (λ printed. TellsUnread
+        (AreGiven F.gives_bytes from × AreGiven F.gives_bytes to) printed.ended) }
+    ensures refused { AreGiven F.reads_right from → AreGiven F.reads_right to → IfErr result (λ refusal.
+        UnlessFileFailed (AreGiven F.gives_bytes from × AreGiven F.gives_bytes to) refusal
+        (IsUncompared options of.entry.0 (contents_of F.bytes from) (contents_of F.bytes to) refusal)) }
 {
     let (compared, names) = of;
     let Contents { db, wal, journal } = from;
@@ -103,13 +110,17 @@ pub fn show_changes<F: FileBytes + Drop, W: Write>(
     compared: Compared<'_>,
     out: &mut W,
 ) -> Result<Printed, Refusal>
-    ensures front { AreGiven F.gives_bytes from → AreGiven F.gives_bytes to → IfOk result (λ printed.
+    ensures front { AreGiven F.reads_right from → AreGiven F.reads_right to → IfOk result (λ printed.
         IsAskedFront (commit_of compared.entry.to options.front) (F.bytes to.wal) (F.bytes to.journal) printed.front) }
-    ensures shown { AreGiven F.gives_bytes from → AreGiven F.gives_bytes to → IfOk result (λ printed. AreChangesShown
+    ensures shown { AreGiven F.reads_right from → AreGiven F.reads_right to → IfOk result (λ printed. AreChangesShown
         options compared.entry (contents_of F.bytes from) (contents_of F.bytes to) (W.contents out.old)
         (W.contents out.new) printed.ended) }
-    ensures refused { AreGiven F.gives_bytes from → AreGiven F.gives_bytes to → IfErr result (IsUncompared options
-        compared.entry (contents_of F.bytes from) (contents_of F.bytes to)) }
+    // That a page or a file couldn't be read is told only where a read failed.
+    ensures unread { IfOk result (λ printed. TellsUnread
+        (AreGiven F.gives_bytes from × AreGiven F.gives_bytes to) printed.ended) }
+    ensures refused { AreGiven F.reads_right from → AreGiven F.reads_right to → IfErr result (λ refusal.
+        UnlessFileFailed (AreGiven F.gives_bytes from × AreGiven F.gives_bytes to) refusal
+        (IsUncompared options compared.entry (contents_of F.bytes from) (contents_of F.bytes to) refusal)) }
 {
     match compared.tables.names(alloc) {
         Ok(names) => show_named(alloc, from, to, options, (compared, &names), out),

@@ -6,13 +6,14 @@ ghost use Rattle.cli_show.specs.Fronts.{IsAskedFront};
 ghost use Rattle.cli_show.specs.Logs.{IsUnreadLog};
 ghost use Rattle.cli_show.specs.LogsShown.{IsLogFound};
 ghost use Rattle.cli_show.specs.Views.{AskedRefused};
-ghost use Rattle.cli_facts.specs.Refusals.{refusal_of_past};
+ghost use Rattle.cli_facts.specs.Refusals.{UnlessFileFailed, refusal_of_past};
 ghost use Rattle.cli_words.specs.Commits.{commit_of};
 ghost use Rattle.sqpast.specs.declared.past_error.PastError.{PastError};
 ghost use Rattle.cli_show_diff.specs.Changes.{texts_of};
 ghost use Rattle.cli_history.specs.History.{AreGiven, bytes_of};
 ghost use Rattle.cli_dump.specs.History.{IsHistoryPrinted, IsHistoryRefused, IsHistoryShown, IsRangePrinted};
 ghost use Rattle.cli_dump.specs.History.{IsRangeRefused, commit_form_named, front_named};
+ghost use Rattle.cli_dump.specs.Rows.{TellsUnread};
 
 use crate::changes::to_commit;
 use crate::rows::Printed;
@@ -65,12 +66,14 @@ fn print_range<F: FileBytes + Copy + Drop, W: Write>(
     scan: &Scan,
     out: &mut W,
 ) -> Result<Result<(), Stop>, Refusal>
-    ensures shown { AreGiven F.gives_bytes files → TookWithin asked.now.limits.frames (F.bytes files.wal) scan.now
+    ensures shown { AreGiven F.reads_right files → TookWithin asked.now.limits.frames (F.bytes files.wal) scan.now
         → ¬ IsHot (F.bytes files.journal) → IfOk result (IsRangePrinted asked.now.limits (bytes_of F.bytes files)
         (texts_of asked.now.names.now) asked.now.compared asked.now.to (W.contents out.old) (W.contents out.new)) }
-    ensures refused { AreGiven F.gives_bytes files → TookWithin asked.now.limits.frames (F.bytes files.wal) scan.now
-        → ¬ IsHot (F.bytes files.journal) → IfErr result (IsRangeRefused asked.now.limits (bytes_of F.bytes files)
-        (texts_of asked.now.names.now) asked.now.compared asked.now.to (W.contents out.old) (W.contents out.new)) }
+    ensures refused { AreGiven F.reads_right files → TookWithin asked.now.limits.frames (F.bytes files.wal) scan.now
+        → ¬ IsHot (F.bytes files.journal) → IfErr result (λ refusal. UnlessFileFailed (AreGiven F.gives_bytes files)
+        refusal (IsRangeRefused asked.now.limits (bytes_of F.bytes files) (texts_of asked.now.names.now)
+        asked.now.compared asked.now.to (W.contents out.old) (W.contents out.new) refusal)) }
+    ensures unread { IfOk result (λ ended. TellsUnread (AreGiven F.gives_bytes files) ended) }
 {
     let from = asked.compared.from;
     let to = asked.to.last();
@@ -102,9 +105,10 @@ pub(crate) fn found_of<F: FileBytes + Copy + Drop>(
     limits: Limits,
     files: &Files<F>,
 ) -> Result<LogFound, Refusal>
-    ensures { AreGiven F.gives_bytes files.now → MatchResult result
-        (IsLogFound limits (F.bytes files.now.wal) (F.bytes files.now.journal))
-        (IsUnreadLog limits (F.bytes files.now.wal) (F.bytes files.now.journal)) }
+    ensures { AreGiven F.reads_right files.now → MatchResult result
+        (IsLogFound limits (F.bytes files.now.wal) (F.bytes files.now.journal)) (λ refusal. UnlessFileFailed
+        (AreGiven F.gives_bytes files.now) refusal
+        (IsUnreadLog limits (F.bytes files.now.wal) (F.bytes files.now.journal) refusal)) }
 {
     let mut wal = files.wal;
     let mut journal = files.journal;
@@ -118,13 +122,15 @@ fn print_named<F: FileBytes + Copy + Drop, W: Write>(
     asked: &Asked<'_>,
     out: &mut W,
 ) -> Result<Result<(), Stop>, Refusal>
-    ensures shown { AreGiven F.gives_bytes files → IfOk result (IsHistoryPrinted asked.now.limits
+    ensures shown { AreGiven F.reads_right files → IfOk result (IsHistoryPrinted asked.now.limits
         (bytes_of F.bytes files) (texts_of asked.now.names.now) asked.now.compared asked.now.to
         (W.contents out.old) (W.contents out.new)) }
-    ensures refused { AreGiven F.gives_bytes files → IfErr result (λ refusal.
-        IsUnreadLog asked.now.limits (F.bytes files.wal) (F.bytes files.journal) refusal
+    ensures refused { AreGiven F.reads_right files → IfErr result (λ refusal. UnlessFileFailed
+        (AreGiven F.gives_bytes files) refusal
+        (IsUnreadLog asked.now.limits (F.bytes files.wal) (F.bytes files.journal) refusal
         ⊎ IsRangeRefused asked.now.limits (bytes_of F.bytes files) (texts_of asked.now.names.now)
-        asked.now.compared asked.now.to (W.contents out.old) (W.contents out.new) refusal) }
+        asked.now.compared asked.now.to (W.contents out.old) (W.contents out.new) refusal)) }
+    ensures unread { IfOk result (λ ended. TellsUnread (AreGiven F.gives_bytes files) ended) }
 {
     let found = match found_of(alloc, asked.limits, &files) {
         Ok(found) => found,
@@ -146,9 +152,10 @@ fn front_at<F: FileBytes + Copy + Drop>(
 ) -> Result<Option<Front>, Refusal>
     ensures front { AreGiven F.gives_bytes files
         → IfOk result (IsAskedFront at (F.bytes files.wal) (F.bytes files.journal)) }
-    ensures refused { AreGiven F.gives_bytes files → IfErr result (λ refusal. (error : PastError)
+    ensures refused { AreGiven F.reads_right files → IfErr result (λ refusal. UnlessFileFailed
+        (AreGiven F.gives_bytes files) refusal ((error : PastError)
         × AskedRefused limits at (F.bytes files.db) (F.bytes files.wal) (F.bytes files.journal) error
-        × (refusal ≡ refusal_of_past error)) }
+        × (refusal ≡ refusal_of_past error))) }
 {
     match view_of(alloc, limits, files.db, files.wal, files.journal, at) {
         Ok(view) => Ok(Front::of_view(&view)),
@@ -168,15 +175,18 @@ pub fn show_history<F: FileBytes + Copy + Drop, W: Write>(
     out: &mut W,
 ) -> Result<Printed, Refusal>
     // The front is that at the last of them.
-    ensures front { AreGiven F.gives_bytes files → IfOk result (λ printed. IsAskedFront
+    ensures front { AreGiven F.reads_right files → IfOk result (λ printed. IsAskedFront
         (commit_of compared.entry.to options.front) (F.bytes files.wal) (F.bytes files.journal) printed.front) }
     // What is printed are their changes, each behind the one before it, to their end or up to the stop that is told.
-    ensures shown { AreGiven F.gives_bytes files → IfOk result (λ printed. IsHistoryShown
+    ensures shown { AreGiven F.reads_right files → IfOk result (λ printed. IsHistoryShown
         options (bytes_of F.bytes files) compared.entry (W.contents out.old) (W.contents out.new)
         printed.ended) }
+    // That a page or a file couldn't be read is told only where a read failed.
+    ensures unread { IfOk result (λ printed. TellsUnread (AreGiven F.gives_bytes files) printed.ended) }
     // This is why they aren't.
-    ensures refused { AreGiven F.gives_bytes files → IfErr result (IsHistoryRefused options (bytes_of F.bytes files)
-        compared.entry (W.contents out.old) (W.contents out.new)) }
+    ensures refused { AreGiven F.reads_right files → IfErr result (λ refusal. UnlessFileFailed
+        (AreGiven F.gives_bytes files) refusal (IsHistoryRefused options (bytes_of F.bytes files)
+        compared.entry (W.contents out.old) (W.contents out.new) refusal)) }
 {
     let limits = limits_of(options);
     if let Err(refusal) = front_at(alloc, limits, files, Commit::At(compared.from)) {

@@ -1,9 +1,11 @@
 //! Which cells of deleted rows went and came between two commits of a log.
 ghost use Rattle.std.specs.Prelude.{IfErr, IfOk};
 ghost use Rattle.cli_words.specs.Commits.{commit_of};
+ghost use Rattle.cli_facts.specs.Refusals.{UnlessFileFailed};
 ghost use Rattle.cli_show.specs.Contents.{AreGiven, contents_of};
 ghost use Rattle.cli_show.specs.Fronts.{IsAskedFront};
 ghost use Rattle.cli_dump.specs.DeletedChanges.{AreDeletedChangesShown, IsUnbetween};
+ghost use Rattle.cli_dump.specs.Rows.{TellsUnread};
 
 use crate::changes::to_commit;
 use crate::rows::Printed;
@@ -25,13 +27,17 @@ pub fn show_deleted_changes<F: FileBytes + Drop, W: Write>(
     between: Between,
     out: &mut W,
 ) -> Result<Printed, Refusal>
-    ensures front { AreGiven F.gives_bytes from → AreGiven F.gives_bytes to → IfOk result (λ printed.
+    ensures front { AreGiven F.reads_right from → AreGiven F.reads_right to → IfOk result (λ printed.
         IsAskedFront (commit_of between.to options.front) (F.bytes to.wal) (F.bytes to.journal) printed.front) }
-    ensures shown { AreGiven F.gives_bytes from → AreGiven F.gives_bytes to → IfOk result (λ printed.
+    ensures shown { AreGiven F.reads_right from → AreGiven F.reads_right to → IfOk result (λ printed.
         AreDeletedChangesShown options between (contents_of F.bytes from) (contents_of F.bytes to)
         (W.contents out.old) (W.contents out.new) printed.ended) }
-    ensures refused { AreGiven F.gives_bytes from → AreGiven F.gives_bytes to → IfErr result (IsUnbetween options
-        between (contents_of F.bytes from) (contents_of F.bytes to)) }
+    // That a page or a file couldn't be read is told only where a read failed.
+    ensures unread { IfOk result (λ printed. TellsUnread
+        (AreGiven F.gives_bytes from × AreGiven F.gives_bytes to) printed.ended) }
+    ensures refused { AreGiven F.reads_right from → AreGiven F.reads_right to → IfErr result (λ refusal.
+        UnlessFileFailed (AreGiven F.gives_bytes from × AreGiven F.gives_bytes to) refusal
+        (IsUnbetween options between (contents_of F.bytes from) (contents_of F.bytes to) refusal)) }
 {
     let Contents { db, wal, journal } = from;
     let limits = limits_of(options);

@@ -4,12 +4,13 @@ ghost use Rattle.sqwal.specs.Header.{named_size};
 ghost use Rattle.sqwal.specs.Took.{TookWithin};
 ghost use Rattle.sqjournal.specs.Journal.{IsHot};
 ghost use Rattle.cli_words.specs.Commits.{commit_named, last_of};
+ghost use Rattle.cli_facts.specs.Refusals.{UnlessFileFailed};
 ghost use Rattle.cli_show.specs.Limits.{limits_named};
 ghost use Rattle.cli_show.specs.Logs.{IsUnreadLog};
 ghost use Rattle.cli_show_diff.specs.Changes.{texts_of};
-ghost use Rattle.cli_history.specs.History.{AreGiven, bytes_of};
+ghost use Rattle.cli_history.specs.History.{AreGiven, IsUnreadHistory, bytes_of};
 ghost use Rattle.cli_history.specs.Ranges.{AreBetween};
-ghost use Rattle.cli_dump.specs.Kept.{AreCommitsKept, IsCommitUntold, IsFirstLeftOut, IsHistoryKept};
+ghost use Rattle.cli_dump.specs.Kept.{AreCommitsKept, EndsUnread, IsCommitUntold, IsFirstLeftOut, IsHistoryKept};
 ghost use Rattle.cli_dump.specs.Kept.{IsRangeKept, IsTextOfCommit};
 
 use crate::commits::{found_of, front_of};
@@ -78,12 +79,13 @@ fn commit_told<F: FileBytes + Copy + Drop>(
     step: (u32, u32),
     most: usize,
 ) -> Result<Vec<u8>, HistoryError>
-    ensures ok { AreGiven F.gives_bytes files → TookWithin told.now.limits.frames (F.bytes files.wal) told.now.scan.now
+    ensures ok { AreGiven F.reads_right files → TookWithin told.now.limits.frames (F.bytes files.wal) told.now.scan.now
         → ¬ IsHot (F.bytes files.journal) → IfOk result (λ text. IsTextOfCommit (bytes_of F.bytes files)
         told.now.front (texts_of told.now.selected.names.now) told.now.form step.0 step.1 text.items) }
-    ensures err { AreGiven F.gives_bytes files → TookWithin told.now.limits.frames (F.bytes files.wal) told.now.scan.now
+    ensures err { AreGiven F.reads_right files → TookWithin told.now.limits.frames (F.bytes files.wal) told.now.scan.now
         → ¬ IsHot (F.bytes files.journal) → IfErr result (IsCommitUntold told.now.limits (bytes_of F.bytes files)
         told.now.front (texts_of told.now.selected.names.now) told.now.form step.0 step.1) }
+    ensures unread { IfErr result (λ error. IsUnreadHistory error → ¬ AreGiven F.gives_bytes files) }
 {
     let (before, frame) = step;
     let mut out = Bounded {
@@ -109,11 +111,12 @@ fn kept_of<F: FileBytes + Copy + Drop>(
     frames: &[u32],
     most: usize,
 ) -> Result<Kept, AllocError>
-    ensures kept { AreGiven F.gives_bytes files → TookWithin told.now.limits.frames (F.bytes files.wal)
+    ensures kept { AreGiven F.reads_right files → TookWithin told.now.limits.frames (F.bytes files.wal)
         told.now.scan.now → ¬ IsHot (F.bytes files.journal) → IfOk result (AreCommitsKept told.now.limits
         (bytes_of F.bytes files) told.now.front (texts_of told.now.selected.names.now) told.now.form most
         frames.entry.now) }
     ensures from { IfOk result (λ kept. kept.from ≡ from) }
+    ensures unread { IfOk result (λ kept. EndsUnread (AreGiven F.gives_bytes files) kept.ended) }
 {
     let mut text = Vec::new(alloc);
     let mut before = from;
@@ -172,12 +175,13 @@ fn kept_behind<F: FileBytes + Copy + Drop>(
     to: Option<u32>,
     most: usize,
 ) -> Result<Kept, Refusal>
-    ensures kept { AreGiven F.gives_bytes files → TookWithin told.now.limits.frames (F.bytes files.wal)
+    ensures kept { AreGiven F.reads_right files → TookWithin told.now.limits.frames (F.bytes files.wal)
         told.now.scan.now → ¬ IsHot (F.bytes files.journal) → IfOk result (λ kept. (frames : List ℕ)
         × AreBetween (named_size (F.bytes files.wal)) (F.bytes files.wal) from to frames
         × AreCommitsKept told.now.limits (bytes_of F.bytes files) told.now.front (texts_of told.now.selected.names.now)
         told.now.form most frames kept) }
     ensures from { IfOk result (λ kept. kept.from ≡ from) }
+    ensures unread { IfOk result (λ kept. EndsUnread (AreGiven F.gives_bytes files) kept.ended) }
     ensures refused { IfErr result (λ refusal. refusal ≡ Refusal.NoMemory) }
 {
     let frames = match commits_between(alloc, told.scan, from, to) {
@@ -200,9 +204,10 @@ fn kept_in<F: FileBytes + Copy + Drop>(
     scan: &Scan,
     most: usize,
 ) -> Result<Kept, Refusal>
-    ensures kept { AreGiven F.gives_bytes files → TookWithin of.0.frames (F.bytes files.wal) scan.now
+    ensures kept { AreGiven F.reads_right files → TookWithin of.0.frames (F.bytes files.wal) scan.now
         → ¬ IsHot (F.bytes files.journal) → IfOk result (IsRangeKept of.0 (bytes_of F.bytes files)
         (texts_of selected.entry.names.now) most of.1) }
+    ensures unread { IfOk result (λ kept. EndsUnread (AreGiven F.gives_bytes files) kept.ended) }
     ensures refused { IfErr result (λ refusal. refusal ≡ Refusal.NoMemory) }
 {
     let (limits, to) = of;
@@ -234,10 +239,13 @@ pub fn keep_history<F: FileBytes + Copy + Drop>(
     names: &[&str],
     most: usize,
 ) -> Result<Kept, Refusal>
-    ensures kept { AreGiven F.gives_bytes files → IfOk result (IsHistoryKept (limits_named options.large)
+    ensures kept { AreGiven F.reads_right files → IfOk result (IsHistoryKept (limits_named options.large)
         (bytes_of F.bytes files) (texts_of names.entry.now) most (commit_named options)) }
-    ensures refused { AreGiven F.gives_bytes files → IfErr result (IsUnreadLog
-        (limits_named options.large) (F.bytes files.wal) (F.bytes files.journal)) }
+    // That a page or a file couldn't be read is told only where a read failed.
+    ensures unread { IfOk result (λ kept. EndsUnread (AreGiven F.gives_bytes files) kept.ended) }
+    ensures refused { AreGiven F.reads_right files → IfErr result (λ refusal. UnlessFileFailed
+        (AreGiven F.gives_bytes files) refusal
+        (IsUnreadLog (limits_named options.large) (F.bytes files.wal) (F.bytes files.journal) refusal)) }
     // Before its first commit the database is shown whatever the logs are.
     ensures without { last_of (commit_named options) ≡ Some 0 → IsOk result }
 {

@@ -102,7 +102,7 @@ fn overwritten_in<F: FileBytes + Copy + Drop>(
     scan: &Scan,
     at: u32,
 ) -> Result<Option<Overwritten>, Refusal>
-    ensures { AreGiven F.gives_bytes files → TookWithin limits.frames (F.bytes files.wal) scan.now
+    ensures { AreGiven F.reads_right files → TookWithin limits.frames (F.bytes files.wal) scan.now
         → ¬ IsHot (F.bytes files.journal) → IfOk result (IsOverwrittenAt limits (bytes_of F.bytes files) at) }
 {
     let front = scan.committed().frames;
@@ -129,7 +129,7 @@ pub fn overwritten_at<F: FileBytes + Copy + Drop>(
     files: Files<F>,
     at: u32,
 ) -> Result<Option<Overwritten>, Refusal>
-    ensures { AreGiven F.gives_bytes files → IfOk result (IsOverwrittenAt limits (bytes_of F.bytes files) at) }
+    ensures { AreGiven F.reads_right files → IfOk result (IsOverwrittenAt limits (bytes_of F.bytes files) at) }
 {
     let found = match found_of(alloc, limits, &files) {
         Ok(found) => found,

@@ -1,11 +1,13 @@
 //! Where the rows of a database stand as its log has it.
 ghost use Rattle.std.specs.Prelude.{◌≡◌, IfErr, IfOk};
 ghost use Rattle.cli_words.specs.Commits.{commit_named};
+ghost use Rattle.cli_facts.specs.Refusals.{UnlessFileFailed};
 ghost use Rattle.cli_show.specs.Contents.{AreGiven};
 ghost use Rattle.cli_show.specs.Fronts.{IsAskedFront};
 ghost use Rattle.cli_show.specs.Views.{IsUnasked};
 ghost use Rattle.cli_show_places.specs.Places.{name_of};
 ghost use Rattle.cli_dump.specs.Places.{ArePlacesShown};
+ghost use Rattle.cli_dump.specs.Rows.{TellsUnread};
 
 use crate::rows::Printed;
 use cli_facts::{Front, Refusal};
@@ -35,13 +37,16 @@ pub fn show_places<F: FileBytes + Drop, W: Write>(
     table: Option<&str>,
     out: &mut W,
 ) -> Result<Printed, Refusal>
-    ensures front { AreGiven F.gives_bytes files → IfOk result (λ printed.
+    ensures front { AreGiven F.reads_right files → IfOk result (λ printed.
         IsAskedFront (commit_named options) (F.bytes files.wal) (F.bytes files.journal) printed.front) }
-    ensures shown { AreGiven F.gives_bytes files → IfOk result (λ printed. ArePlacesShown options
+    ensures shown { AreGiven F.reads_right files → IfOk result (λ printed. ArePlacesShown options
         (name_of table.entry) (F.bytes files.db) (F.bytes files.wal) (F.bytes files.journal) (W.contents out.old)
         (W.contents out.new) printed.ended) }
-    ensures refused { AreGiven F.gives_bytes files → IfErr result
-        (IsUnasked options (F.bytes files.db) (F.bytes files.wal) (F.bytes files.journal)) }
+    // That a page or a file couldn't be read is told only where a read failed.
+    ensures unread { IfOk result (λ printed. TellsUnread (AreGiven F.gives_bytes files) printed.ended) }
+    ensures refused { AreGiven F.reads_right files → IfErr result (λ refusal. UnlessFileFailed
+        (AreGiven F.gives_bytes files) refusal
+        (IsUnasked options (F.bytes files.db) (F.bytes files.wal) (F.bytes files.journal) refusal)) }
 {
     let Contents { db, wal, journal } = files;
     let at = options.commit();

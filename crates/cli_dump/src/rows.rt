@@ -1,9 +1,11 @@
 //! The rows of a database as its log has them.
 ghost use Rattle.std.specs.Prelude.{◌≡◌, IfErr, IfOk, None, OnOk, Some};
 ghost use Rattle.cli_words.specs.Commits.{commit_named};
+ghost use Rattle.cli_facts.specs.Refusals.{UnlessFileFailed};
 ghost use Rattle.cli_show.specs.Contents.{AreGiven};
 ghost use Rattle.cli_show.specs.Fronts.{IsAskedFront};
-ghost use Rattle.cli_dump.specs.Rows.{ArePrinted, AreRowsShown, AreStopped, notation_named};
+ghost use Rattle.cli_show_rows.specs.Stops.{IsUnreadStop};
+ghost use Rattle.cli_dump.specs.Rows.{ArePrinted, AreRowsShown, AreStopped, TellsUnread, notation_named};
 ghost use Rattle.cli_show.specs.Views.{IsUnasked};
 
 use cli_facts::{Front, Refusal};
@@ -50,10 +52,11 @@ fn print_table<S: PageSource, W: Write>(
     notation: Notation,
     out: &mut W,
 ) -> Result<(), Stop>
-    ensures ok { S.gives_pages source.old → OnOk result (ArePrinted (S.pages source.old) (Some name.entry) notation
+    ensures ok { S.reads_right source.old → OnOk result (ArePrinted (S.pages source.old) (Some name.entry) notation
         (W.contents out.old) (W.contents out.new)) }
-    ensures err { S.gives_pages source.old → IfErr result (λ stop. AreStopped (S.pages source.old) (Some name.entry)
+    ensures err { S.reads_right source.old → IfErr result (λ stop. AreStopped (S.pages source.old) (Some name.entry)
         notation stop (W.contents out.old) (W.contents out.new)) }
+    ensures unread { IfErr result (λ stop. IsUnreadStop stop → ¬ S.gives_pages source.old) }
 {
     if source.count() == 0 {
         return Err(Stop::NoSuchTable);
@@ -68,10 +71,11 @@ fn print_all<S: PageSource, W: Write>(
     notation: Notation,
     out: &mut W,
 ) -> Result<(), Stop>
-    ensures ok { S.gives_pages source.old → OnOk result (ArePrinted (S.pages source.old) None notation
+    ensures ok { S.reads_right source.old → OnOk result (ArePrinted (S.pages source.old) None notation
         (W.contents out.old) (W.contents out.new)) }
-    ensures err { S.gives_pages source.old → IfErr result (λ stop. AreStopped (S.pages source.old) None notation stop
+    ensures err { S.reads_right source.old → IfErr result (λ stop. AreStopped (S.pages source.old) None notation stop
         (W.contents out.old) (W.contents out.new)) }
+    ensures unread { IfErr result (λ stop. IsUnreadStop stop → ¬ S.gives_pages source.old) }
 {
     if source.count() == 0 {
         return Ok(());
@@ -86,10 +90,11 @@ fn print_wanted<S: PageSource, W: Write>(
     wanted: Wanted<'_>,
     out: &mut W,
 ) -> Result<(), Stop>
-    ensures ok { S.gives_pages source.old → OnOk result (ArePrinted (S.pages source.old) wanted.entry.table
+    ensures ok { S.reads_right source.old → OnOk result (ArePrinted (S.pages source.old) wanted.entry.table
         (notation_named wanted.entry.form) (W.contents out.old) (W.contents out.new)) }
-    ensures err { S.gives_pages source.old → IfErr result (λ stop. AreStopped (S.pages source.old) wanted.entry.table
+    ensures err { S.reads_right source.old → IfErr result (λ stop. AreStopped (S.pages source.old) wanted.entry.table
         (notation_named wanted.entry.form) stop (W.contents out.old) (W.contents out.new)) }
+    ensures unread { IfErr result (λ stop. IsUnreadStop stop → ¬ S.gives_pages source.old) }
 {
     let notation = notation_of(wanted.form);
     match wanted.table {
@@ -107,13 +112,16 @@ pub fn show_rows<F: FileBytes + Drop, W: Write>(
     wanted: Wanted<'_>,
     out: &mut W,
 ) -> Result<Printed, Refusal>
-    ensures front { AreGiven F.gives_bytes files → IfOk result (λ printed.
+    ensures front { AreGiven F.reads_right files → IfOk result (λ printed.
         IsAskedFront (commit_named options) (F.bytes files.wal) (F.bytes files.journal) printed.front) }
-    ensures shown { AreGiven F.gives_bytes files → IfOk result (λ printed. AreRowsShown options wanted.entry
+    ensures shown { AreGiven F.reads_right files → IfOk result (λ printed. AreRowsShown options wanted.entry
         (F.bytes files.db) (F.bytes files.wal) (F.bytes files.journal) (W.contents out.old) (W.contents out.new)
         printed.ended) }
-    ensures refused { AreGiven F.gives_bytes files → IfErr result
-        (IsUnasked options (F.bytes files.db) (F.bytes files.wal) (F.bytes files.journal)) }
+    // That a page or a file couldn't be read is told only where a read failed.
+    ensures unread { IfOk result (λ printed. TellsUnread (AreGiven F.gives_bytes files) printed.ended) }
+    ensures refused { AreGiven F.reads_right files → IfErr result (λ refusal. UnlessFileFailed
+        (AreGiven F.gives_bytes files) refusal
+        (IsUnasked options (F.bytes files.db) (F.bytes files.wal) (F.bytes files.journal) refusal)) }
 {
     let Contents { db, wal, journal } = files;
     let at = options.commit();

@@ -1,10 +1,13 @@
 //! A database as its log has it, as a script.
 ghost use Rattle.std.specs.Prelude.{◌≡◌, IfErr, IfOk};
 ghost use Rattle.cli_words.specs.Commits.{commit_named};
+ghost use Rattle.cli_facts.specs.Refusals.{UnlessFileFailed};
 ghost use Rattle.cli_show.specs.Contents.{AreGiven};
 ghost use Rattle.cli_show.specs.Fronts.{IsAskedFront};
 ghost use Rattle.cli_show.specs.Views.{IsUnasked};
 ghost use Rattle.cli_show_salvage.specs.Scripts.{IsScriptStopped};
+ghost use Rattle.cli_show_rows.specs.Stops.{IsUnreadStop};
+ghost use Rattle.cli_dump.specs.Rows.{TellsUnread};
 ghost use Rattle.cli_dump.specs.Salvages.{IsSalvageShown, IsScripted};
 
 use cli_facts::{Front, Refusal};
@@ -32,10 +35,11 @@ fn write_script<S: PageSource, W: Write>(
     places: bool,
     out: &mut W,
 ) -> Result<bool, Stop>
-    ensures ok { S.gives_pages source.old → IfOk result (IsScripted (S.pages source.old) (S.size source.old) places
+    ensures ok { S.reads_right source.old → IfOk result (IsScripted (S.pages source.old) (S.size source.old) places
         (W.contents out.old) (W.contents out.new)) }
-    ensures err { S.gives_pages source.old → IfErr result (λ stop. IsScriptStopped (S.pages source.old)
+    ensures err { S.reads_right source.old → IfErr result (λ stop. IsScriptStopped (S.pages source.old)
         (S.size source.old) places stop (W.contents out.old) (W.contents out.new)) }
+    ensures unread { IfErr result (λ stop. IsUnreadStop stop → ¬ S.gives_pages source.old) }
 {
     if source.count() == 0 {
         return Ok(true);
@@ -52,13 +56,16 @@ pub fn show_salvage<F: FileBytes + Drop, W: Write>(
     places: bool,
     out: &mut W,
 ) -> Result<Salvaged, Refusal>
-    ensures front { AreGiven F.gives_bytes files → IfOk result (λ salvaged.
+    ensures front { AreGiven F.reads_right files → IfOk result (λ salvaged.
         IsAskedFront (commit_named options) (F.bytes files.wal) (F.bytes files.journal) salvaged.front) }
-    ensures shown { AreGiven F.gives_bytes files → IfOk result (λ salvaged. IsSalvageShown (commit_named options) places
+    ensures shown { AreGiven F.reads_right files → IfOk result (λ salvaged. IsSalvageShown (commit_named options) places
         (F.bytes files.db) (F.bytes files.wal) (F.bytes files.journal) (W.contents out.old) (W.contents out.new)
         salvaged.ended) }
-    ensures refused { AreGiven F.gives_bytes files → IfErr result
-        (IsUnasked options (F.bytes files.db) (F.bytes files.wal) (F.bytes files.journal)) }
+    // That a page or a file couldn't be read is told only where a read failed.
+    ensures unread { IfOk result (λ salvaged. TellsUnread (AreGiven F.gives_bytes files) salvaged.ended) }
+    ensures refused { AreGiven F.reads_right files → IfErr result (λ refusal. UnlessFileFailed
+        (AreGiven F.gives_bytes files) refusal
+        (IsUnasked options (F.bytes files.db) (F.bytes files.wal) (F.bytes files.journal) refusal)) }
 {
     let Contents { db, wal, journal } = files;
     let at = options.commit();

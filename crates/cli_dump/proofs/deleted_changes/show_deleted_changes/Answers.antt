@@ -2,14 +2,20 @@ use Rattle.std.proofs.Common.{OnOk, Result, Ok, Err, inl, inr, subst}
 use Rattle.std.specs.Prelude.{IfErr, MatchResult}
 use Rattle.sqval.specs.Limits.{Bounds}
 use Rattle.sqview.specs.LogView.{pages_of}
+use Rattle.sqview.specs.declared.view.View.{View}
 use Rattle.cli_words.specs.Commits.{commit_of}
 use Rattle.cli_words.specs.declared.requests.Commit.{Commit}
 use Rattle.cli_words.specs.declared.requests.Commit.TheVariants.{At}
+use Rattle.cli_show.specs.Contents.{AreGiven, contents_of}
 use Rattle.cli_show.specs.Fronts.{IsAskedFront}
 use Rattle.cli_show.specs.Limits.{limits_named}
 use Rattle.cli_show.specs.Views.{AskedRefused, IsAskedView}
 use Rattle.cli_show.proofs.AskedFronts.{front_asked, shows_asked}
+use Rattle.cli_show.proofs.ReadViews.{unless_past}
 use Rattle.cli_show_deleted.specs.Changes.{AreDeletedChangesPrinted, AreDeletedChangesStopped}
+use Rattle.cli_show_rows.specs.Stops.{IsUnreadStop}
+use Rattle.cli_dump.specs.DeletedChanges.{IsUnbetween}
+use Rattle.cli_dump.proofs.UnreadEnds.{if_read, told_given, told_stop}
 use Rattle.cli_dump.proofs.deleted_changes.show_deleted_changes.Goals as goal
 
 both : {T E : Type 0} (r : Result T E) (P : Type 0) (R : E → Type 0) → OnOk r P → IfErr r R → MatchResult r (λ _. P) R
@@ -17,16 +23,16 @@ both (Ok _) P R ok err = ok
 both (Err _) P R ok err = err
 
 pub returns-in-Ok-view_of-clause-front : goal.returns-in-Ok-view_of-clause-front
-returns-in-Ok-view_of-clause-front g c = λ given too.
+returns-in-Ok-view_of-clause-front g c = λ right too.
     let bytes = g.F.FileBytes.bytes in
     let to = c.args.to in
     let front = c.of_view-front.result in
     subst (λ (at : Commit). IsAskedFront at (bytes to.wal) (bytes to.journal) front) c.to_commit-at.ensures
     (front_asked c.limits_of-limits.result bytes (bytes to.db) (bytes to.wal) (bytes to.journal) c.in-Ok-view_of.new c.to_commit-at.result front
-    (c.in-Ok-view_of.ensures.answer too) c.of_view-front.ensures)
+    (c.in-Ok-view_of.ensures.right too tt) c.of_view-front.ensures)
 
 pub returns-in-Ok-view_of-clause-shown : goal.returns-in-Ok-view_of-clause-shown
-returns-in-Ok-view_of-clause-shown g c = λ given too.
+returns-in-Ok-view_of-clause-shown g c = λ right too.
     let bytes = g.F.FileBytes.bytes in
     let from = c.args.from in
     let to = c.args.to in
@@ -39,37 +45,62 @@ returns-in-Ok-view_of-clause-shown g c = λ given too.
     let style = c.args.options.style in
     let before = g.W.Write.contents c.args.out.now in
     let after = g.W.Write.contents c.print_deleted_changes-ended.new.out in
-    let gives = c.in-Ok.ensures.still_gives given in
-    let gives_too = c.in-Ok-view_of.ensures.still_gives too in
+    let still = c.in-Ok.ensures.still_right right in
+    let still_too = c.in-Ok-view_of.ensures.still_right too in
     let up_to = commit_of between.to c.args.options.front in
-    let answer = subst (λ (at : Commit). IsAskedView limits bytes at (bytes to.db) (bytes to.wal) (bytes to.journal) w) c.to_commit-at.ensures (c.in-Ok-view_of.ensures.answer too) in (
+    let answer = subst (λ (at : Commit). IsAskedView limits bytes at (bytes to.db) (bytes to.wal) (bytes to.journal) w) c.to_commit-at.ensures (c.in-Ok-view_of.ensures.right too tt) in (
       v.page_size,
       w.page_size,
       d,
       e,
-      shows_asked limits bytes (bytes from.db) (bytes from.wal) (bytes from.journal) v (At between.from) (c.in-Ok.ensures.answer given),
+      shows_asked limits bytes (bytes from.db) (bytes from.wal) (bytes from.journal) v (At between.from) (c.in-Ok.ensures.right right tt),
       shows_asked limits bytes (bytes to.db) (bytes to.wal) (bytes to.journal) w up_to answer,
       both c.print_deleted_changes-ended.result (AreDeletedChangesPrinted d v.page_size e w.page_size style before after)
-          (λ stop. AreDeletedChangesStopped d v.page_size e w.page_size stop before after)
-          (c.print_deleted_changes-ended.ensures.ok gives gives_too) (c.print_deleted_changes-ended.ensures.err gives gives_too),
+          (λ stop. (¬ IsUnreadStop stop) → AreDeletedChangesStopped d v.page_size e w.page_size stop before after)
+          (c.print_deleted_changes-ended.ensures.ok still still_too)
+          (if_read c.print_deleted_changes-ended.result _ (λ stop. AreDeletedChangesStopped d v.page_size e w.page_size stop before after)
+          (c.print_deleted_changes-ended.ensures.err still still_too)),
     )
 
 pub returns-in-Err-clause-refused : goal.returns-in-Err-clause-refused
-returns-in-Err-clause-refused g c = λ given too.
+returns-in-Err-clause-refused g c = λ right too.
     let bytes = g.F.FileBytes.bytes in
-    let db = bytes c.args.from.db in
-    let wal = bytes c.args.from.wal in
-    let journal = bytes c.args.from.journal in
-    let at = At c.args.between.from in
-    let refused = c.in-Err.ensures.answer given in
-    inl (c.in-Err.error, subst (λ (l : Bounds). AskedRefused l at db wal journal c.in-Err.error) c.limits_of-limits.ensures refused, c.from.ensures)
+    let gives = g.F.FileBytes.gives_bytes in
+    let from = contents_of bytes c.args.from in
+    let to = contents_of bytes c.args.to in
+    let error = c.in-Err.error in
+    unless_past (View g.row.F.Denot) error c.from.result (AreGiven gives c.args.from × AreGiven gives c.args.to) (IsUnbetween c.args.options c.args.between from to c.from.result)
+    (λ given. c.in-Err.ensures.read given.0)
+    (λ read.
+    let refused = subst (λ (l : Bounds). AskedRefused l (At c.args.between.from) from.db from.wal from.journal error) c.limits_of-limits.ensures (c.in-Err.ensures.right right read) in
+    inl (error, refused, c.from.ensures))
+    c.from.ensures
 
 pub returns-clause-refused : goal.returns-clause-refused
-returns-clause-refused g c = λ given too.
+returns-clause-refused g c = λ right too.
     let bytes = g.F.FileBytes.bytes in
-    let db = bytes c.args.to.db in
-    let wal = bytes c.args.to.wal in
-    let journal = bytes c.args.to.journal in
+    let gives = g.F.FileBytes.gives_bytes in
+    let from = contents_of bytes c.args.from in
+    let to = contents_of bytes c.args.to in
     let error = c.in-Err-view_of.error in
-    let refused = subst (λ (l : Bounds). AskedRefused l c.to_commit-at.result db wal journal error) c.limits_of-limits.ensures (c.in-Err-view_of.ensures.answer too) in
-    inr (error, subst (λ (at : Commit). AskedRefused (limits_named c.args.options.large) at db wal journal error) c.to_commit-at.ensures refused, c.from-in-Err-view_of.ensures)
+    let refusal = c.from-in-Err-view_of.result in
+    unless_past (View g.row.F.Denot) error refusal (AreGiven gives c.args.from × AreGiven gives c.args.to) (IsUnbetween c.args.options c.args.between from to refusal)
+    (λ given. c.in-Err-view_of.ensures.read given.1)
+    (λ read.
+    let refused = subst (λ (l : Bounds). AskedRefused l c.to_commit-at.result to.db to.wal to.journal error) c.limits_of-limits.ensures (c.in-Err-view_of.ensures.right too read) in
+    inr (error, subst (λ (at : Commit). AskedRefused (limits_named c.args.options.large) at to.db to.wal to.journal error) c.to_commit-at.ensures refused, c.from-in-Err-view_of.ensures))
+    c.from-in-Err-view_of.ensures
+
+pub returns-in-Ok-view_of-clause-unread : goal.returns-in-Ok-view_of-clause-unread
+returns-in-Ok-view_of-clause-unread g c =
+    let gives = g.F.FileBytes.gives_bytes in
+    let right = g.met.F.FileBytes.right in
+    let from = c.args.from in
+    let to = c.args.to in
+    let all = AreGiven gives from × AreGiven gives to in
+    let ended = c.print_deleted_changes-ended.result in
+    told_given ended all
+    (λ given. told_stop ended _ all _ (λ given. (c.in-Ok.ensures.still_gives given.0, c.in-Ok-view_of.ensures.still_gives given.1))
+    (c.print_deleted_changes-ended.ensures.err
+    (c.in-Ok.ensures.still_right (right from.db given.0.0, right from.wal given.0.1, right from.journal given.0.2))
+    (c.in-Ok-view_of.ensures.still_right (right to.db given.1.0, right to.wal given.1.1, right to.journal given.1.2))))

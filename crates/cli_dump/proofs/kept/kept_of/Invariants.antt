@@ -10,7 +10,7 @@ abbrev pub invariant-loop-frame : goal.invariant-loop-frame
 invariant-loop-frame g l = record {
   last : l.before ≡ last_of l.from (take l.frame-index l.frames);
   within : length l.text.items ≤ l.most;
-  told : AreGiven g.F.FileBytes.gives_bytes l.files → TookWithin l.told.limits.frames (g.F.FileBytes.bytes l.files.wal) l.told.scan.now
+  told : AreGiven g.F.FileBytes.reads_right l.files → TookWithin l.told.limits.frames (g.F.FileBytes.bytes l.files.wal) l.told.scan.now
       → ¬ IsHot (g.F.FileBytes.bytes l.files.journal)
       → IsTextOfCommits (bytes_of g.F.FileBytes.bytes l.files) l.told.front (texts_of l.told.selected.names.now) l.told.form l.from (take l.frame-index l.frames) l.text.items;
 }

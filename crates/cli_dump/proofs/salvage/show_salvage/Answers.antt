@@ -2,14 +2,18 @@ use Rattle.std.proofs.Common.{Result, Ok, Err, IfOk, subst}
 use Rattle.std.specs.Prelude.{IfErr, MatchResult}
 use Rattle.sqval.specs.Limits.{Bounds}
 use Rattle.sqview.specs.LogView.{pages_of}
+use Rattle.sqview.specs.declared.view.View.{View}
 use Rattle.cli_show_salvage.specs.Scripts.{IsScriptStopped}
 use Rattle.cli_words.specs.Commits.{commit_named}
 use Rattle.cli_words.specs.declared.requests.Commit.{Commit}
+use Rattle.cli_show.specs.Contents.{AreGiven}
 use Rattle.cli_show.specs.Fronts.{IsAskedFront}
 use Rattle.cli_show.specs.Limits.{limits_named}
-use Rattle.cli_show.specs.Views.{AskedRefused, IsAskedView}
+use Rattle.cli_show.specs.Views.{AskedRefused, IsAskedView, IsUnasked}
 use Rattle.cli_show.proofs.AskedFronts.{front_asked, shows_asked}
+use Rattle.cli_show.proofs.ReadViews.{unless_past}
 use Rattle.cli_dump.specs.Salvages.{IsScripted}
+use Rattle.cli_dump.proofs.UnreadEnds.{told_unread}
 use Rattle.cli_dump.proofs.salvage.show_salvage.Goals as goal
 
 both : {T E : Type 0} (r : Result T E) (P : T → Type 0) (R : E → Type 0) → IfOk r P → IfErr r R → MatchResult r P R
@@ -17,40 +21,48 @@ both (Ok _) P R ok err = ok
 both (Err _) P R ok err = err
 
 pub returns-in-Ok-clause-front : goal.returns-in-Ok-clause-front
-returns-in-Ok-clause-front g c = λ given.
+returns-in-Ok-clause-front g c = λ right.
     let bytes = g.F.FileBytes.bytes in
     let db = bytes c.args.files.db in
     let wal = bytes c.args.files.wal in
     let journal = bytes c.args.files.journal in
     let front = c.of_view-front.result in
     subst (λ (at : Commit). IsAskedFront at wal journal front) c.commit-at.ensures
-    (front_asked c.limits_of.result bytes db wal journal c.in-Ok.view c.commit-at.result front (c.in-Ok.ensures.answer given) c.of_view-front.ensures)
+    (front_asked c.limits_of.result bytes db wal journal c.in-Ok.view c.commit-at.result front (c.in-Ok.ensures.right right tt) c.of_view-front.ensures)
 
 pub returns-in-Ok-clause-shown : goal.returns-in-Ok-clause-shown
-returns-in-Ok-clause-shown g c = λ given.
+returns-in-Ok-clause-shown g c = λ right.
     let bytes = g.F.FileBytes.bytes in
     let v = c.in-Ok.view in
     let db = bytes c.args.files.db in
     let wal = bytes c.args.files.wal in
     let journal = bytes c.args.files.journal in
-    let answer = subst (λ (at : Commit). IsAskedView c.limits_of.result bytes at db wal journal v) c.commit-at.ensures (c.in-Ok.ensures.answer given) in
+    let answer = subst (λ (at : Commit). IsAskedView c.limits_of.result bytes at db wal journal v) c.commit-at.ensures (c.in-Ok.ensures.right right tt) in
     let shows = shows_asked c.limits_of.result bytes db wal journal v (commit_named c.args.options) answer in
     let d = pages_of bytes v in
     let before = g.W.Write.contents c.args.out.now in
     let after = g.W.Write.contents c.write_script-ended.new.out in
-    let gives = c.in-Ok.ensures.still_gives given in (
+    let still = c.in-Ok.ensures.still_right right in (
       v.page_size,
       d,
       shows,
       both c.write_script-ended.result (IsScripted d v.page_size c.args.places before after) (λ stop. IsScriptStopped d v.page_size c.args.places stop before after)
-          (c.write_script-ended.ensures.ok gives) (c.write_script-ended.ensures.err gives),
+          (c.write_script-ended.ensures.ok still) (c.write_script-ended.ensures.err still),
     )
 
 pub returns-in-Err-clause-refused : goal.returns-in-Err-clause-refused
-returns-in-Err-clause-refused g c = λ given.
+returns-in-Err-clause-refused g c = λ right.
     let bytes = g.F.FileBytes.bytes in
     let db = bytes c.args.files.db in
     let wal = bytes c.args.files.wal in
     let journal = bytes c.args.files.journal in
-    let refused = subst (λ (l : Bounds). AskedRefused l c.commit-at.result db wal journal c.in-Err.error) c.limits_of.ensures (c.in-Err.ensures.answer given) in
-    (c.in-Err.error, subst (λ (at : Commit). AskedRefused (limits_named c.args.options.large) at db wal journal c.in-Err.error) c.commit-at.ensures refused, c.from.ensures)
+    let error = c.in-Err.error in
+    unless_past (View g.row.F.Denot) error c.from.result (AreGiven g.F.FileBytes.gives_bytes c.args.files) (IsUnasked c.args.options db wal journal c.from.result) c.in-Err.ensures.read
+    (λ read.
+    let refused = subst (λ (l : Bounds). AskedRefused l c.commit-at.result db wal journal error) c.limits_of.ensures (c.in-Err.ensures.right right read) in
+    (error, subst (λ (at : Commit). AskedRefused (limits_named c.args.options.large) at db wal journal error) c.commit-at.ensures refused, c.from.ensures))
+    c.from.ensures
+
+pub returns-in-Ok-clause-unread : goal.returns-in-Ok-clause-unread
+returns-in-Ok-clause-unread g c =
+    told_unread c.write_script-ended.result _ (AreGiven g.F.FileBytes.gives_bytes c.args.files) c.in-Ok.ensures.still_gives c.write_script-ended.ensures.unread
