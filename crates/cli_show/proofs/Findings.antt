@@ -71,8 +71,8 @@ module _ {F : Type 0} (maps : Bool) (limits : Bounds) (bytes : F → List ℕ) (
       → IfErr q (λ e. UnlessFileFailed g (refusal_of_judge e) (IsNotFound maps limits at db wal journal (refusal_of_judge e)))
   unjudged_of g h at v (Ok verdict) shown still refused = tt
   unjudged_of g h at v (Err judgments.AutoVacuum) shown still refused =
-      (λ is. cc, λ _. (v.page_size, pages_of bytes v, shows_asked limits bytes db wal journal v at shown, refused.1 (λ is. cc)))
-  unjudged_of g h at v (Err judgments.NoMemory) shown still refused = (λ is. cc, λ _. tt)
+      ((λ is all. cc), λ _. (v.page_size, pages_of bytes v, shows_asked limits bytes db wal journal v at shown, refused.1 (λ is. cc)))
+  unjudged_of g h at v (Err judgments.NoMemory) shown still refused = ((λ is all. cc), λ _. tt)
   unjudged_of g h at v (Err judgments.TwoLogs) shown still refused = absurd (refused.1 (λ is. cc))
   unjudged_of g h at v (Err judgments.TooLarge) shown still refused = absurd (refused.1 (λ is. cc))
   unjudged_of g h at v (Err judgments.Unread) shown still refused = (λ _ gives. refused.0 refl (still gives), λ other. absurd (other refl))
@@ -108,11 +108,11 @@ module _ (maps : Bool) (limits : Bounds) (at : Commit) (db wal journal : List �
   unviewed : (g : Type 0) (error : ViewError) → (error ≡ views.Unread → ¬ g) → (error ≢ views.Unread → AskedRefused limits at db wal journal (Why error))
       → IfErr (verdict_without error) (λ e. UnlessFileFailed g (refusal_of_judge e) (IsNotFound maps limits at db wal journal (refusal_of_judge e)))
   unviewed g (views.Header fault) unread refused = tt
-  unviewed g views.TwoLogs unread refused = (λ is. cc, λ _. refused (λ is. cc))
-  unviewed g views.TooLarge unread refused = (λ is. cc, λ _. refused (λ is. cc))
+  unviewed g views.TwoLogs unread refused = ((λ is all. cc), λ _. refused (λ is. cc))
+  unviewed g views.TooLarge unread refused = ((λ is all. cc), λ _. refused (λ is. cc))
   unviewed g views.Unread unread refused = (λ _. unread refl, λ other. absurd (other refl))
-  unviewed g views.NoMemory unread refused = (λ is. cc, λ _. tt)
-  unviewed g views.NoSuchCommit unread refused = (λ is. cc, λ _. refused (λ is. cc))
+  unviewed g views.NoMemory unread refused = ((λ is all. cc), λ _. tt)
+  unviewed g views.NoSuchCommit unread refused = ((λ is all. cc), λ _. refused (λ is. cc))
 
   weaker : (q : Result Verdict JudgeError) → IfOk q (IsHeadless limits at db wal journal) → IfOk q (IsFound maps limits at db wal journal)
   weaker (Ok verdict) is = inr is

@@ -1,5 +1,5 @@
 -- Views that aren't refused for a file that couldn't be read.
-use Rattle.std.proofs.Common.{◌≡◌, ◌≢◌, ℕ, List, inl, inr, refl, sym, subst}
+use Rattle.std.proofs.Common.{◌≡◌, ◌≢◌, ℕ, List, inl, inr, refl, sym, ap, subst}
 use Rattle.std.specs.Prelude.{Err, IfErr, MatchResult, Ok, Result}
 use Rattle.sqval.specs.Limits.{Bounds}
 use Rattle.sqpast.specs.Files.{IsPastRead}
@@ -11,6 +11,7 @@ use Rattle.sqview.specs.declared.view_error.ViewError.TheVariants as views
 use Rattle.cli_facts.specs.Refusals.{UnlessFileFailed, refusal_of_past}
 use Rattle.cli_facts.specs.declared.outcome.Refusal.{Refusal}
 use Rattle.cli_facts.specs.declared.outcome.Refusal.TheVariants.{FileFailed, NoMemory}
+use Rattle.sqpast.proofs.ReadAnswers.{past_unless, read_unread}
 use Rattle.cli_words.specs.declared.requests.Commit.{Commit}
 use Rattle.cli_show.specs.Views.{AskedRefused}
 use Rattle.cli_show.proofs.AskedFronts.{memory_refused}
@@ -20,6 +21,17 @@ pub source_refused : (A : Type 0) (limits : Bounds) (at : Commit) (db wal journa
     → AskedRefused limits at db wal journal (Refused error)
 source_refused A limits at db wal journal error (inl unread) read = absurd (subst (λ (e : ViewError). IsPastRead {A = A} (Err (Refused e))) unread read)
 source_refused A limits at db wal journal error (inr memory) read = subst (λ (e : ViewError). AskedRefused limits at db wal journal (Refused e)) (sym memory) (memory_refused limits at db wal journal)
+
+-- there is none for another reason than that a file couldn't be read
+pub asked_unless : (A : Type 0) (limits : Bounds) (at : Commit) (db wal journal : List ℕ) (field : PastError) (error : ViewError) → field ≡ Refused error
+    → (IsPastRead {A = A} (Err field) → AskedRefused limits at db wal journal field) → error ≢ views.Unread → AskedRefused limits at db wal journal (Refused error)
+asked_unless A limits at db wal journal field error is right other =
+    subst (λ (e : PastError). AskedRefused limits at db wal journal e) is (right (subst (λ (e : PastError). IsPastRead {A = A} (Err e)) (sym is) (past_unless A error other)))
+
+-- or for that one
+pub unread_gives : (A gives : Type 0) (field : PastError) (error : ViewError) → field ≡ Refused error → (gives → IsPastRead {A = A} (Err field)) → error ≡ views.Unread → ¬ gives
+unread_gives A gives field error is read unread given =
+    read_unread A (Refused error) (ap Refused unread) (subst (λ (e : PastError). IsPastRead {A = A} (Err e)) is (read given))
 
 -- a refusal that isn't that a file couldn't be read
 pub unless_other : (gives P : Type 0) (refusal : Refusal) → refusal ≢ FileFailed → P → UnlessFileFailed gives refusal P

@@ -1,5 +1,5 @@
 -- What a deep check finds of the view that is asked for is found of the files.
-use Rattle.std.proofs.Common.{◌≡◌, ◌∙◌, ◌≤◌, ◌<◌, ◌*◌, ◌-◌, ◌⊎◌, ⊎_elim, ℕ, List, Bool, true, false, length, get_or, take, inl, inr, refl, sym, ap, subst, arith}
+use Rattle.std.proofs.Common.{◌≡◌, ◌≢◌, ◌∙◌, ◌≤◌, ◌<◌, ◌*◌, ◌-◌, ◌⊎◌, ⊎_elim, ℕ, List, Bool, true, false, length, get_or, take, inl, inr, refl, sym, ap, subst, arith}
 use Rattle.std.proofs.lemmas.List.{get_or-take}
 use Rattle.std.specs.Prelude.{◌↔◌, Option, None, Some, Result, Ok, Err, IfOk, IfErr, IfSome}
 use Rattle.sqval.specs.Database.{Database}
@@ -7,7 +7,7 @@ use Rattle.sqval.specs.Limits.{Bounds}
 use Rattle.sqview.specs.Laid.{place_of}
 use Rattle.sqview.specs.LogView.{pages_of}
 use Rattle.sqview.proofs.openings.PagesOfView.{length_laid}
-use Rattle.sqview.specs.Verdicts.{IsUnjudgedWith}
+use Rattle.sqview.specs.Verdicts.{IsUnjudgedWith, UnlessFailed}
 use Rattle.sqview.specs.declared.judge_error.JudgeError.{JudgeError}
 use Rattle.sqview.specs.declared.judge_error.JudgeError.TheVariants as judgments
 use Rattle.sqview.specs.declared.verdict.Verdict.{Verdict}
@@ -21,12 +21,13 @@ use Rattle.sqpast.specs.declared.past_error.PastError.TheVariants.{Refused as Wh
 use Rattle.cli_words.specs.declared.requests.Commit.{Commit}
 use Rattle.cli_words.specs.declared.requests.Commit.TheVariants.{Last, Front, At}
 use Rattle.cli_facts.specs.Fronts.{IsFrontOf}
+use Rattle.cli_facts.specs.Refusals.{UnlessFileFailed}
 use Rattle.cli_facts.specs.internal.Refusals.{refusal_of_judge}
 use Rattle.cli_facts.specs.declared.fronts.Front.{Front as LogFront}
 use Rattle.cli_facts.specs.declared.outcome.Refusal.{Refusal}
 use Rattle.cli_show.specs.Fronts.{IsAskedFront}
 use Rattle.cli_show.specs.Views.{AreAskedCounts, IsAskedView, IsWholeView, AskedRefused, IsHeadless, IsNotFound}
-use Rattle.cli_show.proofs.AskedFronts.{asked_read, front_asked, shows_asked}
+use Rattle.cli_show.proofs.AskedFronts.{front_asked, shows_asked}
 use Rattle.cli_show_deep.specs.Found.{HasPage, IsFoundAs, IsFoundDeep, IsHeadlessDeep, IsMissingFound, IsWholeOrCut}
 use Rattle.cli_show_deep.specs.internal.Plain.{IsPlain}
 use Rattle.sqdeepjudge.specs.Counted.{FindsExcess}
@@ -118,15 +119,17 @@ module _ {F : Type 0} (maps : Bool) (limits : Bounds) (bytes : F → List ℕ) (
   )
   found_of at v lengths (Err e) shown are finds cut excess = tt
 
-  unjudged_of : (at : Commit) (v : View F) (q : Result DeepVerdict JudgeError) → IsAskedView limits bytes at db wal journal v → IfErr q (IsUnjudgedWith maps (pages_of bytes v))
-      → IfErr q (λ e. IsNotFound maps limits at db wal journal (refusal_of_judge e))
-  unjudged_of at v (Ok verdict) shown refused = tt
-  unjudged_of at v (Err judgments.AutoVacuum) shown refused = (v.page_size, pages_of bytes v, shows_asked limits bytes db wal journal v at shown, refused)
-  unjudged_of at v (Err judgments.NoMemory) shown refused = tt
-  unjudged_of at v (Err judgments.TwoLogs) shown refused = absurd refused
-  unjudged_of at v (Err judgments.TooLarge) shown refused = absurd refused
-  unjudged_of at v (Err judgments.Unread) shown refused = absurd refused
-  unjudged_of at v (Err judgments.NoSuchCommit) shown refused = absurd refused
+  unjudged_of : (g h : Type 0) (at : Commit) (v : View F) (q : Result DeepVerdict JudgeError) → IsAskedView limits bytes at db wal journal v → (g → h)
+      → IfErr q (λ e. UnlessFailed h e (IsUnjudgedWith maps (pages_of bytes v) e))
+      → IfErr q (λ e. UnlessFileFailed g (refusal_of_judge e) (IsNotFound maps limits at db wal journal (refusal_of_judge e)))
+  unjudged_of g h at v (Ok verdict) shown still refused = tt
+  unjudged_of g h at v (Err judgments.AutoVacuum) shown still refused =
+      ((λ is all. cc), λ _. (v.page_size, pages_of bytes v, shows_asked limits bytes db wal journal v at shown, refused.1 (λ is. cc)))
+  unjudged_of g h at v (Err judgments.NoMemory) shown still refused = ((λ is all. cc), λ _. tt)
+  unjudged_of g h at v (Err judgments.TwoLogs) shown still refused = absurd (refused.1 (λ is. cc))
+  unjudged_of g h at v (Err judgments.TooLarge) shown still refused = absurd (refused.1 (λ is. cc))
+  unjudged_of g h at v (Err judgments.Unread) shown still refused = (λ _ gives. refused.0 refl (still gives), λ other. absurd (other refl))
+  unjudged_of g h at v (Err judgments.NoSuchCommit) shown still refused = absurd (refused.1 (λ is. cc))
 
   module _ (at : Commit) (v : View F) (front : Option LogFront) (q : Result DeepVerdict JudgeError) (r : Result DeepFinding Refusal) (shown : IsAskedView limits bytes at db wal journal v) where
     pub view_found : (lengths : Lengths) → AreLengths at db wal journal lengths → IfOk r (λ x. (q ≡ Ok x.verdict) × (x.front ≡ front)) → IfOk q (FindsDeep maps (pages_of bytes v) v.page_size)
@@ -140,27 +143,29 @@ module _ {F : Type 0} (maps : Bool) (limits : Bounds) (bytes : F → List ℕ) (
         (all_ok (λ verdict. IsAskedFront at wal journal front ⊎ ((front ≡ None) × IsHeadlessDeep limits at db wal journal verdict)) q
         (λ verdict. inl (front_asked limits bytes db wal journal v at front shown stands)))
 
-    pub view_refused : IfErr r (λ x. (error : JudgeError) × (q ≡ Err error) × (x ≡ refusal_of_judge error)) → IfErr q (IsUnjudgedWith maps (pages_of bytes v))
-        → IfErr r (IsNotFound maps limits at db wal journal)
-    view_refused is refused = refused_by (IsNotFound maps limits at db wal journal) q r is (unjudged_of at v q shown refused)
+    pub view_refused : {g h : Type 0} → IfErr r (λ x. (error : JudgeError) × (q ≡ Err error) × (x ≡ refusal_of_judge error)) → (g → h)
+        → IfErr q (λ e. UnlessFailed h e (IsUnjudgedWith maps (pages_of bytes v) e))
+        → IfErr r (λ x. UnlessFileFailed g x (IsNotFound maps limits at db wal journal x))
+    view_refused {g = g} {h = h} is still refused = refused_by (λ x. UnlessFileFailed g x (IsNotFound maps limits at db wal journal x)) q r is (unjudged_of g h at v q shown still refused)
 
 -- where there is no view
 module _ (maps : Bool) (limits : Bounds) (at : Commit) (db wal journal : List ℕ) where
-  headless : (error : ViewError) → AskedRefused limits at db wal journal (Why error) → IfOk (deep_without error) (IsHeadlessDeep limits at db wal journal)
-  headless (views.Header fault) refused = (refl, refused)
+  headless : (error : ViewError) → (error ≢ views.Unread → AskedRefused limits at db wal journal (Why error)) → IfOk (deep_without error) (IsHeadlessDeep limits at db wal journal)
+  headless (views.Header fault) refused = (refl, refused (λ is. cc))
   headless views.TwoLogs refused = tt
   headless views.TooLarge refused = tt
   headless views.Unread refused = tt
   headless views.NoMemory refused = tt
   headless views.NoSuchCommit refused = tt
 
-  unviewed : (error : ViewError) → AskedRefused limits at db wal journal (Why error) → IfErr (deep_without error) (λ e. IsNotFound maps limits at db wal journal (refusal_of_judge e))
-  unviewed (views.Header fault) refused = tt
-  unviewed views.TwoLogs refused = refused
-  unviewed views.TooLarge refused = refused
-  unviewed views.Unread refused = absurd (asked_read limits at db wal journal refused)
-  unviewed views.NoMemory refused = tt
-  unviewed views.NoSuchCommit refused = refused
+  unviewed : (g : Type 0) (error : ViewError) → (error ≡ views.Unread → ¬ g) → (error ≢ views.Unread → AskedRefused limits at db wal journal (Why error))
+      → IfErr (deep_without error) (λ e. UnlessFileFailed g (refusal_of_judge e) (IsNotFound maps limits at db wal journal (refusal_of_judge e)))
+  unviewed g (views.Header fault) unread refused = tt
+  unviewed g views.TwoLogs unread refused = ((λ is all. cc), λ _. refused (λ is. cc))
+  unviewed g views.TooLarge unread refused = ((λ is all. cc), λ _. refused (λ is. cc))
+  unviewed g views.Unread unread refused = (λ _. unread refl, λ other. absurd (other refl))
+  unviewed g views.NoMemory unread refused = ((λ is all. cc), λ _. tt)
+  unviewed g views.NoSuchCommit unread refused = ((λ is all. cc), λ _. refused (λ is. cc))
 
   weaker : (q : Result DeepVerdict JudgeError) → IfOk q (IsHeadlessDeep limits at db wal journal) → IfOk q (IsFoundDeep maps limits at db wal journal)
   weaker (Ok verdict) is = inr is
@@ -171,7 +176,7 @@ module _ (maps : Bool) (limits : Bounds) (at : Commit) (db wal journal : List �
   beside (Ok verdict) is = inr (refl, is)
   beside (Err e) is = tt
 
-  module _ (error : ViewError) (q : Result DeepVerdict JudgeError) (r : Result DeepFinding Refusal) (refused : AskedRefused limits at db wal journal (Why error)) (same : q ≡ deep_without error) where
+  module _ (error : ViewError) (q : Result DeepVerdict JudgeError) (r : Result DeepFinding Refusal) (refused : error ≢ views.Unread → AskedRefused limits at db wal journal (Why error)) (same : q ≡ deep_without error) where
     here : IfOk q (IsHeadlessDeep limits at db wal journal)
     here = subst (λ (o : Result DeepVerdict JudgeError). IfOk o (IsHeadlessDeep limits at db wal journal)) (sym same) (headless error refused)
 
@@ -183,9 +188,10 @@ module _ (maps : Bool) (limits : Bounds) (at : Commit) (db wal journal : List �
     none_front is =
         front_by (λ f verdict. IsAskedFront at wal journal f ⊎ ((f ≡ None) × IsHeadlessDeep limits at db wal journal verdict)) None q r is (beside q here)
 
-    pub none_refused : IfErr r (λ x. (error : JudgeError) × (q ≡ Err error) × (x ≡ refusal_of_judge error)) → IfErr r (IsNotFound maps limits at db wal journal)
-    none_refused is = refused_by (IsNotFound maps limits at db wal journal) q r is
-        (subst (λ (o : Result DeepVerdict JudgeError). IfErr o (λ e. IsNotFound maps limits at db wal journal (refusal_of_judge e))) (sym same) (unviewed error refused))
+    pub none_refused : (g : Type 0) → (error ≡ views.Unread → ¬ g) → IfErr r (λ x. (error : JudgeError) × (q ≡ Err error) × (x ≡ refusal_of_judge error))
+        → IfErr r (λ x. UnlessFileFailed g x (IsNotFound maps limits at db wal journal x))
+    none_refused g unread is = refused_by (λ x. UnlessFileFailed g x (IsNotFound maps limits at db wal journal x)) q r is
+        (subst (λ (o : Result DeepVerdict JudgeError). IfErr o (λ e. UnlessFileFailed g (refusal_of_judge e) (IsNotFound maps limits at db wal journal (refusal_of_judge e)))) (sym same) (unviewed g error unread refused))
 
 -- a fault of the file's own header is found by a check that isn't deep, too
 headless_plain : (maps : Bool) (limits : Bounds) (at : Commit) (db wal journal : List ℕ) (verdict : DeepVerdict)
@@ -233,7 +239,7 @@ module _ {F : Type 0} (maps : Bool) (limits : Bounds) (bytes : F → List ℕ) (
 
 -- where there is no view
 module _ (maps : Bool) (limits : Bounds) (at : Commit) (db wal journal : List ℕ) (error : ViewError) (q : Result DeepVerdict JudgeError) (r : Result DeepFinding Refusal)
-    (refused : AskedRefused limits at db wal journal (Why error)) (same : q ≡ deep_without error) (is : IfOk r (λ x. (q ≡ Ok x.verdict) × (x.front ≡ None))) where
+    (refused : error ≢ views.Unread → AskedRefused limits at db wal journal (Why error)) (same : q ≡ deep_without error) (is : IfOk r (λ x. (q ≡ Ok x.verdict) × (x.front ≡ None))) where
   headless_here : IfOk r (λ x. IsHeadlessDeep limits at db wal journal x.verdict)
   headless_here = found_by (IsHeadlessDeep limits at db wal journal) None q r is
       (subst (λ (o : Result DeepVerdict JudgeError). IfOk o (IsHeadlessDeep limits at db wal journal)) (sym same) (headless maps limits at db wal journal error refused))

@@ -1,5 +1,6 @@
 //! What a deep check finds of files.
 ghost use Rattle.std.specs.Prelude.{◌≡◌, ◌⊎◌, Err, IfErr, IfOk, IfSome, None, Ok, false};
+ghost use Rattle.cli_facts.specs.Refusals.{UnlessFileFailed};
 ghost use Rattle.cli_facts.specs.internal.Refusals.{refusal_of_judge};
 ghost use Rattle.sqview.specs.declared.judge_error.JudgeError.{JudgeError};
 ghost use Rattle.cli_show.specs.Fronts.{IsAskedFront};
@@ -79,15 +80,17 @@ fn judged_deep<F: FileBytes + Drop>(
     wal: F,
     journal: F,
 ) -> Result<DeepFinding, Refusal>
-    ensures found { F.gives_bytes db × F.gives_bytes wal × F.gives_bytes journal → IfOk result (λ found.
+    ensures found { F.reads_right db × F.reads_right wal × F.reads_right journal → IfOk result (λ found.
         IsFoundDeep asked.maps.pointer_maps asked.limits asked.at (F.bytes db) (F.bytes wal) (F.bytes journal)
         found.verdict) }
-    ensures front { F.gives_bytes db × F.gives_bytes wal × F.gives_bytes journal → IfOk result (λ found.
+    ensures front { F.reads_right db × F.reads_right wal × F.reads_right journal → IfOk result (λ found.
         IsAskedFront asked.at (F.bytes wal) (F.bytes journal) found.front ⊎ ((found.front ≡ None)
         × IsHeadlessDeep asked.limits asked.at (F.bytes db) (F.bytes wal) (F.bytes journal) found.verdict)) }
-    ensures refused { F.gives_bytes db × F.gives_bytes wal × F.gives_bytes journal → IfErr result
-        (IsNotFound asked.maps.pointer_maps asked.limits asked.at (F.bytes db) (F.bytes wal) (F.bytes journal)) }
-    ensures counts { F.gives_bytes db × F.gives_bytes wal × F.gives_bytes journal → IfOk result (λ found.
+    ensures refused { F.reads_right db × F.reads_right wal × F.reads_right journal → IfErr result (λ refusal.
+        UnlessFileFailed (F.gives_bytes db × F.gives_bytes wal × F.gives_bytes journal) refusal
+        (IsNotFound asked.maps.pointer_maps asked.limits asked.at (F.bytes db) (F.bytes wal) (F.bytes journal)
+        refusal)) }
+    ensures counts { F.reads_right db × F.reads_right wal × F.reads_right journal → IfOk result (λ found.
         IfSome found.counts (AreAskedCounts asked.at (F.bytes db) (F.bytes wal) (F.bytes journal))) }
     ensures missing { IfOk result (λ found. found.missing ≡ None) }
 {
@@ -135,17 +138,19 @@ fn judged_plain<F: FileBytes + Drop>(
     wal: F,
     journal: F,
 ) -> Result<DeepFinding, Refusal>
-    ensures found { F.gives_bytes db × F.gives_bytes wal × F.gives_bytes journal → IfOk result (λ found.
+    ensures found { F.reads_right db × F.reads_right wal × F.reads_right journal → IfOk result (λ found.
         IsFoundAs false asked.maps.pointer_maps asked.limits asked.at (F.bytes db) (F.bytes wal) (F.bytes journal)
         found.verdict) }
-    ensures front { F.gives_bytes db × F.gives_bytes wal × F.gives_bytes journal → IfOk result (λ found.
+    ensures front { F.reads_right db × F.reads_right wal × F.reads_right journal → IfOk result (λ found.
         IsAskedFront asked.at (F.bytes wal) (F.bytes journal) found.front ⊎ ((found.front ≡ None)
         × IsHeadlessDeep asked.limits asked.at (F.bytes db) (F.bytes wal) (F.bytes journal) found.verdict)) }
-    ensures refused { F.gives_bytes db × F.gives_bytes wal × F.gives_bytes journal → IfErr result
-        (IsNotFound asked.maps.pointer_maps asked.limits asked.at (F.bytes db) (F.bytes wal) (F.bytes journal)) }
-    ensures counts { F.gives_bytes db × F.gives_bytes wal × F.gives_bytes journal → IfOk result (λ found.
+    ensures refused { F.reads_right db × F.reads_right wal × F.reads_right journal → IfErr result (λ refusal.
+        UnlessFileFailed (F.gives_bytes db × F.gives_bytes wal × F.gives_bytes journal) refusal
+        (IsNotFound asked.maps.pointer_maps asked.limits asked.at (F.bytes db) (F.bytes wal) (F.bytes journal)
+        refusal)) }
+    ensures counts { F.reads_right db × F.reads_right wal × F.reads_right journal → IfOk result (λ found.
         IfSome found.counts (AreAskedCounts asked.at (F.bytes db) (F.bytes wal) (F.bytes journal))) }
-    ensures missing { F.gives_bytes db × F.gives_bytes wal × F.gives_bytes journal → IfOk result
+    ensures missing { F.reads_right db × F.reads_right wal × F.reads_right journal → IfOk result
         (IsMissingFound false asked.limits asked.at (F.bytes db) (F.bytes wal) (F.bytes journal)) }
 {
     let long = db.len();
@@ -179,17 +184,19 @@ pub fn judged_as<F: FileBytes + Drop>(
     wal: F,
     journal: F,
 ) -> Result<DeepFinding, Refusal>
-    ensures found { F.gives_bytes db × F.gives_bytes wal × F.gives_bytes journal → IfOk result (λ found.
+    ensures found { F.reads_right db × F.reads_right wal × F.reads_right journal → IfOk result (λ found.
         IsFoundAs deep asked.maps.pointer_maps asked.limits asked.at (F.bytes db) (F.bytes wal) (F.bytes journal)
         found.verdict) }
-    ensures front { F.gives_bytes db × F.gives_bytes wal × F.gives_bytes journal → IfOk result (λ found.
+    ensures front { F.reads_right db × F.reads_right wal × F.reads_right journal → IfOk result (λ found.
         IsAskedFront asked.at (F.bytes wal) (F.bytes journal) found.front ⊎ ((found.front ≡ None)
         × IsHeadlessDeep asked.limits asked.at (F.bytes db) (F.bytes wal) (F.bytes journal) found.verdict)) }
-    ensures refused { F.gives_bytes db × F.gives_bytes wal × F.gives_bytes journal → IfErr result
-        (IsNotFound asked.maps.pointer_maps asked.limits asked.at (F.bytes db) (F.bytes wal) (F.bytes journal)) }
-    ensures counts { F.gives_bytes db × F.gives_bytes wal × F.gives_bytes journal → IfOk result (λ found.
+    ensures refused { F.reads_right db × F.reads_right wal × F.reads_right journal → IfErr result (λ refusal.
+        UnlessFileFailed (F.gives_bytes db × F.gives_bytes wal × F.gives_bytes journal) refusal
+        (IsNotFound asked.maps.pointer_maps asked.limits asked.at (F.bytes db) (F.bytes wal) (F.bytes journal)
+        refusal)) }
+    ensures counts { F.reads_right db × F.reads_right wal × F.reads_right journal → IfOk result (λ found.
         IfSome found.counts (AreAskedCounts asked.at (F.bytes db) (F.bytes wal) (F.bytes journal))) }
-    ensures missing { F.gives_bytes db × F.gives_bytes wal × F.gives_bytes journal → IfOk result
+    ensures missing { F.reads_right db × F.reads_right wal × F.reads_right journal → IfOk result
         (IsMissingFound deep asked.limits asked.at (F.bytes db) (F.bytes wal) (F.bytes journal)) }
 {
     if deep {

@@ -1,41 +1,95 @@
+use Rattle.std.proofs.Common.{◌≡◌, sym, subst}
+use Rattle.std.specs.Prelude.{Err}
 use Rattle.sqview.specs.LogView.{pages_of}
-use Rattle.sqview.proofs.judgments.VerdictOnFiles.{given}
+use Rattle.sqview.specs.declared.view_error.ViewError.{ViewError}
+use Rattle.sqpast.specs.Files.{IsPastRead}
+use Rattle.sqpast.specs.declared.past_error.PastError.{PastError}
 use Rattle.sqdeepjudge.proofs.SchemaFindings.{both_parts}
+use Rattle.sqdeepjudge.specs.Verdicts.{deep_without}
 use Rattle.sqdeepjudge.specs.declared.verdict.Lengths.{Lengths}
-use Rattle.cli_show.specs.Views.{AreAskedCounts}
+use Rattle.cli_facts.specs.declared.outcome.Refusal.TheVariants.{CommitOverwritten}
+use Rattle.cli_show.specs.Views.{AreAskedCounts, AskedRefused}
+use Rattle.cli_show.specs.declared.views.Used.{Used}
+use Rattle.cli_show.proofs.ReadViews.{asked_unless, unless_other, unread_gives}
 use Rattle.cli_show_deep.proofs.DeepFindings.{counted_by, view_found, view_front, view_refused, none_found, none_front, none_refused}
 use Rattle.cli_show_deep.proofs.found.judged_deep.Goals as goal
 
 pub returns-in-Ok-clause-found : goal.returns-in-Ok-clause-found
-returns-in-Ok-clause-found g c = λ gives.
+returns-in-Ok-clause-found g c = λ right.
     let bytes = g.F.FileBytes.bytes in
     let a = c.args.asked in
     let v = c.in-Ok.used.view in
-    let still = c.in-Ok.ensures.still_gives gives in
+    let still = c.in-Ok.ensures.still_right right in
     let lengths : Lengths = record { long = c.len-long.result; counts = c.in-Ok.used.counts } in
     let both = both_parts a.maps.pointer_maps (pages_of bytes v) v.page_size c.judge_deep-found.result
-    (c.judge_deep-found.ensures.found (g.met.F.FileBytes.right v.db still.0, g.met.F.FileBytes.right v.log still.1)) (c.judge_deep-found.ensures.schema (g.met.F.FileBytes.right v.db still.0, g.met.F.FileBytes.right v.log still.1)) in
+    (c.judge_deep-found.ensures.found still) (c.judge_deep-found.ensures.schema still) in
     view_found a.maps.pointer_maps a.limits bytes (bytes c.args.db) (bytes c.args.wal) (bytes c.args.journal) a.at v c.of_view-front.result c.judge_deep-found.result c.as_found.result
-    (c.in-Ok.ensures.answer gives) lengths (c.len-long.ensures.count (g.met.F.FileBytes.right c.args.db gives.0), c.in-Ok.ensures.counts gives) c.as_found.ensures.ok both
+    (c.in-Ok.ensures.right right tt) lengths (c.len-long.ensures.count right.0, c.in-Ok.ensures.counts right) c.as_found.ensures.ok both
     c.judge_deep-found.ensures.cut c.judge_deep-found.ensures.counts
 
 pub returns-in-Ok-clause-front : goal.returns-in-Ok-clause-front
-returns-in-Ok-clause-front g c = λ gives.
+returns-in-Ok-clause-front g c = λ right.
     let bytes = g.F.FileBytes.bytes in
     let a = c.args.asked in
     view_front a.maps.pointer_maps a.limits bytes (bytes c.args.db) (bytes c.args.wal) (bytes c.args.journal) a.at c.in-Ok.used.view c.of_view-front.result c.judge_deep-found.result c.as_found.result
-    (c.in-Ok.ensures.answer gives) c.as_found.ensures.ok c.of_view-front.ensures
+    (c.in-Ok.ensures.right right tt) c.as_found.ensures.ok c.of_view-front.ensures
 
 pub returns-in-Ok-clause-refused : goal.returns-in-Ok-clause-refused
-returns-in-Ok-clause-refused g c = λ gives.
+returns-in-Ok-clause-refused g c = λ right.
     let bytes = g.F.FileBytes.bytes in
     let a = c.args.asked in
-    let v = c.in-Ok.used.view in
-    let still = c.in-Ok.ensures.still_gives gives in
+    let still = c.in-Ok.ensures.still_right right in
     view_refused a.maps.pointer_maps a.limits bytes (bytes c.args.db) (bytes c.args.wal) (bytes c.args.journal) a.at c.in-Ok.used.view c.of_view-front.result c.judge_deep-found.result c.as_found.result
-    (c.in-Ok.ensures.answer gives) c.as_found.ensures.err (given c.judge_deep-found.result still (c.judge_deep-found.ensures.refused (g.met.F.FileBytes.right v.db still.0, g.met.F.FileBytes.right v.log still.1)))
+    (c.in-Ok.ensures.right right tt) c.as_found.ensures.err c.in-Ok.ensures.still_gives (c.judge_deep-found.ensures.refused still)
 
 pub returns-in-Ok-clause-counts : goal.returns-in-Ok-clause-counts
-returns-in-Ok-clause-counts g c = λ gives.
+returns-in-Ok-clause-counts g c = λ right.
     let bytes = g.F.FileBytes.bytes in
-    counted_by (AreAskedCounts c.args.asked.at (bytes c.args.db) (bytes c.args.wal) (bytes c.args.journal)) c.in-Ok.used.counts c.as_found.result (c.in-Ok.ensures.counts gives) c.as_found.ensures.counts
+    counted_by (AreAskedCounts c.args.asked.at (bytes c.args.db) (bytes c.args.wal) (bytes c.args.journal)) c.in-Ok.used.counts c.as_found.result (c.in-Ok.ensures.counts right) c.as_found.ensures.counts
+
+pub returns-in-Err-Refused-clause-found : goal.returns-in-Err-Refused-clause-found
+returns-in-Err-Refused-clause-found g c = λ right.
+    let bytes = g.F.FileBytes.bytes in
+    let a = c.args.asked in
+    let db = bytes c.args.db in
+    let wal = bytes c.args.wal in
+    let journal = bytes c.args.journal in
+    let it = c.in-Err-Refused in
+    let refused = asked_unless (Used g.row.F.Denot) a.limits a.at db wal journal it.field-0 it.error it.field-0-is (it.ensures.right right) in
+    let same = subst (λ (e : ViewError). c.deep_without.result ≡ deep_without e) it.error-is c.deep_without.ensures in
+    none_found a.maps.pointer_maps a.limits a.at db wal journal it.error c.deep_without.result c.as_found-in-Err-Refused.result refused same c.as_found-in-Err-Refused.ensures.ok
+
+pub returns-in-Err-Refused-clause-front : goal.returns-in-Err-Refused-clause-front
+returns-in-Err-Refused-clause-front g c = λ right.
+    let bytes = g.F.FileBytes.bytes in
+    let a = c.args.asked in
+    let db = bytes c.args.db in
+    let wal = bytes c.args.wal in
+    let journal = bytes c.args.journal in
+    let it = c.in-Err-Refused in
+    let refused = asked_unless (Used g.row.F.Denot) a.limits a.at db wal journal it.field-0 it.error it.field-0-is (it.ensures.right right) in
+    let same = subst (λ (e : ViewError). c.deep_without.result ≡ deep_without e) it.error-is c.deep_without.ensures in
+    none_front a.maps.pointer_maps a.limits a.at db wal journal it.error c.deep_without.result c.as_found-in-Err-Refused.result refused same c.as_found-in-Err-Refused.ensures.ok
+
+pub returns-in-Err-Refused-clause-refused : goal.returns-in-Err-Refused-clause-refused
+returns-in-Err-Refused-clause-refused g c = λ right.
+    let bytes = g.F.FileBytes.bytes in
+    let a = c.args.asked in
+    let db = bytes c.args.db in
+    let wal = bytes c.args.wal in
+    let journal = bytes c.args.journal in
+    let it = c.in-Err-Refused in
+    let refused = asked_unless (Used g.row.F.Denot) a.limits a.at db wal journal it.field-0 it.error it.field-0-is (it.ensures.right right) in
+    let same = subst (λ (e : ViewError). c.deep_without.result ≡ deep_without e) it.error-is c.deep_without.ensures in
+    let gives = g.F.FileBytes.gives_bytes c.args.db × g.F.FileBytes.gives_bytes c.args.wal × g.F.FileBytes.gives_bytes c.args.journal in
+    none_refused a.maps.pointer_maps a.limits a.at db wal journal it.error c.deep_without.result c.as_found-in-Err-Refused.result refused same gives
+    (unread_gives (Used g.row.F.Denot) gives it.field-0 it.error it.field-0-is it.ensures.read) c.as_found-in-Err-Refused.ensures.err
+
+pub returns-clause-refused : goal.returns-clause-refused
+returns-clause-refused g c = λ right.
+    let bytes = g.F.FileBytes.bytes in
+    let a = c.args.asked in
+    let it = c.in-Err-CommitOverwritten in
+    let read = subst (λ (e : PastError). IsPastRead {A = Used g.row.F.Denot} (Err e)) (sym it.field-0-is) tt in
+    unless_other _ _ CommitOverwritten (λ failed. cc)
+    (subst (λ (e : PastError). AskedRefused a.limits a.at (bytes c.args.db) (bytes c.args.wal) (bytes c.args.journal) e) it.field-0-is (it.ensures.right right read))
