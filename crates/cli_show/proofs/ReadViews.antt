@@ -79,3 +79,16 @@ pub match_unless : {A : Type 0} (r : Result A Refusal) (few all : Type 0) (P : A
     → MatchResult r P (λ e. UnlessFileFailed few e (Q e)) → MatchResult r P (λ e. UnlessFileFailed all e (Q e))
 match_unless (Ok _) few all P Q given is = is
 match_unless (Err e) few all P Q given is = unless_as few all (Q e) (Q e) e given (λ q. q) is
+
+-- of given files it has its cause
+pub given_cause : (gives P : Type 0) (refusal : Refusal) → UnlessFileFailed gives refusal P → gives → P
+given_cause gives P refusal is given = is.1 (λ failed. is.0 failed given)
+
+pub given_causes : {A : Type 0} (r : Result A Refusal) (gives : Type 0) (P : Refusal → Type 0) → IfErr r (λ e. UnlessFileFailed gives e (P e)) → gives → IfErr r P
+given_causes (Ok _) gives P is given = tt
+given_causes (Err e) gives P is given = given_cause gives (P e) e is given
+
+pub given_match : {A : Type 0} (r : Result A Refusal) (gives : Type 0) (P : A → Type 0) (Q : Refusal → Type 0) → MatchResult r P (λ e. UnlessFileFailed gives e (Q e)) → gives
+    → MatchResult r P Q
+given_match (Ok _) gives P Q is given = is
+given_match (Err e) gives P Q is given = given_cause gives (Q e) e is given

@@ -18,8 +18,8 @@ returns-in-Ok-None-clause-refused g c = λ right read.
     none_later (bytes files.wal) (bytes files.db) c.args.scan.now CommitOverwritten
     (λ most front took at. subst (λ (o : Option ℕ). IsNextKnown (bytes files.wal) front (bytes files.db) 0 o) c.in-Ok-None.field-0-is (c.in-Ok-None.ensures.next right most front took at))
 
-pub returns-in-Err-clause-refused : goal.returns-in-Err-clause-refused
-returns-in-Err-clause-refused g c = λ right read most front took at some. source_memory ℕ c.in-Err.error c.in-Err.ensures.refused read
+pub returns-clause-refused : goal.returns-clause-refused
+returns-clause-refused g c = λ right read most front took at some. source_memory ℕ c.in-Err.error c.in-Err.ensures.refused read
 
-pub returns-in-Err-clause-read : goal.returns-in-Err-clause-read
-returns-in-Err-clause-read g c = λ given. past_of (Option ℕ) ℕ c.in-Err.error (c.in-Err.ensures.read given)
+pub returns-clause-read : goal.returns-clause-read
+returns-clause-read g c = λ given. past_of (Option ℕ) ℕ c.in-Err.error (c.in-Err.ensures.read given)
