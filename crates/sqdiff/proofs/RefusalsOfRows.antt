@@ -108,9 +108,9 @@ unless (Old error) was old new then = (λ unread gives. was.0 unread (old gives)
 unless (New error) was old new then = (λ unread gives. was.0 unread (new gives), λ read. then (was.1 read))
 
 pub read_rows : {P : Type 0} (diff : Diff) (error : DiffError) → IsNoRecord diff error → P → UnlessDiff (Unit {0}) (Unit {0}) error P
-read_rows diff (Old (Record error)) no cause = (λ none. absurd none, λ _. cause)
-read_rows diff (New (Record error)) no cause = (λ none. absurd none, λ _. cause)
-read_rows diff (Old (Unread error)) no cause = absurd no
-read_rows diff (New (Unread error)) no cause = absurd no
-read_rows diff (Old Unordered) no cause = absurd no
-read_rows diff (New Unordered) no cause = absurd no
+read_rows diff (Old (Record error)) refused cause = (λ none. absurd none, λ _. cause)
+read_rows diff (New (Record error)) refused cause = (λ none. absurd none, λ _. cause)
+read_rows diff (Old (Unread error)) refused cause = absurd refused
+read_rows diff (New (Unread error)) refused cause = absurd refused
+read_rows diff (Old Unordered) refused cause = absurd refused
+read_rows diff (New Unordered) refused cause = absurd refused

@@ -115,15 +115,15 @@ no_record_of_both d e diff k l (New Unordered) is too refused = absurd refused
 -- ---- Where a page couldn't be read.
 
 pub read_key : {P g : Type 0} (cursor : Rows) (error : SideError) → IsNoKey cursor error → P → Unless (IsUnreadSide error) g P
-read_key cursor (Record error) no cause = (λ none. absurd none, λ _. cause)
-read_key cursor (Unread (Tree e)) no cause = (λ unread. (let both : faults.NoMemory ≡ faults.Source = sym no ∙ unread in cc), λ _. cause)
-read_key cursor (Unread (Payload e)) no cause = absurd no
-read_key cursor Unordered no cause = absurd no
+read_key cursor (Record error) refused cause = (λ none. absurd none, λ _. cause)
+read_key cursor (Unread (Tree e)) refused cause = (λ unread. (let both : faults.NoMemory ≡ faults.Source = sym refused ∙ unread in cc), λ _. cause)
+read_key cursor (Unread (Payload e)) refused cause = absurd refused
+read_key cursor Unordered refused cause = absurd refused
 
 pub read_rows : {P : Type 0} (diff : KeyDiff) (error : DiffError) → IsNoRecord diff error → P → UnlessDiff (Unit {0}) (Unit {0}) error P
-read_rows diff (Old (Record error)) no cause = (λ none. absurd none, λ _. cause)
-read_rows diff (New (Record error)) no cause = (λ none. absurd none, λ _. cause)
-read_rows diff (Old (Unread error)) no cause = absurd no
-read_rows diff (New (Unread error)) no cause = absurd no
-read_rows diff (Old Unordered) no cause = absurd no
-read_rows diff (New Unordered) no cause = absurd no
+read_rows diff (Old (Record error)) refused cause = (λ none. absurd none, λ _. cause)
+read_rows diff (New (Record error)) refused cause = (λ none. absurd none, λ _. cause)
+read_rows diff (Old (Unread error)) refused cause = absurd refused
+read_rows diff (New (Unread error)) refused cause = absurd refused
+read_rows diff (Old Unordered) refused cause = absurd refused
+read_rows diff (New Unordered) refused cause = absurd refused

@@ -22,7 +22,7 @@ pub returns-in-Err-row-clause-err : goal.returns-in-Err-row-clause-err
 returns-in-Err-row-clause-err g c = λ right stands.
     let d = g.S.PageSource.pages c.args.source.now in
     let moves = subst (λ (found : Bool). (rows : List Row) → RowsLeft d c.args.self.now.rows rows ↔ RowsMove d found rows c.advance.new.self) c.in-Ok-true.field-0-test (c.in-Ok-true.ensures.ok right stands.over) in
-    (λ none. none, λ _. no_record d c.args.self.now c.in-Between.is c.advance.new.self moves c.in-Err-row.error c.in-Err-row.ensures.err)
+    ((λ none. absurd none), λ _. no_record d c.args.self.now c.in-Between.is c.advance.new.self moves c.in-Err-row.error c.in-Err-row.ensures.err)
 
 pub returns-in-Some-clause-ok : goal.returns-in-Some-clause-ok
 returns-in-Some-clause-ok g c = λ right stands.
@@ -42,4 +42,4 @@ returns-in-None-clause-err g c = λ right stands.
     let d = g.S.PageSource.pages c.args.source.now in
     let side = c.args.self.now in
     let moves = subst (λ (found : Bool). (rows : List Row) → RowsLeft d side.rows rows ↔ RowsMove d found rows c.advance.new.self) c.in-Ok-true.field-0-test (c.in-Ok-true.ensures.ok right stands.over) in
-    (λ none. none, λ _. unordered d side c.in-Between.is c.advance.new.self moves c.in-Ok.row.rowid (λ r at. sym (ap (λ (z : Row). z.rowid) ((c.in-Ok.ensures.ok r).0 at))) c.in-None.ensures)
+    ((λ none. absurd none), λ _. unordered d side c.in-Between.is c.advance.new.self moves c.in-Ok.row.rowid (λ r at. sym (ap (λ (z : Row). z.rowid) ((c.in-Ok.ensures.ok r).0 at))) c.in-None.ensures)

@@ -35,4 +35,4 @@ returns-in-None-clause-err g c = λ right stands.
     let d = g.S.PageSource.pages c.args.source.now in
     let side = c.args.self.now in
     let moves = subst (λ (found : Bool). (rows : List Row) → RowsLeft d side.rows rows ↔ RowsMove d found rows c.advance.new.self) c.in-Ok-true.field-0-test (c.in-Ok-true.ensures.ok right stands.over) in
-    (λ none. none, λ _. unordered d c.args.key side c.in-Between.is c.advance.new.self moves c.in-Ok.found c.in-Ok.ensures.ok c.in-None.ensures)
+    ((λ none. absurd none), λ _. unordered d c.args.key side c.in-Between.is c.advance.new.self moves c.in-Ok.found c.in-Ok.ensures.ok c.in-None.ensures)
