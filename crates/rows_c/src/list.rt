@@ -27,16 +27,16 @@ fn step<S: PageSource>(
     source: &mut S,
     cells: &mut Cells,
     runs: &mut Vec<Run>,
-    open: &mut Run,
+    last: &mut Run,
 ) -> Result<bool, CheckError>
-    requires sized { (S.size source.old ≡ cells.old.size) × (open.old.first + open.old.count ≤ 65536) }
+    requires sized { (S.size source.old ≡ cells.old.size) × (last.old.first + last.old.count ≤ 65536) }
     ensures ok { S.gives_pages source.old → IsOver (S.pages source.old) cells.old → IfOk result (λ found.
-        Steps (S.pages source.old) found cells.old cells.new (cells_so_far runs.old.items (cells_in open.old))
-        (cells_so_far runs.new.items (cells_in open.new))) }
+        Steps (S.pages source.old) found cells.old cells.new (cells_so_far runs.old.items (cells_in last.old))
+        (cells_so_far runs.new.items (cells_in last.new))) }
     ensures err { S.gives_pages source.old → IsOver (S.pages source.old) cells.old
         → IfErr result (StepRefused (S.pages source.old) cells.old) }
     ensures sized { (cells.new.size ≡ cells.old.size) × (cells.new.usable ≡ cells.old.usable)
-        × (open.new.first + open.new.count ≤ 65536) }
+        × (last.new.first + last.new.count ≤ 65536) }
     ensures keeps { KeepsPages S.pages S.size S.reads_right S.gives_pages source.old source.new }
 {
     match cells.advance(source) {
@@ -48,7 +48,7 @@ fn step<S: PageSource>(
         Ok(cell) => cell.page,
         Err(refusal) => return Err(refusal),
     };
-    match take(runs, open, page, cells.index() as u32) {
+    match take(runs, last, page, cells.index() as u32) {
         Ok(()) => Ok(true),
         Err(_) => Err(no_memory(page)),
     }
@@ -59,18 +59,18 @@ fn walk<S: PageSource>(
     source: &mut S,
     cells: &mut Cells,
     runs: &mut Vec<Run>,
-    open: &mut Run,
+    last: &mut Run,
 ) -> Result<u64, CheckError>
-    requires sized { (S.size source.old ≡ cells.old.size) × (open.old.first + open.old.count ≤ 65536) }
+    requires sized { (S.size source.old ≡ cells.old.size) × (last.old.first + last.old.count ≤ 65536) }
     ensures ok { S.gives_pages source.old → (root : ℕ) → Begins (S.pages source.old) root cells.old
-        → IfOk result (IsWalked (S.pages source.old) root (cells_so_far runs.old.items (cells_in open.old))
-        (cells_so_far runs.new.items (cells_in open.new))) }
+        → IfOk result (IsWalked (S.pages source.old) root (cells_so_far runs.old.items (cells_in last.old))
+        (cells_so_far runs.new.items (cells_in last.new))) }
     ensures err { S.gives_pages source.old → (root : ℕ) → Begins (S.pages source.old) root cells.old
         → IfErr result (TreeRefused (S.pages source.old) root) }
     ensures keeps { KeepsPages S.pages S.size S.reads_right S.gives_pages source.old source.new }
 {
     'turns: for i in 0..u64::MAX {
-        if !step(source, cells, runs, open)? {
+        if !step(source, cells, runs, last)? {
             return Ok(i);
         }
     }
@@ -96,9 +96,9 @@ pub fn list_rows<S: PageSource>(
         Ok(cells) => cells,
         Err(refusal) => return Err(refusal),
     };
-    let mut open = no_run();
-    let found = walk(source, &mut cells, runs, &mut open);
-    match close(runs, open) {
+    let mut last = no_run();
+    let found = walk(source, &mut cells, runs, &mut last);
+    match close(runs, last) {
         Ok(()) => found,
         Err(_) => Err(no_memory(root)),
     }

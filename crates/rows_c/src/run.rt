@@ -30,36 +30,36 @@ pub(crate) fn no_run() -> Run
 }
 
 /// Adds the cells of a run, where it has some.
-pub(crate) fn close(runs: &mut Vec<Run>, open: Run) -> Result<(), AllocError>
+pub(crate) fn close(runs: &mut Vec<Run>, last: Run) -> Result<(), AllocError>
     ensures { IfOk result (λ _.
-        cells_so_far runs.new.items [] ≡ cells_so_far runs.old.items (cells_in open)) }
+        cells_so_far runs.new.items [] ≡ cells_so_far runs.old.items (cells_in last)) }
 {
-    if open.count == 0 {
+    if last.count == 0 {
         return Ok(());
     }
-    runs.push(open)?;
+    runs.push(last)?;
     Ok(())
 }
 
 /// Adds a cell behind those of the runs and of the one that may go on.
 pub(crate) fn take(
     runs: &mut Vec<Run>,
-    open: &mut Run,
+    last: &mut Run,
     page: u32,
     index: u32,
 ) -> Result<(), AllocError>
-    requires low { open.old.first + open.old.count ≤ 65536 }
+    requires low { last.old.first + last.old.count ≤ 65536 }
     requires index { index < 65536 }
-    ensures ok { IfOk result (λ _. cells_so_far runs.new.items (cells_in open.new)
-        ≡ cells_so_far runs.old.items (cells_in open.old) ++ (page, index) ∷ []) }
-    ensures low { open.new.first + open.new.count ≤ 65536 }
+    ensures ok { IfOk result (λ _. cells_so_far runs.new.items (cells_in last.new)
+        ≡ cells_so_far runs.old.items (cells_in last.old) ++ (page, index) ∷ []) }
+    ensures low { last.new.first + last.new.count ≤ 65536 }
 {
-    if open.page == page && open.first + open.count == index {
-        open.count += 1;
+    if last.page == page && last.first + last.count == index {
+        last.count += 1;
         return Ok(());
     }
-    close(runs, *open)?;
-    *open = Run {
+    close(runs, *last)?;
+    *last = Run {
         page,
         first: index,
         count: 1,
