@@ -14,6 +14,7 @@ mod place;
 mod plan;
 mod refusals;
 mod roles;
+mod rows;
 mod status;
 mod supers;
 mod view;
