@@ -1,5 +1,6 @@
 -- What is known of a text, by what is read of it.
 use Rattle.std.proofs.Common.{◌≡◌, ◌⊎◌, ◌<◌, ◌∙◌, inl, inr, ⊎_elim, ℕ, Bool, true, false, List, length, Option, Some, None, sym, refl, ap}
+use Rattle.std.specs.Prelude.{Result, Ok, Err, IfOk, IfSome, MatchOption}
 use Rattle.sqlite_ast.specs.declared.CreateTable.{CreateTable}
 use Rattle.sqlite_ast.specs.declared.CreateIndex.{CreateIndex}
 use Rattle.schema_ast.specs.Tables.{MakesTable}
@@ -8,7 +9,7 @@ use Rattle.schema_ast.specs.declared.tables.MadeTable.{MadeTable}
 use Rattle.schema_ast.specs.declared.indexes.MadeIndex.{MadeIndex}
 use Rattle.sqkeys.specs.Keys.{most_text, MakesSorted, ReadsAs}
 use Rattle.sqkeys.specs.Entries.{ReadsAsNone}
-use Rattle.sqkeys.specs.RowRules.{MakesRows, HasNoRows}
+use Rattle.sqkeys.specs.RowRules.{HasNoRows}
 use Rattle.sqkeys.specs.internal.Reading.{IsOnlyTable, HasNoTable, IsOnlyIndex, HasNoIndex}
 
 pub only_table : (text : List ℕ) (r : Option MadeTable) (made : MadeTable) → r ≡ Some made → MakesTable text made → made.bound ≡ false
@@ -25,26 +26,29 @@ no_table text r is only =
 
 pub bound_table : (text : List ℕ) (r : Option MadeTable) (made : MadeTable) → r ≡ Some made
     → ((other : MadeTable) → MakesTable text other → r ≡ Some other) → made.bound ≡ true → HasNoTable text
-bound_table text r made is only bound = inr (
-  λ other u.
-      let e : ◌≡◌ {A = Option MadeTable} (Some made) (Some other) = sym is ∙ only other u in
-      let same : made ≡ other = cc in
-      ap (λ (t : MadeTable). t.bound) (sym same) ∙ bound,
-)
+bound_table text r made is only bound =
+    inr (λ other u. (let e : ◌≡◌ {A = Option MadeTable} (Some made) (Some other) = sym is ∙ only other u in let same : made ≡ other = cc in ap (λ (t : MadeTable). t.bound) (sym same) ∙ bound))
 
-pub only_index : (text : List ℕ) (r : Option MadeIndex) (made : MadeIndex) → r ≡ Some made → MakesIndex text made
+only_index : (text : List ℕ) (r : Option MadeIndex) (made : MadeIndex) → r ≡ Some made → MakesIndex text made
     → ((other : MadeIndex) → MakesIndex text other → r ≡ Some other) → IsOnlyIndex text made
 only_index text r made is makes only = record {
   makes = makes;
   only = λ other u. let e : ◌≡◌ {A = Option MadeIndex} (Some made) (Some other) = sym is ∙ only other u in let same : made ≡ other = cc in same;
 }
 
-pub no_index : (text : List ℕ) (r : Option MadeIndex) → r ≡ None → ((other : MadeIndex) → MakesIndex text other → r ≡ Some other) → HasNoIndex text
+no_index : (text : List ℕ) (r : Option MadeIndex) → r ≡ None → ((other : MadeIndex) → MakesIndex text other → r ≡ Some other) → HasNoIndex text
 no_index text r is only =
     inr (λ other u. let e : ◌≡◌ {A = Option MadeIndex} None (Some other) = sym is ∙ only other u in let held : ⊥ = cc in held)
 
-apart : (a b : Bool) → a ≡ true → b ≡ false → a ≡ b → ⊥
-apart a b yes not same = cc
+-- what is read of an index
+pub index_read : {E : Type 0} (text : List ℕ) (r : Result (Option MadeIndex) E) → IfOk r (λ found. IfSome found (λ i. MakesIndex text i))
+    → IfOk r (λ found. (other : MadeIndex) → MakesIndex text other → found ≡ Some other) → IfOk r (λ found. MatchOption found (HasNoIndex text) (IsOnlyIndex text))
+index_read text (Err e) found only = tt
+index_read text (Ok None) found only = no_index text None refl only
+index_read text (Ok (Some made)) found only = only_index text (Some made) made refl found only
+
+pub apart : (a b : Bool) → a ≡ true → b ≡ false → a ≡ b → ⊥
+apart a b one two same = cc
 
 -- a table of the other kind, or with other collations
 pub other_rows : (text : List ℕ) (made : MadeTable) → IsOnlyTable text made → made.without_rowid ≡ true → HasNoRows text
@@ -61,12 +65,6 @@ pub not_clear : (text : List ℕ) (without : Bool) (made : MadeTable) → IsOnly
 not_clear text without made only unclear =
     inr (λ def m. apart m.made.clear made.clear m.clear unclear (ap (λ (t : MadeTable). t.clear) (sym (only.only m.made m.makes))))
 
-pub sorted : (text : List ℕ) (without : Bool) (made : MadeTable) → IsOnlyTable text made → made.without_rowid ≡ without → made.clear ≡ true → MakesSorted text without made.def
-sorted text without made only is clear = record { made = made; makes = only.makes; is = is; clear = clear; free = only.free; same = refl }
-
-pub rows : (text : List ℕ) (made : MadeTable) → IsOnlyTable text made → made.without_rowid ≡ false → MakesRows text made.def
-rows text made only is = record { made = made; makes = only.makes; rowids = is; free = only.free; same = refl }
-
 pub none_sorted : (text : List ℕ) (without : Bool) → HasNoTable text → (most_text < length text) ⊎ ((def : CreateTable) → ¬ MakesSorted text without def)
 none_sorted text without none =
     ⊎_elim (λ long. inl long) (λ never. inr (λ def m. apart m.made.bound m.made.bound (never m.made m.makes) m.free refl)) none
@@ -74,9 +72,6 @@ none_sorted text without none =
 pub none_rows : (text : List ℕ) → HasNoTable text → HasNoRows text
 none_rows text none =
     ⊎_elim (λ long. inl long) (λ never. inr (λ def m. apart m.made.bound m.made.bound (never m.made m.makes) m.free refl)) none
-
-pub reads : (text : List ℕ) (made : MadeIndex) → IsOnlyIndex text made → ReadsAs text made.partial made.def
-reads text made only = record { made = made; makes = only.makes; is = refl; same = refl }
 
 pub other_end : (text : List ℕ) (partial : Bool) (made : MadeIndex) → IsOnlyIndex text made → (made.partial ≡ partial → ⊥)
     → (most_text < length text) ⊎ ((def : CreateIndex) → ¬ ReadsAs text partial def)
@@ -88,5 +83,3 @@ none_read text partial none = ⊎_elim (λ long. inl long) (λ never. inr (λ de
 
 pub reads_none : (text : List ℕ) → HasNoIndex text → ReadsAsNone text
 reads_none text none = ⊎_elim (λ long. inl long) (λ never. inr (λ partial def m. never m.made m.makes)) none
-
-pub ruleset of_texts = (only_table, no_table, bound_table, only_index, no_index, other_rows, other_kind, not_clear, sorted, rows, none_sorted, none_rows, reads, other_end, none_read, reads_none)

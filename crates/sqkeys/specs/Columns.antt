@@ -1,5 +1,5 @@
 -- The columns of a key, as the texts of a table and an index say (SQLite's lang_createtable and lang_altertable).
-use Rattle.std.specs.Prelude.{◌≡◌, ◌⊎◌, ℕ, ◌-◌, Bool, if◌then◌else◌, List, [], ◌∷◌, length, drop, slice_get, position, Option, Some, None, option_map, unwrap_or, codes, is_nan, from_bits}
+use Rattle.std.specs.Prelude.{◌≡◌, ◌⊎◌, ℕ, if◌then◌else◌, List, slice_get, position, Option, Some, None, option_map, unwrap_or, is_nan, from_bits}
 use Rattle.std.specs.Str.{str_eq_ignore_ascii_case}
 use Rattle.std.specs.Float.{Float, binary64}
 use Rattle.std.specs.Int.{w64, from_be_bytes}

@@ -1,6 +1,6 @@
 -- The columns of an index's entries where a key behind a rowid doesn't say them: of an index of a table WITHOUT ROWID, and of a
 -- partial one (SQLite's withoutrowid and partialindex; fileformat2, 2.5).
-use Rattle.std.specs.Prelude.{◌≡◌, ◌⊎◌, ◌<◌, ◌≤◌, ◌^◌, ℕ, Bool, true, false, List, [], ◌∷◌, ◌++◌, map, length, position, Option, Some, None}
+use Rattle.std.specs.Prelude.{◌≡◌, ◌⊎◌, ◌<◌, ◌≤◌, ◌^◌, ℕ, Bool, true, false, List, [], ◌∷◌, ◌++◌, map, length, position, Some, None}
 use Rattle.std.specs.List.{AllZip, Contains}
 use Rattle.std.specs.Str.{str_eq_ignore_ascii_case}
 use Rattle.sqlite_ast.specs.declared.CreateIndex.{CreateIndex}

@@ -141,7 +141,7 @@ pub(crate) fn index_numbered(
 
 /// The key of the index that a constraint of a table made, which has no text: that of this number, from 1, behind the
 /// last `_` of its name. From the table's text, in UTF-8, and the number of the schema's format in the header. None
-/// where the text isn't understood, or has no such constraint. It takes memory for some five times the text's bytes.
+/// where the text isn't understood, or has no such constraint. It takes memory for some hundred times the text's bytes.
 pub fn automatic_key_of(
     alloc: Global,
     table: &[u8],

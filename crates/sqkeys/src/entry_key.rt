@@ -186,7 +186,7 @@ fn keyed_between(
 
 /// The columns of the entries of an index of a table WITHOUT ROWID, from the texts of both, in UTF-8, and the number of
 /// the schema's format in the header (fileformat2, 1.3.8). None where these aren't understood. It takes memory for some
-/// six times their bytes.
+/// hundred times their bytes.
 pub fn keyed_entry_of(
     alloc: Global,
     table: &[u8],
@@ -224,7 +224,7 @@ fn all_rising(alloc: Global, key: &[Keyed]) -> Result<Vec<Keyed>, AllocError>
 /// The columns of the entries of the index that a constraint of a table WITHOUT ROWID made, which has no text: that of
 /// this number, from 1, behind the last `_` of its name. From the table's text, in UTF-8, and the number of the
 /// schema's format in the header. None where the text isn't understood, or has no such constraint. It takes memory for
-/// some six times the text's bytes.
+/// some hundred times the text's bytes.
 pub fn keyed_automatic_of(
     alloc: Global,
     table: &[u8],
@@ -292,7 +292,7 @@ fn partial_over(
 
 /// The columns of the entries of a partial index of a table with rowids, from the texts of both, in UTF-8, and the
 /// number of the schema's format in the header (fileformat2, 1.3.8). None where these aren't understood. It takes
-/// memory for some five times their bytes.
+/// memory for some hundred times their bytes.
 pub fn partial_of(
     alloc: Global,
     table: &[u8],

@@ -91,7 +91,7 @@ fn key_between(
 }
 
 /// The key of an index, from the texts of its table and its own, in UTF-8, and the number of the schema's format in the
-/// header (fileformat2, 1.3.8). None where these aren't understood. It takes memory for some five times their bytes.
+/// header (fileformat2, 1.3.8). None where these aren't understood. It takes memory for some hundred times their bytes.
 pub fn key_of(
     alloc: Global,
     table: &[u8],

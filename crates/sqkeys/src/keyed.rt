@@ -243,7 +243,7 @@ fn row_key_in(alloc: Global, made: &CreateTable, format: u32) -> Result<Option<R
 
 /// How a table WITHOUT ROWID stores its rows, from its text, in UTF-8, and the number of the schema's format in the
 /// header (fileformat2, 1.3.8). None where the text isn't understood, or makes a table with rowids. It takes memory
-/// for some six times the text's bytes.
+/// for some hundred times the text's bytes.
 pub fn row_key_of(
     alloc: Global,
     table: &[u8],

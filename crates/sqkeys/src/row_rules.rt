@@ -112,8 +112,8 @@ fn rules_in(alloc: Global, made: &CreateTable) -> Result<Option<Vec<ColumnRule>>
 }
 
 /// What each column of a table keeps to in its rows, in the order in which they store them. From the table's text, in
-/// UTF-8. None where it isn't understood, or is that of a table WITHOUT ROWID. It takes memory for some five times the
-/// text's bytes.
+/// UTF-8. None where it isn't understood, or is that of a table WITHOUT ROWID. It takes memory for some hundred times
+/// the text's bytes.
 pub fn rules_of(alloc: Global, table: &[u8]) -> Result<Option<Vec<ColumnRule>>, AllocError>
     // They are those of the table; or it is said why none are known.
     ensures { IfOk result (λ found. MatchOption found (HasNoRules table.now)

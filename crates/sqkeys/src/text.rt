@@ -14,27 +14,19 @@ use std::alloc::{AllocError, Global};
 const MOST_TEXT: usize = 1_048_576;
 
 /// The table that a text makes, if no VIRTUAL column keeps to a rule.
-#[tactic(auto, using(crate::proofs::TextsRead::of_texts))]
 fn table_in(alloc: Global, text: &[u8]) -> Result<Option<MadeTable>, AllocError>
     ensures { IfOk result (λ found. MatchOption found (HasNoTable text.now) (IsOnlyTable text.now)) }
 {
     if text.len() > MOST_TEXT {
         return Ok(None);
     }
-    match made_table(alloc, text)? {
-        Some(made) => {
-            if made.bound {
-                Ok(None)
-            } else {
-                Ok(Some(made))
-            }
-        }
-        None => Ok(None),
-    }
+    let Some(made) = made_table(alloc, text)? else {
+        return Ok(None);
+    };
+    if made.bound { Ok(None) } else { Ok(Some(made)) }
 }
 
 /// The table with rowids that a text makes.
-#[tactic(auto, using(crate::proofs::TextsRead::of_texts))]
 pub(crate) fn rows_table(alloc: Global, text: &[u8]) -> Result<Option<CreateTable>, AllocError>
     ensures { IfOk result (λ found. MatchOption found (HasNoRows text.now) (MakesRows text.now)) }
 {
@@ -51,7 +43,6 @@ pub(crate) fn rows_table(alloc: Global, text: &[u8]) -> Result<Option<CreateTabl
 }
 
 /// The same, if SQLite has the collations of its columns and keys by itself.
-#[tactic(auto, using(crate::proofs::TextsRead::of_texts))]
 pub(crate) fn rowid_table(alloc: Global, text: &[u8]) -> Result<Option<CreateTable>, AllocError>
     ensures { IfOk result (λ found. MatchOption found (IsNoTable text.now) (MakesRowids text.now)) }
 {
@@ -70,7 +61,6 @@ pub(crate) fn rowid_table(alloc: Global, text: &[u8]) -> Result<Option<CreateTab
 }
 
 /// The table WITHOUT ROWID that a text makes, with such collations.
-#[tactic(auto, using(crate::proofs::TextsRead::of_texts))]
 pub(crate) fn keyed_table(alloc: Global, text: &[u8]) -> Result<Option<CreateTable>, AllocError>
     ensures { IfOk result (λ found. MatchOption found (IsNoKeyed text.now) (MakesKeyed text.now)) }
 {
@@ -89,21 +79,16 @@ pub(crate) fn keyed_table(alloc: Global, text: &[u8]) -> Result<Option<CreateTab
 }
 
 /// The index over columns that a text makes.
-#[tactic(auto, using(crate::proofs::TextsRead::of_texts))]
 fn index_in(alloc: Global, text: &[u8]) -> Result<Option<MadeIndex>, AllocError>
     ensures { IfOk result (λ found. MatchOption found (HasNoIndex text.now) (IsOnlyIndex text.now)) }
 {
     if text.len() > MOST_TEXT {
         return Ok(None);
     }
-    match made_index(alloc, text)? {
-        Some(made) => Ok(Some(made)),
-        None => Ok(None),
-    }
+    made_index(alloc, text)
 }
 
 /// The index without WHERE that a text makes.
-#[tactic(auto, using(crate::proofs::TextsRead::of_texts))]
 pub(crate) fn index_text(alloc: Global, text: &[u8]) -> Result<Option<CreateIndex>, AllocError>
     ensures { IfOk result (λ found. MatchOption found (IsNoIndex text.now) (ReadsAs text.now false)) }
 {
@@ -120,7 +105,6 @@ pub(crate) fn index_text(alloc: Global, text: &[u8]) -> Result<Option<CreateInde
 }
 
 /// The index with WHERE that a text makes.
-#[tactic(auto, using(crate::proofs::TextsRead::of_texts))]
 pub(crate) fn partial_text(alloc: Global, text: &[u8]) -> Result<Option<CreateIndex>, AllocError>
     ensures { IfOk result (λ found. MatchOption found (IsNotPartial text.now) (ReadsAs text.now true)) }
 {
@@ -137,7 +121,6 @@ pub(crate) fn partial_text(alloc: Global, text: &[u8]) -> Result<Option<CreateIn
 }
 
 /// The index that a text makes, and whether it has WHERE.
-#[tactic(auto, using(crate::proofs::TextsRead::of_texts))]
 pub(crate) fn either_text(
     alloc: Global,
     text: &[u8],

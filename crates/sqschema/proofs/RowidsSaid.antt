@@ -24,5 +24,3 @@ one_made sql r made few is makes only = (
       let same : made ≡ other = cc in
       ap (λ (t : MadeTable). not t.without_rowid) same,
 )
-
-pub ruleset of_rowids = (too_long, not_made, one_made)

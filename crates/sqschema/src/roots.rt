@@ -21,7 +21,7 @@ use std::alloc::{AllocError, Global};
 const MOST_TEXT: usize = 1_048_576;
 
 /// Whether a text is understood as that of a table with rowids, or of one without.
-#[tactic(auto, using(crate::proofs::RowidsSaid::of_rowids))]
+#[tactic(auto, using(crate::proofs::RowidsSaid::too_long))]
 fn has_rowids(alloc: Global, sql: &Option<Vec<u8>>) -> Result<Option<bool>, AllocError>
     ensures { IfOk result (SaysRowids (option_map (λ t. t.items) sql.now)) }
 {

@@ -44,5 +44,3 @@ pub rows_made : (text : List ℕ) (made : MadeTable) (columns : Columns) (alias 
     → HasColumns made.def alias [] columns → AreColumns text columns
 rows_made text made columns alias makes plain rowids names has =
     inl (record { made = made; makes = makes; plain = plain; rowids = rowids; alias = alias; names = names; has = has })
-
-pub ruleset of_text = (none_made, computed_made, keyed_made, rows_made)

@@ -73,7 +73,7 @@ fn key_columns(alloc: Global, def: &CreateTable) -> Result<Columns, AllocError>
 /// The columns of the table that the text of the schema makes, in the order of the text, but for VIRTUAL ones, which
 /// rows don't store. No column is named if the text isn't understood, if one is STORED (an INSERT can't give its
 /// value), or if the table is WITHOUT ROWID and its key has a column twice.
-#[tactic(auto, using(crate::proofs::ColumnsNamed::of_text))]
+#[tactic(auto, using(crate::proofs::ColumnsNamed::rows_made))]
 pub fn columns_of(alloc: Global, text: &[u8]) -> Result<Columns, AllocError>
     ensures ok { IfOk result (AreColumns text.now) }
 {

@@ -2,7 +2,6 @@ use Rattle.std.proofs.Common.{◌≡◌, ◌∙◌, ◌%◌, ◌^◌, Bool, ℕ,
 use Rattle.std.proofs.lemmas.Bool.{lt-ltb, le-ltb}
 use Rattle.std.proofs.lemmas.Float.{T_from_false}
 use Rattle.std.specs.Float.{binary64}
-use Rattle.sqlite_value.specs.declared.value.Value.{Value}
 use Rattle.sqlite_value.specs.declared.value.Value.TheVariants.{Null, Real}
 use lib.Ieee.Bits.{nan_bits_is, nan_bits_above}
 use Rattle.sqkeys.proofs.default.real_of.Goals as goal
