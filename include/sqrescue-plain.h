@@ -34,7 +34,8 @@ enum sqr_status {
     SQR_DISK_FULL = 28,
     SQR_SHARED_PROCESS = 29,
     SQR_COMMIT_OVERWRITTEN = 30,
-    SQR_NOT_JUDGED = 31
+    SQR_NOT_JUDGED = 31,
+    SQR_NO_SUCH_CELL = 32
 };
 const char *sqr_status_name(uint32_t status);
 enum sqr_fault {
@@ -187,6 +188,76 @@ struct sqr_survey {
 };
 uint32_t sqr_page_roles(const struct sqr_files *files, uint32_t flags, uint32_t frame, struct sqr_role *roles,
                         size_t room, struct sqr_survey *out);
+struct sqr_table {
+    uint64_t name, name_len;
+    uint64_t sql, sql_len;
+    uint32_t root;
+};
+struct sqr_tables {
+    uint64_t tables, texts;
+    uint32_t encoding;
+    uint32_t fault, page;
+};
+uint32_t sqr_tables(const struct sqr_view *view, struct sqr_table *tables, size_t tables_room, uint8_t *texts,
+                    size_t texts_room, struct sqr_tables *out);
+enum sqr_value_kind {
+    SQR_NULL = 0,
+    SQR_INTEGER = 1,
+    SQR_REAL = 2,
+    SQR_TEXT = 3,
+    SQR_BLOB = 4
+};
+enum sqr_value_from {
+    SQR_STORED = 0,
+    SQR_ROWID = 1,
+    SQR_DEFAULT = 2,
+    SQR_NOT_KNOWN = 3
+};
+struct sqr_value {
+    uint64_t number, len;
+    uint32_t kind, from;
+};
+enum sqr_column_kind {
+    SQR_PLAIN = 0,
+    SQR_ROWID_ALIAS = 1
+};
+struct sqr_column {
+    uint64_t name, name_len;
+    struct sqr_value missing;
+    uint64_t place;
+    uint32_t affinity, kind;
+};
+struct sqr_columns {
+    uint64_t columns, texts;
+};
+uint32_t sqr_columns(const uint8_t *sql, size_t len, uint32_t encoding, struct sqr_column *columns,
+                     size_t columns_room, uint8_t *texts, size_t texts_room, struct sqr_columns *out);
+struct sqr_run {
+    uint32_t page, first, count;
+};
+struct sqr_rows {
+    uint64_t rows, runs;
+    uint32_t fault, page;
+};
+uint32_t sqr_rows(const struct sqr_view *view, uint32_t root, struct sqr_run *runs, size_t room, struct sqr_rows *out);
+struct sqr_reader {
+    struct sqr_view view;
+    const struct sqr_column *columns;
+    size_t columns_len;
+    const uint8_t *texts;
+    size_t texts_len;
+};
+struct sqr_cell {
+    uint32_t page, cell;
+};
+struct sqr_row {
+    int64_t rowid;
+    uint64_t values, bytes;
+    uint32_t has_rowid;
+    uint32_t fault, page;
+};
+uint32_t sqr_row(const struct sqr_reader *reader, const struct sqr_cell *cell, struct sqr_value *values,
+                 size_t values_room, uint8_t *bytes, size_t bytes_room, struct sqr_row *out);
 enum sqr_recovery {
     SQR_RECOVERY_NONE = 0,
     SQR_RECOVERY_FOLD = 1,

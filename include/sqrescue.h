@@ -51,6 +51,10 @@
      how much isn't judged.
    - sqr_page_roles: `roles`, the array has the role of each page, and the fault is the one that a check finds;
      `crowded`, SQR_NO_ROOM only for want of room, and how much is needed; `refused`, `known`, `roles_kept`, `out_kept`.
+   - sqr_tables, sqr_columns: `tables` and `columns`, these are the tables and the columns of the schema's texts;
+     sqr_rows: `rows`, the runs are all cells of the tree, which is sound, each once and in its order; sqr_row: `row`,
+     this is the row in that cell, shown by those columns. Each has `damaged` or `refused`, each refusal has its reason;
+     `crowded`, SQR_NO_ROOM only for want of room, and how much is needed; `kept`.
    - sqr_plan: `planned`, which recovery it is, and over which view; `refused`, `recovery`, `room`, `kept`.
    - sqr_plan_next: `next` and `kind`, the step is the first of those that are left, and the plan has the others left;
      `end`, none is left; `kept`, `same`. For all steps in their order (crates/sqplan): `database`, they leave a file
@@ -78,6 +82,7 @@
 #define SQRESCUE_H
 #include <stddef.h>
 #include <stdint.h>
+#include <string.h>
 #ifdef __cplusplus
 extern "C" {
 #endif
@@ -134,7 +139,8 @@ enum sqr_status
                                that has FILE open' */
     SQR_COMMIT_OVERWRITTEN = 30, /* sqr_open_at, sqr_check_at, SQR_AT: a later checkpoint may have changed the database
                                at the commit; see sqr_open_at */
-    SQR_NOT_JUDGED = 31     /* sqr_check_deep with SQR_COMPLETE: the database is sound, but not all of it was judged */
+    SQR_NOT_JUDGED = 31,    /* sqr_check_deep with SQR_COMPLETE: the database is sound, but not all of it was judged */
+    SQR_NO_SUCH_CELL = 32   /* sqr_row: the page has no such cell, or its cells hold no rows */
 };
 
 /* The name that it had up to version 0.1.0; don't use it any more. */
@@ -445,6 +451,162 @@ struct sqr_survey {
    SQR_NO_MEMORY in place of any except the first. Memory: as for sqr_check, and 12 bytes for each page. */
 uint32_t sqr_page_roles(const struct sqr_files *files, uint32_t flags, uint32_t frame, struct sqr_role *roles,
                         size_t room, struct sqr_survey *out);
+
+/* The tables of a view and their rows, in four calls without state: sqr_tables lists the tables, sqr_columns reads the
+   CREATE text of one, sqr_rows finds where its rows are, and sqr_row reads one of them. Any view will do, so also one at
+   a commit. All that is written is the caller's and stays. Nothing points into the view, and nothing has to be closed.
+
+       struct sqr_rows rows;
+       status = sqr_rows(&view, table.root, runs, room, &rows);
+       for (uint64_t i = 0; i < rows.runs; i++)
+           for (uint32_t j = 0; j < runs[i].count; j++) {
+               struct sqr_cell cell = {runs[i].page, runs[i].first + j};
+               status = sqr_row(&reader, &cell, values, 100, bytes, sizeof bytes, &row);
+           }
+
+   A fault in one row doesn't hide the next: go on with the next cell. Several threads may share out the runs. */
+
+/* A table: its name and its CREATE text in UTF-8, by where they begin in `texts` and how many bytes they have; nothing
+   ends them. */
+struct sqr_table {
+    uint64_t name, name_len;
+    uint64_t sql, sql_len;
+    uint32_t root; /* the root of its tree; 0 for a virtual table, which has no rows of its own */
+};
+
+/* How many tables there are, and how many bytes their texts have. `encoding` is that of the database's texts: 1 UTF-8, 2
+   UTF-16 with the lower byte first, 3 with the higher byte first. With SQR_DAMAGED only the fault and its page are set;
+   with another status both are 0. */
+struct sqr_tables {
+    uint64_t tables, texts;
+    uint32_t encoding;
+    uint32_t fault, page;
+};
+
+/* The tables of a view: the schema's rows of type `table`, in its order, and last sqlite_schema itself, whose root is 1.
+   Other rows of the schema are not listed; sqr_rows of root 1 finds them all. SQR_DAMAGED if the schema can't be read:
+   its tree isn't sound, a row isn't a record (page 0; sqr_row finds which), or the header names no encoding. SQR_NO_ROOM
+   if an array is too short: then `out` has how much is needed, and the arrays are unchanged. Refused by
+   SQR_NOT_A_DATABASE if the view has no page or its page size is none, by SQR_TOO_LARGE for a row above 2^30 bytes, and
+   by SQR_NO_MEMORY in place of any. Memory while it runs: the schema, twice. */
+uint32_t sqr_tables(const struct sqr_view *view, struct sqr_table *tables, size_t tables_room, uint8_t *texts,
+                    size_t texts_room, struct sqr_tables *out);
+
+enum sqr_value_kind {
+    SQR_NULL = 0,
+    SQR_INTEGER = 1,
+    SQR_REAL = 2,
+    SQR_TEXT = 3, /* in the database's encoding, whether it is valid in it or not */
+    SQR_BLOB = 4
+};
+
+/* Where a value comes from. */
+enum sqr_value_from {
+    SQR_STORED = 0,   /* the row's record has it */
+    SQR_ROWID = 1,    /* it is the rowid, of a column that is another name for that */
+    SQR_DEFAULT = 2,  /* the record ends before the column, and this is the column's default */
+    SQR_NOT_KNOWN = 3 /* the same, but the default isn't a literal: the kind is SQR_NULL, which is no NULL here */
+};
+
+/* A value. `number` is that of an integer, the bits of a real (see sqr_integer and sqr_real), or where a text or a blob
+   begins in the bytes; `len` is how many bytes these have, otherwise 0. Nothing ends them. */
+struct sqr_value {
+    uint64_t number, len;
+    uint32_t kind, from;
+};
+
+static inline int64_t sqr_integer(const struct sqr_value *value) {
+    int64_t number;
+    memcpy(&number, &value->number, sizeof number);
+    return number;
+}
+
+static inline double sqr_real(const struct sqr_value *value) {
+    double number;
+    memcpy(&number, &value->number, sizeof number);
+    return number;
+}
+
+enum sqr_column_kind {
+    SQR_PLAIN = 0,
+    SQR_ROWID_ALIAS = 1 /* another name for the rowid; rows store NULL in it */
+};
+
+/* A column that rows store: its name in UTF-8, by where it begins in `texts` and how many bytes it has; what stands for
+   it in rows that end before it, over `texts`; which value of a row's record it is, from 0; and its affinity by SQLite's
+   letters, 'A' BLOB, 'B' TEXT, 'C' NUMERIC, 'D' INTEGER, 'E' REAL. */
+struct sqr_column {
+    uint64_t name, name_len;
+    struct sqr_value missing;
+    uint64_t place;
+    uint32_t affinity, kind; /* the sqr_column_kind */
+};
+
+/* How many columns there are, and how many bytes their texts have. */
+struct sqr_columns {
+    uint64_t columns, texts;
+};
+
+/* The columns of the table that a CREATE text makes, in the order of the text, for a database of this encoding (see
+   struct sqr_tables). VIRTUAL columns are left out, because rows don't store them. There are no columns if the text
+   isn't understood, if a column is STORED, or if the key of a table WITHOUT ROWID has a column twice; then a row has the
+   values of its record. SQR_NO_ROOM as for sqr_tables. Refused by SQR_NO_MEMORY. It takes time linear in the text. */
+uint32_t sqr_columns(const uint8_t *sql, size_t len, uint32_t encoding, struct sqr_column *columns,
+                     size_t columns_room, uint8_t *texts, size_t texts_room, struct sqr_columns *out);
+
+/* So many cells of a page, one after another, from `first` on, which counts from 0. */
+struct sqr_run {
+    uint32_t page, first, count;
+};
+
+/* How many rows there are, and how many runs. With SQR_DAMAGED the fault and its page, how many runs there are before
+   it, and rows 0; otherwise fault and page are 0. */
+struct sqr_rows {
+    uint64_t rows, runs;
+    uint32_t fault, page;
+};
+
+/* Where the rows of a table are, in the order of its tree: the runs, one after another, are all its rows, each once. In
+   a well-formed database that order is by rowid, or by the key of a table WITHOUT ROWID; sqr_check judges it, and this
+   call doesn't. SQR_DAMAGED if the tree isn't sound: then `runs` has those before the fault, as many as fit. SQR_NO_ROOM
+   if there are more runs than room: then `out` is written, and `runs` isn't. Room for 2 runs for each page of the view
+   is always enough. Refused by SQR_NOT_A_DATABASE and SQR_NO_MEMORY. Each page of the tree is read once. Memory while it
+   runs: 12 bytes for each run, and 20 pages. */
+uint32_t sqr_rows(const struct sqr_view *view, uint32_t root, struct sqr_run *runs, size_t room, struct sqr_rows *out);
+
+/* A view, and the columns by which its rows are shown: those of sqr_columns with their texts, or none. */
+struct sqr_reader {
+    struct sqr_view view;
+    const struct sqr_column *columns;
+    size_t columns_len;
+    const uint8_t *texts;
+    size_t texts_len;
+};
+
+/* A cell of a page; cells count from 0. */
+struct sqr_cell {
+    uint32_t page, cell;
+};
+
+/* A row: its rowid, and 0 and 0 in a table WITHOUT ROWID; how many values it has, and how many bytes these have
+   together. With SQR_DAMAGED the fault and its page, and the others 0. */
+struct sqr_row {
+    int64_t rowid;
+    uint64_t values, bytes;
+    uint32_t has_rowid;
+    uint32_t fault, page;
+};
+
+/* The row in a cell. values[j] is that of column j, as SQLite reads it: the rowid, the stored value, or what stands for
+   the column. A whole number in a column of affinity REAL is a real, and a stored NaN is NULL. Values that the record
+   has behind the last column follow. The texts and the blobs are in `bytes`, one after another. SQR_DAMAGED if the page,
+   the cell or its payload isn't sound (SQR_FAULT_NOT_RECORD if the payload is no record). SQR_NO_ROOM if an array is too
+   short: then `out` has how much is needed, and the arrays are unchanged. Refused, in this order, by
+   SQR_NOT_A_DATABASE, SQR_NO_SUCH_PAGE, SQR_NO_SUCH_CELL, SQR_TOO_LARGE for a record above 2^30 bytes, and by
+   SQR_NO_MEMORY in place of any except the first three. It takes time linear in the columns and the bytes of the row.
+   Memory while it runs: 48 bytes for each value, the payload if it overflows, and a page if the file hasn't all of it. */
+uint32_t sqr_row(const struct sqr_reader *reader, const struct sqr_cell *cell, struct sqr_value *values,
+                 size_t values_room, uint8_t *bytes, size_t bytes_room, struct sqr_row *out);
 
 /* What a recovery of the files does. */
 enum sqr_recovery {
