@@ -64,7 +64,7 @@ def _line(name, content):
     return f"{name},sha256={digest},{len(content)}\n"
 
 
-MODULE = ("__init__.py", "__init__.pyi", "py.typed")
+MODULE = ("__init__.py", "__init__.pyi", "_rows.py", "py.typed")
 
 
 def build_wheel(wheel_directory, config_settings=None, metadata_directory=None):

@@ -8,6 +8,8 @@
             ...
         view.check()                        # a Report, or the exception Damaged
         view.roles()                        # what each page is used for, also of a damaged database
+        for row in view.rows("entry"):      # tuples, or with as_dicts=True dicts by the names of the columns
+            ...
         for commit in view.commits():       # of the write-ahead log
             if commit.known:                # or a later checkpoint may have changed that database
                 before = view.at(commit.frame)  # a View of the database at that commit
@@ -130,6 +132,12 @@ DiskFull = _refusal("DiskFull", 28, "There is no space left, or a limit of the s
 SharedProcess = _refusal("SharedProcess", 29, "The system gives the call no table of descriptors of its own, and this "
                          "process may have the database open.", OSError, errno.EPERM)
 CommitOverwritten = _refusal("CommitOverwritten", 30, "A later checkpoint may have changed the database at the commit.")
+NoSuchCell = _refusal("NoSuchCell", 32, "The page has no such cell, or its cells hold no rows.", IndexError)
+
+
+class NoSuchTable(Error, KeyError):
+    """No table of this name has rows of its own."""
+
 
 NO_ROOM = 9
 ERRORS = {error.status: error for error in Error.__subclasses__()}
@@ -568,6 +576,54 @@ class View:
         with self._source:
             return _roles_of(self._opened()[1], *self._asked(large, pointer_maps))
 
+    def tables(self):
+        """The tables, in the schema's order, and last sqlite_schema: for each a Table with its name, its root (0 for a
+        virtual table), its CREATE text and its Columns. Those that rows store are listed, and none if the text isn't
+        understood. It raises Damaged if the schema can't be read."""
+        with self._source:
+            return [it.table for it in _rows.shapes_of(self._opened()[0])]
+
+    def rows(self, table, *, as_dicts=False, rowid=False, faults=None):
+        """The rows of a table by its name, in the order of its tree, as an iterator of tuples, or of dicts by the names
+        of the columns. If no column is known, a tuple has the values that are stored. With `rowid` each begins with the
+        rowid, or None in a table WITHOUT ROWID (in a dict under the key None). Values are None, int, float, str and
+        bytes. An IllFormed text isn't valid in the database's encoding, and NOT_KNOWN isn't NULL: the row ends before
+        the column, and its default isn't a literal. A row that can't be read raises Damaged. If `faults` is a list, the
+        Damaged is added to it, and the next row follows. It raises NoSuchTable."""
+        with self._source:
+            view = self._opened()[0]
+            shape = _rows.shape_of(view, table)
+            runs, fault = _rows.runs_of(view, shape.root)
+        names = [it.name for it in shape.table.columns]
+        if as_dicts and not names:
+            raise ValueError(f"no column of {table} is known")
+        return self._rows_in(shape, names if as_dicts else None, rowid, faults, runs, fault)
+
+    def _rows_in(self, shape, names, rowid, faults, runs, fault):
+        """The rows of these runs, one after another, and then the fault of the tree."""
+        room = _rows.Room(shape)
+        for run in runs:
+            with self._source:
+                found = _rows.cells_of(shape.reader(self._opened()[0]), room, run, faults)
+            for it in found:
+                if isinstance(it, Damaged):
+                    self._found(it, faults)
+                    continue
+                number, values = it
+                if names is not None:
+                    row = dict(zip(names, values))
+                    yield {None: number, **row} if rowid else row
+                else:
+                    yield (number, *values) if rowid else values
+        if fault is not None:
+            self._found(fault, faults)
+
+    @staticmethod
+    def _found(fault, faults):
+        if faults is None:
+            raise fault
+        faults.append(fault)
+
     def commits(self):
         """The Commits of the write-ahead log, the first one first; none if there is no such log. If `known` is true,
         `at` shows that database; otherwise it raises CommitOverwritten. They are looked for once."""
@@ -697,3 +753,7 @@ def _steps(source, places, made):
             yield Step(kind, step.is_of_log, step.at, step.length, step.page or None, content)
     finally:
         source.close()
+
+
+from . import _rows  # noqa: E402: it uses the names above
+from ._rows import NOT_KNOWN, Column, IllFormed, Table  # noqa: E402
