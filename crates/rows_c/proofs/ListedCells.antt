@@ -1,7 +1,8 @@
 -- The cells that a walk over a tree passed.
 use Rattle.std.proofs.Common.{◌≡◌, ℕ, suc, ◌+◌, true, false, List, [], ◌∷◌, ◌++◌, length, map, refl, sym, ap, ◌∙◌, subst, arith, append_assoc, append-nil, length-append}
-use Rattle.std.specs.List.{flat_map}
+use Rattle.std.specs.List.{flat_map, range_with_len}
 use Rattle.std.proofs.lemmas.List.{map_push}
+use Rattle.std.proofs.lemmas.List.FromFn.{map-range_with_len_more}
 use Rattle.sqval.specs.Database.{Database}
 use Rattle.sqpage.specs.declared.fault.CheckError.{CheckError}
 use Rattle.sqrows.specs.Stops.{TreeRefused}
@@ -12,6 +13,15 @@ use Rattle.rows_c.specs.Runs.{place_of, cells_in, AreIn}
 use Rattle.rows_c.specs.declared.run.Run.{Run}
 use Rattle.rows_c.specs.internal.Listing.{cells_so_far, Steps, StepRefused, Begins, ArePassed, IsWalked}
 use Rattle.rows_c.proofs.TreeEntries.{tree_placed}
+
+-- a run with one more cell
+pub grown : (runs : List Run) (page first count p i : ℕ) → page ≡ p → first + count ≡ i
+    → cells_so_far runs (cells_in (record { page = page; first = first; count = count + 1 })) ≡ cells_so_far runs (cells_in (record { page = page; first = first; count = count })) ++ (p, i) ∷ []
+grown runs page first count p i same at =
+    let cells : List (ℕ × ℕ) = map (λ (k : ℕ). (page, k)) (range_with_len first count) in
+    let more = map-range_with_len_more (λ (k : ℕ). (page, k)) first count i at in
+    ap (λ (z : List (ℕ × ℕ)). flat_map cells_in runs ++ z) (more ∙ ap (λ (q : ℕ). cells ++ (q, i) ∷ []) same)
+    ∙ sym (append_assoc (flat_map cells_in runs) cells ((p, i) ∷ []))
 
 pub none_passed : (d : Database) (root : ℕ) (cells : Cells) (before : List (ℕ × ℕ)) → Begins d root cells → ArePassed d root cells before before 0
 none_passed d root cells before b = record {

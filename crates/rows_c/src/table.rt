@@ -87,7 +87,7 @@ fn encoding_of<S: PageSource>(alloc: Global, source: &mut S) -> Result<u32, Tabl
 
 /// Adds a table.
 fn add(found: &mut Listed, name: &[u8], sql: &[u8], root: u32) -> Result<(), AllocError>
-    ensures { IfOk result (λ _. AddsTable name.now sql.now root found.old.texts.items found.new.texts.items
+    ensures added { IfOk result (λ _. AddsTable name.now sql.now root found.old.texts.items found.new.texts.items
         found.old.tables.items found.new.tables.items) }
     ensures encoding { found.new.encoding ≡ found.old.encoding }
 {
@@ -109,7 +109,7 @@ fn add_object(
     encoding: Encoding,
     object: &Object,
 ) -> Result<(), AllocError>
-    ensures { IfOk result (λ _. AddsTables encoding (object.now ∷ []) found.old.texts.items found.new.texts.items
+    ensures added { IfOk result (λ _. AddsTables encoding (object.now ∷ []) found.old.texts.items found.new.texts.items
         found.old.tables.items found.new.tables.items) }
     ensures encoding { found.new.encoding ≡ found.old.encoding }
 {
@@ -129,7 +129,7 @@ fn add_objects(
     encoding: Encoding,
     objects: &[Object],
 ) -> Result<(), AllocError>
-    ensures { IfOk result (λ _. AddsTables encoding objects.now found.old.texts.items found.new.texts.items
+    ensures added { IfOk result (λ _. AddsTables encoding objects.now found.old.texts.items found.new.texts.items
         found.old.tables.items found.new.tables.items) }
     ensures encoding { found.new.encoding ≡ found.old.encoding }
 {
