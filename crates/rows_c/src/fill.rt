@@ -130,8 +130,8 @@ pub fn size_of(shown: &[Shown<'_>]) -> u64
 /// Writes the bytes of a value from a place on, and answers the value.
 fn put(one: Shown<'_>, bytes: &mut [u8], at: usize) -> Value
     requires { at + datum_size (datum_of one.held) ≤ length bytes.old }
-    ensures value { given bytes.new result ≡ showing_of one }
-    ensures kept { IsKept (at + datum_size (datum_of one.held)) bytes.new result }
+    ensures value { given bytes.new result ≡ showing_of one.entry }
+    ensures kept { IsKept (at + datum_size (datum_of one.entry.held)) bytes.new result }
     ensures before { take at bytes.new ≡ take at bytes.old }
     ensures length { length bytes.new ≡ length bytes.old }
 {

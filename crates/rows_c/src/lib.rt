@@ -10,6 +10,7 @@ mod page;
 mod pages;
 mod run;
 mod table;
+mod tree_page;
 mod value;
 
 pub use cell::{RowError, row_in};

@@ -68,7 +68,7 @@ fn is_nan(bytes: [u8; 8]) -> bool
 
 /// What SQLite reads a stored value as, in a column of affinity REAL or another.
 pub(crate) fn seen<'a>(of_real: bool, held: Held<'a>) -> Held<'a>
-    ensures { datum_of result ≡ seen of_real (datum_of held) }
+    ensures { datum_of result ≡ seen of_real (datum_of held.entry) }
 {
     match held {
         Held::Int(number) => if of_real {

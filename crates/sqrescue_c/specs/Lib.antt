@@ -13,4 +13,5 @@ pub mod Options
 pub mod Indexes
 pub mod Places
 pub mod Plans
+pub mod Rows
 pub mod internal
