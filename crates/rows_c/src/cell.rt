@@ -127,7 +127,7 @@ fn payload_of<'r>(
     ensures ok { IfOk result (λ bytes. IsPayload (pages_of pages.now) cell.now bytes.now) }
     ensures err { IfErr result (PayloadRefusedBy (pages_of pages.now) cell.now) }
 {
-    let mut source = *pages;
+    let mut source = pages.again();
     match payload_within(alloc, &mut source, cell, MOST_BYTES as u64, room) {
         Ok(bytes) => Ok(bytes),
         Err(PayloadError::TooLong) => Err(RowError::TooLong),

@@ -12,7 +12,7 @@ use sqview::FileBytes;
 use std::alloc::{AllocError, Global};
 
 /// The pages of a database file over which pages of a log are laid. What lies past the end of the bytes is zeros.
-#[derive(Clone, Copy, Debug)]
+#[derive(Debug, Drop)]
 pub struct Pages<'a> {
     db: &'a [u8],
     log: &'a [u8],
@@ -64,6 +64,19 @@ impl<'a> Pages<'a> {
             page_size,
             count,
         })
+    }
+
+    /// The same pages.
+    pub(crate) fn again(&self) -> Pages<'a>
+        ensures { result ≡ self.now }
+    {
+        Pages {
+            db: self.db,
+            log: self.log,
+            places: self.places,
+            page_size: self.page_size,
+            count: self.count,
+        }
     }
 
     /// How many there are.
