@@ -1,2 +1,3 @@
 pub mod TreeEntries
 pub mod ListedCells
+pub mod HeldValues

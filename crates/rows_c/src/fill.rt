@@ -4,7 +4,7 @@ ghost use Rattle.sqval.specs.Datum.{datum_of, row_of};
 ghost use Rattle.rows_c.specs.Shapes.{of_column, stored_or, plain_at, by_column, shown, bytes_in, given};
 ghost use Rattle.rows_c.specs.Values.{size_of as datum_size};
 ghost use Rattle.rows_c.specs.internal.Showings.{showing_of};
-ghost use Rattle.rows_c.specs.internal.Writing.{IsKept};
+ghost use Rattle.rows_c.specs.internal.Writing.{IsBehind, IsKept};
 ghost use Rattle.rows_c.specs.declared.fill.Shown.{Shown};
 ghost use Rattle.rows_c.specs.declared.value.Value.{Value};
 
@@ -127,20 +127,30 @@ pub fn size_of(shown: &[Shown<'_>]) -> u64
     size
 }
 
-/// Writes the bytes of a value from a place on, and answers the value.
-fn put(one: Shown<'_>, bytes: &mut [u8], at: usize) -> Value
-    requires { at + datum_size (datum_of one.held) ≤ length bytes.old }
-    ensures value { given bytes.new result ≡ showing_of one.entry }
-    ensures kept { IsKept (at + datum_size (datum_of one.entry.held)) bytes.new result }
+/// Writes the bytes of a value from a place on.
+fn write(held: &Held<'_>, bytes: &mut [u8], at: usize)
+    requires { at + datum_size (datum_of held.now) ≤ length bytes.old }
+    ensures written { IsBehind (datum_of held.now) at bytes.new }
     ensures before { take at bytes.new ≡ take at bytes.old }
     ensures length { length bytes.new ≡ length bytes.old }
 {
-    match one.held {
+    match held {
         Held::Text(text) | Held::Blob(text) => {
             bytes[at..at + text.len()].copy_from_slice(text);
         }
         Held::Null | Held::Int(_) | Held::Real(_) => {}
     }
+}
+
+/// Writes the bytes of a value from a place on, and answers the value.
+fn put(one: &Shown<'_>, bytes: &mut [u8], at: usize) -> Value
+    requires { at + datum_size (datum_of one.now.held) ≤ length bytes.old }
+    ensures value { given bytes.new result ≡ showing_of one.now }
+    ensures kept { IsKept (at + datum_size (datum_of one.now.held)) bytes.new result }
+    ensures before { take at bytes.new ≡ take at bytes.old }
+    ensures length { length bytes.new ≡ length bytes.old }
+{
+    write(&one.held, bytes, at);
     numbered(&one.held, one.from, at)
 }
 
@@ -153,8 +163,7 @@ pub fn copy(shown: &[Shown<'_>], values: &mut [Value], bytes: &mut [u8])
 {
     let mut used = 0;
     for j in 0..shown.len() {
-        let one = shown[j];
-        values[j] = put(one, bytes, used);
-        used += len_of(&one.held);
+        values[j] = put(&shown[j], bytes, used);
+        used += len_of(&shown[j].held);
     }
 }
