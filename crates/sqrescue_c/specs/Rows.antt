@@ -19,7 +19,7 @@ use Rattle.rows_c.specs.Described.{AreDescribed}
 use Rattle.rows_c.specs.Entries.{IsEntry}
 use Rattle.rows_c.specs.Listed.{IsListed}
 use Rattle.rows_c.specs.Refusals.{RowRefused}
-use Rattle.rows_c.specs.Shapes.{shown, bytes_in, given, showing}
+use Rattle.rows_c.specs.Shapes.{Showing, shown, bytes_in, given}
 use Rattle.rows_c.specs.Tables.{HasTables, TablesRefused}
 use Rattle.rows_c.specs.declared.cell.RowError.{RowError as CellError}
 use Rattle.rows_c.specs.declared.cell.RowError.TheVariants as cells
@@ -137,28 +137,35 @@ abbrev pub HasRowid : Option ℤ → RowReport → Type 0
 HasRowid (Some id) out = (out.has_rowid ≡ 1) × (out.rowid ≡ id)
 HasRowid None out = out.has_rowid ≡ 0
 
--- this row is in the cell, and it has so many values and bytes
-pub record IsRowAt (reader : Reader) (place : CellPlace) (row : Row) (out : RowReport) : Type 0 where
-  pub entry : Entry
-  pub at : IsEntry (pages_in reader.view) place.page place.cell entry
-  pub row_in : IsRowIn (pages_in reader.view) entry row
+-- a row's rowid, and how many values the columns show of it
+pub record IsCounted (reader : Reader) (row : Row) (out : RowReport) : Type 0 where
   pub rowid : HasRowid row.rowid out
-  pub counted : out.values ≡ length (shown reader.columns.now reader.texts.now row)
+  pub values : out.values ≡ length (shown reader.columns.now reader.texts.now row)
 
--- the arrays begin with the values of the row in a cell, and their bytes
-pub record IsRowGiven (reader : Reader) (place : CellPlace) (out : RowReport) (values : List Value) (bytes : List ℕ) : Type 0 where
-  pub row : Row
-  pub is : IsRowAt reader place row out
-  pub room : (out.values ≤ length values) × (out.bytes ≤ length bytes)
+-- the arrays begin with the values of a row, and their bytes
+pub record IsShown (reader : Reader) (row : Row) (out : RowReport) (values : List Value) (bytes : List ℕ) : Type 0 where
+  pub counted : IsCounted reader row out
   pub sized : out.bytes ≡ bytes_in (shown reader.columns.now reader.texts.now row)
-  pub each : (j : ℕ) (v : Value) → j < out.values → given bytes (get_or values j v) ≡ get_or (shown reader.columns.now reader.texts.now row) j (given bytes v)
+  pub room : (out.values ≤ length values) × (out.bytes ≤ length bytes)
+  pub each : (j : ℕ) (v : Value) (s : Showing) → j < out.values → given bytes (get_or values j v) ≡ get_or (shown reader.columns.now reader.texts.now row) j s
   pub sound : (out.fault ≡ 0) × (out.page ≡ 0)
 
 -- it has so many, and an array is too short
-pub record IsRowCrowded (reader : Reader) (place : CellPlace) (rooms : ℕ × ℕ) (out : RowReport) : Type 0 where
-  pub row : Row
-  pub is : IsRowAt reader place row out
+pub record IsShownCrowded (reader : Reader) (row : Row) (rooms : ℕ × ℕ) (out : RowReport) : Type 0 where
+  pub counted : IsCounted reader row out
   pub more : (rooms.0 < out.values) ⊎ (rooms.1 < bytes_in (shown reader.columns.now reader.texts.now row))
+
+-- this row is in the cell
+abbrev pub IsRowAt : Reader → CellPlace → Row → Type 0
+IsRowAt reader place row = (e : Entry) × IsEntry (pages_in reader.view) place.page place.cell e × IsRowIn (pages_in reader.view) e row
+
+-- the arrays begin with the values of the row in a cell
+abbrev pub IsRowGiven : Reader → CellPlace → RowReport → List Value → List ℕ → Type 0
+IsRowGiven reader place out values bytes = (row : Row) × IsRowAt reader place row × IsShown reader row out values bytes
+
+-- an array is too short for it
+abbrev pub IsRowCrowded : Reader → CellPlace → (rooms : ℕ × ℕ) → RowReport → Type 0
+IsRowCrowded reader place rooms out = (row : Row) × IsRowAt reader place row × IsShownCrowded reader row rooms out
 
 -- why it isn't read, by a status, a fault and its page
 abbrev pub IsRowRefused : Reader → CellPlace → Answer → Type 0

@@ -1,10 +1,11 @@
 //! The tables of a view, and their rows.
-ghost use Rattle.std.specs.Prelude.{◌≡◌, ◌≢◌, ◌⊎◌, ◌<◌, ◌≤◌, ℕ, IfOk, IfErr, length, take};
+ghost use Rattle.std.specs.Prelude.{◌≡◌, ◌≢◌, ◌≤◌, IfSome, IfNone, length, min, take};
 ghost use Rattle.sqdeep.specs.Texts.{encoding_named};
-ghost use Rattle.rows_c.specs.Described.{AreDescribed};
 ghost use Rattle.rows_c.specs.Views.{pages_of};
-ghost use Rattle.sqrescue_c.specs.Rows.{pages_in, AreTables, AreTablesCrowded, AreTablesRefused, AreColumnsCrowded};
-ghost use Rattle.sqrescue_c.specs.Rows.{AreRuns, AreRunsCrowded, AreRunsRefused, IsRowGiven, IsRowCrowded, IsRowRefused};
+ghost use Rattle.sqrescue_c.specs.Rows.{pages_in, HasNoPages, AreTables, AreTablesCrowded, AreTablesRefused};
+ghost use Rattle.sqrescue_c.specs.Rows.{AreColumnsGiven, AreColumnsCrowded, AreRuns, AreRunsCrowded, AreRunsRefused};
+ghost use Rattle.sqrescue_c.specs.Rows.{IsRowGiven, IsRowCrowded, IsRowRefused, answer_of, rows_answer};
+ghost use Rattle.sqrescue_c.specs.Rows.{tables_answer, row_answer, HasRowid, IsShown, IsShownCrowded};
 
 use crate::status::Status;
 use crate::view::Handle;
@@ -13,7 +14,7 @@ use rows_c::{
     list_rows, row_in, size_of, tables_in,
 };
 use sqpage::{CheckError, Fault};
-use sqrows::{PayloadError, RowsError};
+use sqrows::{PayloadError, Row, RowsError};
 use sqtables::ListError;
 use sqtext::encoding_named;
 use std::alloc::Global;
@@ -88,7 +89,10 @@ pub struct RowReport {
 }
 
 /// The pages of a view. None where it has none, or of no size that pages have.
-fn pages_of_view<'a>(view: &Handle<'a>) -> Option<Pages<'a>> {
+fn pages_of_view<'a>(view: &Handle<'a>) -> Option<Pages<'a>>
+    ensures some { IfSome result (λ pages. pages_of pages ≡ pages_in view.now) }
+    ensures none { IfNone result (HasNoPages view.now) }
+{
     if view.pages == 0 {
         return None;
     }
@@ -103,53 +107,68 @@ fn copy_all<T: Copy>(from: &[T], to: &mut [T])
     to[..from.len()].copy_from_slice(from);
 }
 
-/// The number and the page of a fault, and its status.
-fn fault_of(refusal: CheckError) -> (u32, u32, Status) {
+/// The answer for a fault.
+fn answer_of(refusal: CheckError) -> (u32, u32, u32)
+    ensures { result ≡ answer_of refusal }
+{
     match refusal.fault {
-        Fault::NoMemory => (0, 0, Status::NoMemory),
-        fault => (u32::from(fault.number()), refusal.page, Status::Damaged),
+        Fault::NoMemory => (6, 0, 0),
+        fault => (1, u32::from(fault.number()), refusal.page),
     }
 }
 
-/// The same of what stops a listing of tables.
-fn tables_fault(error: TablesError) -> (u32, u32, Status) {
+/// The answer for what stops the rows of a tree.
+fn rows_answer(error: RowsError) -> (u32, u32, u32)
+    ensures { result ≡ rows_answer error }
+{
     match error {
-        TablesError::Schema(ListError::Tree(refusal)) => fault_of(refusal),
-        TablesError::Schema(ListError::Row(RowsError::Tree(refusal))) => fault_of(refusal),
-        TablesError::Schema(ListError::Row(RowsError::Payload(PayloadError::TooLong))) => {
-            (0, 0, Status::TooLarge)
-        }
-        TablesError::Schema(ListError::Row(RowsError::Payload(PayloadError::Chain(refusal)))) => {
-            fault_of(refusal)
-        }
-        TablesError::Schema(ListError::Record(_)) => (NOT_RECORD, 0, Status::Damaged),
-        TablesError::Schema(ListError::NoMemory) => (0, 0, Status::NoMemory),
-        TablesError::NoPage => (0, 0, Status::NotADatabase),
-        TablesError::Encoding => (TEXT_ENCODING, 1, Status::Damaged),
-        TablesError::NoMemory => (0, 0, Status::NoMemory),
+        RowsError::Tree(refusal) => answer_of(refusal),
+        RowsError::Payload(PayloadError::TooLong) => (3, 0, 0),
+        RowsError::Payload(PayloadError::Chain(refusal)) => answer_of(refusal),
     }
 }
 
-/// Hands tables over to a caller. Refused by NoRoom where an array is too short; then the counts are written.
-fn give_tables(
-    found: &Listed,
-    tables: &mut [Table],
-    texts: &mut [u8],
-    out: &mut TablesReport,
-) -> Status {
-    *out = TablesReport {
+/// The answer for what stops a listing of tables.
+fn tables_answer(error: TablesError) -> (u32, u32, u32)
+    ensures { result ≡ tables_answer error }
+{
+    match error {
+        TablesError::Schema(ListError::Tree(refusal)) => answer_of(refusal),
+        TablesError::Schema(ListError::Row(refusal)) => rows_answer(refusal),
+        TablesError::Schema(ListError::Record(_)) => (1, NOT_RECORD, 0),
+        TablesError::Schema(ListError::NoMemory) => (6, 0, 0),
+        TablesError::NoPage => (5, 0, 0),
+        TablesError::Encoding => (1, TEXT_ENCODING, 1),
+        TablesError::NoMemory => (6, 0, 0),
+    }
+}
+
+/// What is written where the tables aren't listed.
+fn faulty_tables(fault: u32, page: u32) -> TablesReport
+    ensures { (result.fault ≡ fault) × (result.page ≡ page) }
+{
+    TablesReport {
+        tables: 0,
+        texts: 0,
+        encoding: 0,
+        fault,
+        page,
+    }
+}
+
+/// How many tables there are, and how many bytes their texts have.
+fn count_tables(found: &Listed) -> TablesReport
+    ensures counted { (result.tables ≡ length found.now.tables.items) × (result.texts ≡ length found.now.texts.items) }
+    ensures encoding { result.encoding ≡ found.now.encoding }
+    ensures sound { (result.fault ≡ 0) × (result.page ≡ 0) }
+{
+    TablesReport {
         tables: found.tables.len() as u64,
         texts: found.texts.len() as u64,
         encoding: found.encoding,
         fault: 0,
         page: 0,
-    };
-    if found.tables.len() > tables.len() || found.texts.len() > texts.len() {
-        return Status::NoRoom;
     }
-    copy_all(&found.tables, tables);
-    copy_all(&found.texts, texts);
-    Status::Done
 }
 
 /// The tables of a view, in the order of its schema, and the schema as the last one: their names and texts, in UTF-8,
@@ -163,26 +182,34 @@ pub extern "C" fn sqr_tables(
     tables: &mut [Table],
     texts: &mut [u8],
     out: &mut TablesReport,
-) -> u32 {
+) -> u32
+    ensures tables { result ≡ 0 → AreTables view.now out.new tables.new texts.new }
+    ensures crowded { result ≡ 9 → AreTablesCrowded view.now (length tables.old, length texts.old) out.new }
+    ensures damaged { result ≡ 1 → AreTablesRefused view.now (1, out.new.fault, out.new.page) }
+    ensures refused { result ≢ 0 → result ≢ 1 → result ≢ 9 → AreTablesRefused view.now (result, 0, 0) }
+    ensures arrays_kept { result ≢ 0 → (tables.new ≡ tables.old) × (texts.new ≡ texts.old) }
+    ensures out_kept { result ≢ 0 → result ≢ 1 → result ≢ 9 → out.new ≡ out.old }
+{
     let Some(mut pages) = pages_of_view(view) else {
         return Status::NotADatabase.number();
     };
-    match tables_in(alloc, &mut pages) {
-        Ok(found) => give_tables(&found, tables, texts, out).number(),
+    let found = match tables_in(alloc, &mut pages) {
+        Ok(found) => found,
         Err(error) => {
-            let (fault, page, status) = tables_fault(error);
-            if fault != 0 {
-                *out = TablesReport {
-                    tables: 0,
-                    texts: 0,
-                    encoding: 0,
-                    fault,
-                    page,
-                };
+            let (status, fault, page) = tables_answer(error);
+            if status == 1 {
+                *out = faulty_tables(fault, page);
             }
-            status.number()
+            return status;
         }
+    };
+    *out = count_tables(&found);
+    if found.tables.len() > tables.len() || found.texts.len() > texts.len() {
+        return Status::NoRoom.number();
     }
+    copy_all(&found.tables, tables);
+    copy_all(&found.texts, texts);
+    Status::Done.number()
 }
 
 /// The columns of the table that a text of a schema in UTF-8 makes, for a database of this encoding, 1 to 3: their
@@ -197,7 +224,15 @@ pub extern "C" fn sqr_columns(
     columns: &mut [Column],
     texts: &mut [u8],
     out: &mut ColumnsReport,
-) -> u32 {
+) -> u32
+    ensures columns { result ≡ 0
+        → AreColumnsGiven (encoding_named encoding) sql.now out.new columns.new texts.new }
+    ensures crowded { result ≡ 9
+        → AreColumnsCrowded (encoding_named encoding) sql.now (length columns.old, length texts.old) out.new }
+    ensures refused { result ≢ 0 → result ≢ 9 → result ≡ 6 }
+    ensures arrays_kept { result ≢ 0 → (columns.new ≡ columns.old) × (texts.new ≡ texts.old) }
+    ensures out_kept { result ≡ 6 → out.new ≡ out.old }
+{
     let found = match columns_in(alloc, sql, encoding_named(encoding)) {
         Ok(found) => found,
         Err(_) => return Status::NoMemory.number(),
@@ -215,9 +250,25 @@ pub extern "C" fn sqr_columns(
 }
 
 /// Writes as many runs as there is room for.
-fn give_runs(found: &[Run], runs: &mut [Run]) {
+fn give_runs(found: &[Run], runs: &mut [Run])
+    ensures { take (min (length found.now) (length runs.old)) runs.new
+        ≡ take (min (length found.now) (length runs.old)) found.now }
+{
     let count = found.len().min(runs.len());
     copy_all(&found[..count], runs);
+}
+
+/// How many rows there are in these runs; and a fault, with its page, both 0 where there is none.
+fn count_rows(rows: u64, found: &[Run], fault: u32, page: u32) -> RowsReport
+    ensures counted { (result.rows ≡ rows) × (result.runs ≡ length found.now) }
+    ensures fault { (result.fault ≡ fault) × (result.page ≡ page) }
+{
+    RowsReport {
+        rows,
+        runs: found.len() as u64,
+        fault,
+        page,
+    }
 }
 
 /// Where the rows of the tree whose root is page `root` are, in its order. Answers Done, or Damaged where the tree isn't
@@ -230,54 +281,116 @@ pub extern "C" fn sqr_rows(
     root: u32,
     runs: &mut [Run],
     out: &mut RowsReport,
-) -> u32 {
+) -> u32
+    ensures rows { result ≡ 0 → AreRuns view.now root out.new runs.new }
+    ensures crowded { result ≡ 9 → AreRunsCrowded view.now root (length runs.old) out.new }
+    ensures damaged { result ≡ 1 → AreRunsRefused view.now root (1, out.new.fault, out.new.page) }
+    ensures refused { result ≢ 0 → result ≢ 1 → result ≢ 9 → AreRunsRefused view.now root (result, 0, 0) }
+    ensures runs_kept { result ≢ 0 → result ≢ 1 → runs.new ≡ runs.old }
+    ensures out_kept { result ≢ 0 → result ≢ 1 → result ≢ 9 → out.new ≡ out.old }
+{
     let Some(mut pages) = pages_of_view(view) else {
         return Status::NotADatabase.number();
     };
     let mut found = Vec::new(alloc);
-    match list_rows(alloc, &mut pages, root, &mut found) {
-        Ok(rows) => {
-            *out = RowsReport {
-                rows,
-                runs: found.len() as u64,
-                fault: 0,
-                page: 0,
-            };
-            if found.len() > runs.len() {
-                return Status::NoRoom.number();
-            }
-            copy_all(&found, runs);
-            Status::Done.number()
-        }
+    let rows = match list_rows(alloc, &mut pages, root, &mut found) {
+        Ok(rows) => rows,
         Err(refusal) => {
-            let (fault, page, status) = fault_of(refusal);
-            if fault != 0 {
+            let (status, fault, page) = answer_of(refusal);
+            if status == 1 {
                 give_runs(&found, runs);
-                *out = RowsReport {
-                    rows: 0,
-                    runs: found.len() as u64,
-                    fault,
-                    page,
-                };
+                *out = count_rows(0, &found, fault, page);
             }
-            status.number()
+            return status;
         }
+    };
+    *out = count_rows(rows, &found, 0, 0);
+    if found.len() > runs.len() {
+        return Status::NoRoom.number();
+    }
+    copy_all(&found, runs);
+    Status::Done.number()
+}
+
+/// The answer for what stops the row in a cell of a page.
+fn row_answer(page: u32, error: RowError) -> (u32, u32, u32)
+    ensures { result ≡ row_answer page error }
+{
+    match error {
+        RowError::NoSuchPage => (7, 0, 0),
+        RowError::NoSuchCell => (NO_SUCH_CELL, 0, 0),
+        RowError::Unsound(refusal) => answer_of(refusal),
+        RowError::TooLong => (3, 0, 0),
+        RowError::NoRecord(_) => (1, NOT_RECORD, page),
+        RowError::NoMemory => (6, 0, 0),
     }
 }
 
-/// The number and the page of the fault of a row, and its status.
-fn row_fault(error: RowError, page: u32) -> (u32, u32, u32) {
-    match error {
-        RowError::NoSuchPage => (0, 0, Status::NoSuchPage.number()),
-        RowError::NoSuchCell => (0, 0, NO_SUCH_CELL),
-        RowError::Unsound(refusal) => {
-            let (fault, page, status) = fault_of(refusal);
-            (fault, page, status.number())
-        }
-        RowError::TooLong => (0, 0, Status::TooLarge.number()),
-        RowError::NoRecord(_) => (NOT_RECORD, page, Status::Damaged.number()),
-        RowError::NoMemory => (0, 0, Status::NoMemory.number()),
+/// What is written where a row isn't read.
+fn faulty_row(fault: u32, page: u32) -> RowReport
+    ensures { (result.fault ≡ fault) × (result.page ≡ page) }
+{
+    RowReport {
+        rowid: 0,
+        values: 0,
+        bytes: 0,
+        has_rowid: 0,
+        fault,
+        page,
     }
+}
+
+/// The rowid of a row, and how many values and bytes it has.
+fn count_row(rowid: Option<i64>, values: usize, bytes: u64) -> RowReport
+    ensures rowid { HasRowid rowid result }
+    ensures counted { (result.values ≡ values) × (result.bytes ≡ bytes) }
+    ensures sound { (result.fault ≡ 0) × (result.page ≡ 0) }
+{
+    let (has_rowid, id) = match rowid {
+        Some(id) => (1, id),
+        None => (0, 0),
+    };
+    RowReport {
+        rowid: id,
+        values: values as u64,
+        bytes,
+        has_rowid,
+        fault: 0,
+        page: 0,
+    }
+}
+
+/// Shows a row to a caller. Answers Done, NoRoom or NoMemory.
+fn give_row(
+    alloc: Global,
+    reader: &Reader<'_>,
+    row: &Row<'_>,
+    values: &mut [Value],
+    bytes: &mut [u8],
+    out: &mut RowReport,
+) -> u32
+    ensures given { result ≡ 0 → IsShown reader.now
+        (record { rowid = row.now.rowid; values = row.now.values }) out.new values.new bytes.new }
+    ensures crowded { result ≡ 9 → IsShownCrowded reader.now
+        (record { rowid = row.now.rowid; values = row.now.values }) (length values.old, length bytes.old) out.new }
+    ensures refused { result ≢ 0 → result ≢ 9 → result ≡ 6 }
+    ensures arrays_kept { result ≢ 0 → (values.new ≡ values.old) × (bytes.new ≡ bytes.old) }
+    ensures out_kept { result ≡ 6 → out.new ≡ out.old }
+{
+    let shape = Shape {
+        columns: reader.columns,
+        texts: reader.texts,
+    };
+    let Ok(shown) = shape.of(alloc, row) else {
+        return Status::NoMemory.number();
+    };
+    let size = size_of(&shown);
+    *out = count_row(row.rowid, shown.len(), size);
+    if shown.len() > values.len() || size > bytes.len() as u64 {
+        return Status::NoRoom.number();
+    }
+    copy(&shown, values, bytes);
+    Status::Done.number()
 }
 
 /// The row in a cell: its rowid, and its columns, where their bytes begin in `bytes`. Without described columns it has
@@ -292,55 +405,28 @@ pub extern "C" fn sqr_row(
     values: &mut [Value],
     bytes: &mut [u8],
     out: &mut RowReport,
-) -> u32 {
+) -> u32
+    ensures row { result ≡ 0 → IsRowGiven reader.now place.now out.new values.new bytes.new }
+    ensures crowded { result ≡ 9
+        → IsRowCrowded reader.now place.now (length values.old, length bytes.old) out.new }
+    ensures damaged { result ≡ 1 → IsRowRefused reader.now place.now (1, out.new.fault, out.new.page) }
+    ensures refused { result ≢ 0 → result ≢ 1 → result ≢ 9 → IsRowRefused reader.now place.now (result, 0, 0) }
+    ensures arrays_kept { result ≢ 0 → (values.new ≡ values.old) × (bytes.new ≡ bytes.old) }
+    ensures out_kept { result ≢ 0 → result ≢ 1 → result ≢ 9 → out.new ≡ out.old }
+{
     let Some(pages) = pages_of_view(&reader.view) else {
         return Status::NotADatabase.number();
     };
-    let mut page_room = Vec::new(alloc);
+    let mut first = Vec::new(alloc);
     let mut room = Vec::new(alloc);
-    let row = match row_in(
-        alloc,
-        &pages,
-        place.page,
-        place.cell,
-        &mut page_room,
-        &mut room,
-    ) {
-        Ok(row) => row,
+    match row_in(alloc, &pages, place.page, place.cell, &mut first, &mut room) {
+        Ok(row) => give_row(alloc, reader, &row, values, bytes, out),
         Err(error) => {
-            let (fault, page, status) = row_fault(error, place.page);
-            if fault != 0 {
-                *out = RowReport {
-                    rowid: 0,
-                    values: 0,
-                    bytes: 0,
-                    has_rowid: 0,
-                    fault,
-                    page,
-                };
+            let (status, fault, page) = row_answer(place.page, error);
+            if status == 1 {
+                *out = faulty_row(fault, page);
             }
-            return status;
+            status
         }
-    };
-    let shape = Shape {
-        columns: reader.columns,
-        texts: reader.texts,
-    };
-    let Ok(shown) = shape.of(alloc, &row) else {
-        return Status::NoMemory.number();
-    };
-    let size = size_of(&shown);
-    *out = RowReport {
-        rowid: row.rowid.unwrap_or(0),
-        values: shown.len() as u64,
-        bytes: size,
-        has_rowid: u32::from(row.rowid.is_some()),
-        fault: 0,
-        page: 0,
-    };
-    if shown.len() > values.len() || size > bytes.len() as u64 {
-        return Status::NoRoom.number();
     }
-    copy(&shown, values, bytes);
-    Status::Done.number()
 }
