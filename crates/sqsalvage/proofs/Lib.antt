@@ -10,5 +10,5 @@ pub mod PagesOfTrees
 pub mod StepsOfWalk
 -- One turn of the walk over a tree, and its end.
 pub mod TurnsOfWalk
--- The leaves that no tree reached, page by page.
-pub mod LostLeaves
+-- The pages that no tree reached, one by one.
+pub mod LostPages

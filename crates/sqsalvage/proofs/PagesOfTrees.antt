@@ -12,7 +12,7 @@ use Rattle.sqsalvage.specs.declared.page.TreePage.{TreePage}
 use Rattle.sqsalvage.specs.declared.cursor.Piece.{Piece}
 use Rattle.sqsalvage.specs.declared.cursor.Piece.TheVariants.{Part}
 use Rattle.sqsalvage.specs.TreePages.{page_of, IsTreePage, IsPageRead}
-use Rattle.sqsalvage.specs.Reached.{leaf_kind, interior_kind, IsLeaf, IsInterior, IsOfTree, IsPiece}
+use Rattle.sqsalvage.specs.Reached.{leaf_kind, interior_kind, HoldsPayloads, IsLeaf, IsInterior, IsOfTree, IsPiece}
 use Rattle.sqsalvage.specs.SalvageCursor.{IsMarked}
 use Rattle.sqsalvage.specs.internal.Opening.{IsOpened, IsNoPage, IsNoTreePage}
 use Rattle.sqsalvage.specs.internal.Taking.{Follows, NamesRest, Opens}
@@ -81,8 +81,8 @@ pub none_of_tree : (d : Database) (table : Bool) (p : ℕ) → IsNoTreePage d p 
 none_of_tree d table p none (inl leaf) = let lt = none (leaf_kind table) leaf.1.0 in let le = leaf.1.1 in omega (arith, lt, le)
 none_of_tree d table p none (inr interior) = let lt = none (interior_kind table) interior.1.0 in let le = interior.1.1 in omega (arith, lt, le)
 
-pub none_leaf : (d : Database) (p : ℕ) → IsNoTreePage d p → ¬ IsLeaf d true p
-none_leaf d p none leaf = none_of_tree d true p none (inl leaf)
+pub none_holds : (d : Database) (p : ℕ) → IsNoTreePage d p → ¬ HoldsPayloads d p
+none_holds d p none h = let lt = none h.1 h.2.0 in let le = h.2.1 in omega (arith, lt, le)
 
 -- a page of another kind
 pub same_kind : (d : Database) (p : ℕ) (t : TreePage) (k : Kind) → IsPageRead d p t → IsTreePage d k p → t.kind ≡ k
@@ -92,8 +92,15 @@ pub other_tree : (d : Database) (table : Bool) (p : ℕ) (t : TreePage) → IsPa
 other_tree d table p t r other (inl leaf) = other (ap (λ k. is_table k) (same_kind d p t (leaf_kind table) r leaf.1) ∙ leaf_table table)
 other_tree d table p t r other (inr interior) = other (ap (λ k. is_table k) (same_kind d p t (interior_kind table) r interior.1) ∙ interior_table table)
 
-pub other_leaf : (d : Database) (p : ℕ) (t : TreePage) → IsPageRead d p t → t.kind ≢ TableLeaf → ¬ IsLeaf d true p
-other_leaf d p t r other leaf = other (same_kind d p t TableLeaf r leaf.1)
+-- one whose cells have payloads, or not
+pub holds_read : (d : Database) (p : ℕ) (t : TreePage) → IsPage d p → IsPageRead d p t → has_payload t.kind ≡ true → HoldsPayloads d p
+holds_read d p t page r has = (page, t.kind, r.tree, has)
+
+pub other_holds : (d : Database) (p : ℕ) (t : TreePage) → IsPageRead d p t → has_payload t.kind ≡ false → ¬ HoldsPayloads d p
+other_holds d p t r none h =
+    let same : has_payload t.kind ≡ has_payload h.1 = ap (λ k. has_payload k) (same_kind d p t h.1 r h.2) in
+    let has : has_payload h.1 ≡ true = h.3 in
+    cc
 
 -- no page is a leaf and an interior one
 pub not_both : (d : Database) (table : Bool) (p : ℕ) → IsInterior d table p → ¬ IsLeaf d table p

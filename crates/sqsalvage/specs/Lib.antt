@@ -1,4 +1,6 @@
 pub mod TreePages
 pub mod Reached
 pub mod SalvageCursor
+pub mod Chains
+pub mod Standing
 pub mod internal

@@ -28,6 +28,10 @@ IsLeaf d table p = IsPage d p × IsTreePage d (leaf_kind table) p
 abbrev pub IsInterior : Database → (table : Bool) → (p : ℕ) → Type 0
 IsInterior d table p = IsPage d p × IsTreePage d (interior_kind table) p
 
+-- Page p is one of a tree whose cells have payloads: a leaf, or an interior page of an index.
+abbrev pub HoldsPayloads : Database → (p : ℕ) → Type 0
+HoldsPayloads d p = IsPage d p × (kind : Kind) × IsTreePage d kind p × (has_payload kind ≡ true)
+
 -- Page p is one or the other.
 abbrev pub IsOfTree : Database → (table : Bool) → (p : ℕ) → Type 0
 IsOfTree d table p = IsLeaf d table p ⊎ IsInterior d table p

@@ -3,13 +3,14 @@ use Rattle.std.specs.Prelude.{◌≡◌, ◌↔◌, ◌⊎◌, ℕ, ◌+◌, ◌
 use Rattle.sqval.specs.Database.{Database}
 use Rattle.sqpage.specs.Freelist.{IsPage, usable_size}
 use Rattle.sqpage.specs.Lists.{In, Apart}
+use Rattle.sqpage.specs.Page.{has_payload}
 use Rattle.sqsalvage.specs.TreePages.{IsPageRead}
 use Rattle.sqsalvage.specs.declared.page.TreePage.{TreePage}
 use Rattle.sqsalvage.specs.declared.cursor.Piece.{Piece}
 use Rattle.sqsalvage.specs.declared.cursor.Piece.TheVariants.{Whole, Part}
 use Rattle.sqsalvage.specs.declared.cursor.Salvage.{Salvage}
 use Rattle.sqsalvage.specs.declared.piece.PieceRead.{PieceRead}
-use Rattle.sqsalvage.specs.Reached.{leaf_kind, interior_kind, IsLeaf, IsPiece, IsReached, NamesFrom}
+use Rattle.sqsalvage.specs.Reached.{leaf_kind, interior_kind, HoldsPayloads, IsPiece, IsReached, NamesFrom}
 
 -- page p is marked
 abbrev pub IsMarked : List Bool → (p : ℕ) → Type 0
@@ -72,14 +73,18 @@ AreLeft d table marks pending pieces = Apart pieces × ((x : Piece) → In x pie
 abbrev pub PiecesLeft : Database → Salvage → List Piece → Type 0
 PiecesLeft d s pieces = AreLeft d s.table s.marks.items s.pending.items pieces
 
--- These leaves are left that no tree reached: the leaves of tables behind the page that the cursor came to last that aren't
--- marked, each once.
+-- These pages are left that no tree reached: those whose cells have payloads, behind the page that the cursor came to last, that
+-- aren't marked, each once.
 abbrev pub LostLeft : Database → Salvage → List ℕ → Type 0
-LostLeft d s leaves = Apart leaves × ((p : ℕ) → In p leaves ↔ (IsLeaf d true p × (s.at < p) × ¬ IsMarked s.marks.items p))
+LostLeft d s pages = Apart pages × ((p : ℕ) → In p pages ↔ (HoldsPayloads d p × (s.at < p) × ¬ IsMarked s.marks.items p))
 
 -- This is leaf p as it was read.
 abbrev pub IsLeafRead : Database → (table : Bool) → (p : ℕ) → TreePage → Type 0
 IsLeafRead d table p page = IsPage d p × IsPageRead d p page × (page.kind ≡ leaf_kind table)
+
+-- This is page p as it was read, one of a tree whose cells have payloads.
+abbrev pub IsHolderRead : Database → (p : ℕ) → TreePage → Type 0
+IsHolderRead d p page = IsPage d p × IsPageRead d p page × (has_payload page.kind ≡ true)
 
 -- This is interior page p.
 abbrev pub IsInteriorRead : Database → (table : Bool) → (p : ℕ) → TreePage → Type 0
@@ -95,10 +100,10 @@ abbrev pub PieceMoves : (Old New : List Piece → Type 0) → Database → (tabl
 PieceMoves Old New d table None = Old []
 PieceMoves Old New d table (Some read) = (x : Piece) × IsPieceRead d table x read × ((pieces : List Piece) → New pieces → Old (x ∷ pieces))
 
--- Leaves that are left now were left behind the one that was read; or none was left.
-abbrev pub LeafMoves : (Old New : List ℕ → Type 0) → Database → Option TreePage → Type 0
-LeafMoves Old New d None = Old []
-LeafMoves Old New d (Some page) = (p : ℕ) × IsLeafRead d true p page × ((leaves : List ℕ) → New leaves → Old (p ∷ leaves))
+-- Pages that are left now were left behind the one that was read; or none was left.
+abbrev pub LostMoves : (Old New : List ℕ → Type 0) → Database → Option TreePage → Type 0
+LostMoves Old New d None = Old []
+LostMoves Old New d (Some page) = (p : ℕ) × IsHolderRead d p page × ((pages : List ℕ) → New pages → Old (p ∷ pages))
 
 -- The cursor came to the next piece of a tree, if one was left. What is passed by the tree's end stays the same.
 pub record TreeMoves (d : Database) (old new : Salvage) (found : Option PieceRead) : Type 0 where

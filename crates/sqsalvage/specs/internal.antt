@@ -1,3 +1,4 @@
 -- What no public clause reaches.
 pub mod Taking
 pub mod Opening
+pub mod Links

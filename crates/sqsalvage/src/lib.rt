@@ -3,8 +3,10 @@
 #![tactic(auto)]
 
 mod bytes;
+mod chains;
 mod cursor;
 mod leaves;
+mod links;
 mod lost;
 mod marks;
 mod names;
@@ -12,8 +14,10 @@ mod page;
 mod parts;
 mod piece;
 mod salvage;
+mod standing;
 mod tree_page;
 
+pub use chains::{Chains, Claim};
 pub use cursor::{Piece, Salvage};
 pub use page::TreePage;
 pub use parts::parts_at;

@@ -35,7 +35,7 @@ pub(crate) fn head(number: u32) -> usize
 }
 
 /// Where the pointers to the cells begin.
-fn pointers(kind: Kind, number: u32) -> usize
+pub(crate) fn pointers(kind: Kind, number: u32) -> usize
     ensures value { result ≡ pointers_at kind number }
     ensures early { result ≤ 112 }
 {

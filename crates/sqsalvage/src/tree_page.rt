@@ -139,7 +139,7 @@ impl TreePage {
     }
 
     /// What of the page is used.
-    fn used(&self) -> &[u8]
+    pub(crate) fn used(&self) -> &[u8]
         ensures value { result.now ≡ (page_of self.now).used }
         ensures length { length result.now ≡ self.now.usable }
     {

@@ -12,8 +12,8 @@ use Rattle.sqsalvage.specs.declared.cursor.Piece.{Piece}
 use Rattle.sqsalvage.specs.declared.cursor.Piece.TheVariants.{Whole, Part}
 use Rattle.sqsalvage.specs.declared.cursor.Salvage.{Salvage}
 use Rattle.sqsalvage.specs.declared.piece.PieceRead.{PieceRead}
-use Rattle.sqsalvage.specs.Reached.{IsLeaf, IsOfTree, IsPiece, NamesFrom}
-use Rattle.sqsalvage.specs.SalvageCursor.{IsMarked, ArePending, HasPlacesOnce, early_count, IsAhead, IsToCome, IsPassed, AreLeft, PiecesLeft, IsLeafRead, IsInteriorRead}
+use Rattle.sqsalvage.specs.Reached.{HoldsPayloads, IsLeaf, IsOfTree, IsPiece, NamesFrom}
+use Rattle.sqsalvage.specs.SalvageCursor.{IsMarked, ArePending, HasPlacesOnce, early_count, IsAhead, IsToCome, IsPassed, AreLeft, PiecesLeft, IsHolderRead, IsLeafRead, IsInteriorRead}
 
 -- Page p wasn't marked and is now.
 pub record Marks (old new : List Bool) (p : ℕ) : Type 0 where
@@ -114,7 +114,7 @@ pub record Goes (d : Database) (start : Salvage) (usable : ℕ) (marks : List Bo
   pub left : (pieces : List Piece) → AreLeft d start.table marks pending pieces → PiecesLeft d start pieces
   pub passed : (p : ℕ) → IsPassed d start p ↔ (IsMarked marks p ⊎ IsToCome d start.table marks pending p)
 
--- What page p is where one is looked for that no tree reached: such a leaf, or none.
+-- What page p is where one is looked for that no tree reached: such a page, or none.
 abbrev pub IsFound : Database → (marks : List Bool) → (p : ℕ) → Option TreePage → Type 0
-IsFound d marks p None = IsLeaf d true p → IsMarked marks p
-IsFound d marks p (Some page) = IsLeafRead d true p page × ¬ IsMarked marks p
+IsFound d marks p None = HoldsPayloads d p → IsMarked marks p
+IsFound d marks p (Some page) = IsHolderRead d p page × ¬ IsMarked marks p

@@ -1,10 +1,10 @@
-use Rattle.std.proofs.Common.{◌≡◌, ◌∙◌, ◌∷◌, [], ◌+◌, ◌≤◌, ℕ, List, Bool, true, Option, Some, None, length, subst, sym, ap, refl, arith}
+use Rattle.std.proofs.Common.{◌≡◌, ◌∙◌, ◌∷◌, [], ◌+◌, ◌≤◌, ℕ, List, Bool, Option, Some, None, length, subst, sym, ap, refl, arith}
 use Rattle.sqval.specs.Database.{Database}
 use Rattle.sqpage.specs.Freelist.{usable_size}
 use Rattle.sqsalvage.specs.declared.page.TreePage.{TreePage}
 use Rattle.sqsalvage.specs.internal.Taking.{IsFound}
-use Rattle.sqsalvage.proofs.LostLeaves.{none_lost, first_lost, ended_lost}
-use Rattle.sqsalvage.proofs.PagesOfTrees.{leaf_read}
+use Rattle.sqsalvage.proofs.LostPages.{none_lost, first_lost, ended_lost}
+use Rattle.sqsalvage.proofs.PagesOfTrees.{holds_read}
 use Rattle.sqsalvage.proofs.cursor.Salvage.next_lost.Goals as goal
 
 -- what was found, of the database that the walk began with
@@ -19,7 +19,7 @@ returns-in-Ok-Some-clause-ok g c = λ right over.
     let p : ℕ = c.pages.self.at + 1 in
     let marks = c.pages.self.marks.items in
     let is = found_here d e marks p c.in-Ok-Some.field-0 (Some c.in-Ok-Some.page) i.kept.same_pages c.in-Ok-Some.field-0-is (c.in-Ok-Some.ensures.ok (i.kept.still_right right) (i.usable ∙ over.0 ∙ sym (ap usable_size i.kept.same_pages))) in
-    (p, is.0, λ leaves l. i.left right over (p ∷ leaves) (first_lost d marks c.pages.self.at p leaves refl (leaf_read d true p c.in-Ok-Some.page is.0.0 is.0.1 is.0.2) is.1 l))
+    (p, is.0, λ leaves l. i.left right over (p ∷ leaves) (first_lost d marks c.pages.self.at p leaves refl (holds_read d p c.in-Ok-Some.page is.0.0 is.0.1 is.0.2) is.1 l))
 
 pub pages-preserved : goal.pages-preserved
 pages-preserved g c =
