@@ -3,8 +3,12 @@
 of a cell pointer changed, cut at each sector, and on the files that are named. Prints for each kind of damage what the
 program gives up, and the cells that it leaves out or writes beyond the twin.
 
-    tests/salvage_trials.py small [KIND..] | files FILE.. | corpus FOLDER [EVERY]"""
+    tests/salvage_trials.py small [KIND..] | files FILE.. | corpus FOLDER [EVERY] | recover COUNTS FOLDER
+
+The last form damages the files of FOLDER in eight ways, and counts by kind how many of the rows that a file had are kept:
+by .recover, as COUNTS has it, by the twin, and by the program."""
 import collections
+import json
 import random
 import re
 import sqlite3
@@ -177,6 +181,99 @@ def damages(content, size, kinds):
                 yield "swapped", f"pages {q + 1} and {p + 1}", b"".join(pages)
 
 
+# ---- the files of others, damaged in eight ways
+
+
+def damaged(content, kind, draw):
+    """As the counts of .recover were made."""
+    content = bytearray(content)
+    size = int.from_bytes(content[16:18], "big")
+    size = 65536 if size == 1 else size
+    count = len(content) // size
+
+    def page():
+        return draw.randrange(2, count + 1) if count > 1 else 1
+
+    if kind == "zeropage":
+        for _ in range(max(1, count // 50)):
+            p = page()
+            content[(p - 1) * size:p * size] = bytes(size)
+    elif kind == "bytes":
+        for _ in range(max(4, count // 10)):
+            at = draw.randrange(size, len(content)) if count > 1 else draw.randrange(100, len(content))
+            content[at] = draw.randrange(256)
+    elif kind == "page1":
+        content[100:size] = bytes(size - 100)
+    elif kind == "header":
+        for _ in range(8):
+            content[draw.randrange(0, 100)] = draw.randrange(256)
+    elif kind == "trunc":
+        content = content[:max(size, int(len(content) * draw.uniform(0.4, 0.95)))]
+    elif kind == "swap":
+        for _ in range(max(1, count // 60)):
+            p, q = page(), page()
+            one = content[(p - 1) * size:p * size]
+            content[(p - 1) * size:p * size] = content[(q - 1) * size:q * size]
+            content[(q - 1) * size:q * size] = one
+    elif kind == "ptr":
+        for _ in range(max(3, count // 20)):
+            p = page()
+            at = (p - 1) * size + draw.randrange(0, min(40, size))
+            content[at] = draw.randrange(256)
+    elif kind == "sector":
+        for _ in range(max(1, count // 40)):
+            at = draw.randrange(size // 512 if count > 1 else 1, len(content) // 512) * 512
+            content[at:at + 512] = bytes(draw.randrange(256) for _ in range(512))
+    return bytes(content)
+
+
+KINDS = ("zeropage", "bytes", "page1", "header", "trunc", "swap", "ptr", "sector")
+
+
+def row_key(it):
+    return it.rowid, tuple(map(repr, it.values))
+
+
+def rows_of(content):
+    """The rows of the user's tables, with their tables."""
+    rows = [it for it in Salvage(content).rows() if it.into is not None and not it.into.startswith("sqlite_")]
+    return collections.Counter(map(row_key, rows))
+
+
+def recover(counts, folder, made_in):
+    sums = collections.defaultdict(collections.Counter)
+    for line in open(counts):
+        told = json.loads(line)
+        path = Path(folder) / told["file"]
+        if not path.exists():
+            continue
+        content, kind = path.read_bytes(), told["kind"]
+        bad = damaged(content, kind, random.Random(f"{told['file']}{kind}{told['seed']}"))
+        was, twin = rows_of(content), Salvage(bad)
+        saved = collections.Counter(map(row_key, twin.rows()))
+        count = sums[kind]
+        count["files"] += 1
+        count["rows"] += told["rows"]
+        count["counted"] += sum(was.values())
+        count[".recover"] += sum(told[it] for it in ("recover_tables", "recover_lost_and_found", "recover_without_rowid"))
+        count["twin"] += sum((was & saved).values())
+        ran, script = run_one(made_in, bad)
+        if script is None:
+            count["no OUT"] += 1
+        elif b"rootpgno" in script:
+            places = written(script)[0]
+            kept = collections.Counter(row_key(it) for it in twin.rows() if (it.page, it.cell) in places)
+            count["program"] += sum((was & kept).values())
+        else:
+            count["program"] += sum((was & saved).values())
+        missing = sum(told[it] for it in ("recover_tables", "recover_lost_and_found", "recover_without_rowid")) - sum(
+            (was & saved).values())
+        if missing > 0:
+            print("  twin keeps fewer", told["file"], kind, missing, twin.counts(), flush=True)
+    for kind in KINDS:
+        print(kind, dict(sums[kind]), flush=True)
+
+
 def main(words):
     report = Report()
     with tempfile.TemporaryDirectory() as name:
@@ -188,6 +285,8 @@ def main(words):
                 print(one, len(content) // 512, "pages", flush=True)
                 for kind, what, bad in damages(content, 512, kinds):
                     report.add(f"{one} {kind}", what, bad, folder)
+        elif words[0] == "recover":
+            return recover(words[1], words[2], folder)
         elif words[0] == "files":
             for path in words[1:]:
                 report.add("files", path, Path(path).read_bytes(), folder)

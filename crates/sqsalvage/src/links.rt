@@ -66,6 +66,7 @@ impl<'a> Links<'a> {
 }
 
 /// Where chains lead, page by page, as far as it is known: how many pages, and the last one.
+#[derive(Drop)]
 struct Found {
     left: Vec<u32>,
     last: Vec<u32>,
