@@ -1,4 +1,6 @@
+pub mod Grounds
 pub mod Books
+pub mod Indexes
 pub mod Marks
 pub mod Lost
 pub mod Cells

@@ -4,6 +4,8 @@ use Rattle.std.specs.Fmt.{decimal, signed_decimal}
 use Rattle.sqpage.specs.declared.cell.Cell.{Cell}
 use Rattle.sqpage.specs.Chain.{payload_size}
 use Rattle.cli_row_text.specs.Lines.{hex_literal}
+use Rattle.sqsalvage.specs.declared.chains.Claim.{Claim}
+use Rattle.sqsalvage.specs.declared.chains.Claim.TheVariants.{Own, Cut, Shared}
 
 -- the place of cell i of page p, from 0
 abbrev pub place_text : (p i : ℕ) → List ℕ
@@ -30,6 +32,12 @@ rowid_text (Some id) = codes "rowid " ++ (signed_decimal id ++ codes ", ")
 -- its rowid, and how many bytes its payload has
 abbrev pub size_text : Cell → List ℕ
 size_text cell = rowid_text cell.rowid ++ (decimal (payload_size cell) ++ codes " bytes, ")
+
+-- why no payload of a cell is read
+abbrev pub why_text : Claim → List ℕ
+why_text Own = []
+why_text Cut = codes "cut off"
+why_text Shared = codes "shares a chain"
 
 -- a cell of which no row is written, why not, and these bytes of it
 abbrev pub mark_text : (i : ℕ) → Cell → (why bytes : List ℕ) → List ℕ

@@ -12,3 +12,5 @@ pub mod StepsOfWalk
 pub mod TurnsOfWalk
 -- The pages that no tree reached, one by one.
 pub mod LostPages
+-- Where chains end, page by page.
+pub mod EndsOfChains

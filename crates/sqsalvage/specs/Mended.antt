@@ -1,34 +1,35 @@
 -- A database as it is read where it may be damaged: its header as one that can be used, and zeros in the place of each page of
 -- which nothing is there (own).
-use Rattle.std.specs.Prelude.{◌≡◌, ◌⊎◌, ℕ, ◌-◌, ◌<◌, ◌≤◌, ◌==◌, ◌||◌, nat_lt, if◌then◌else◌, Bool, not, List, length, map, get_or, replicate}
+use Rattle.std.specs.Prelude.{◌≡◌, ◌⊎◌, ℕ, ◌-◌, ◌==◌, ◌||◌, ◌++◌, nat_lt, if◌then◌else◌, Bool, List, length, map, get_or, set, drop, replicate}
 use Rattle.std.specs.List.{range_with_len}
 use Rattle.sqval.specs.Database.{Database, page}
 use Rattle.sqpage.specs.Freelist.{IsPage}
 use Rattle.sqpage.specs.Header.{byte, magic}
+use Rattle.sqpage.specs.Lists.{Every}
 use Rattle.sqpage.specs.Page.{head_at}
 
--- The byte at a place of the header: in the first 16 those that each database begins with, in byte 20 this number, otherwise what
--- stands there.
-abbrev pub mended_byte : (reserved place b : ℕ) → ℕ
-mended_byte reserved place b = if nat_lt place 16 then get_or magic place 0 else (if place == 20 then reserved else b)
-
-unfoldable pub mended_first : (reserved : ℕ) → List ℕ → List ℕ
-mended_first reserved bytes = map (λ i. mended_byte reserved i (get_or bytes i 0)) (range_with_len 0 (length bytes))
+-- page 1 with the bytes that each database begins with, and so many reserved bytes
+abbrev pub mended_first : (reserved : ℕ) → List ℕ → List ℕ
+mended_first reserved bytes = set (magic ++ drop 16 bytes) 20 reserved
 
 -- how many bytes of page p are there
 abbrev pub there_in : (there : List ℕ) → (p : ℕ) → ℕ
 there_in there p = get_or there (p - 1) 0
 
 -- a page, or zeros if nothing of it is there
-abbrev pub kept_page : Database → (there : List ℕ) → (p : ℕ) → List ℕ
-kept_page d there p = if there_in there p == 0 then replicate (length (page d p)) 0 else page d p
+abbrev pub kept_page : Database → (size : ℕ) → (there : List ℕ) → (p : ℕ) → List ℕ
+kept_page d size there p = if there_in there p == 0 then replicate size 0 else page d p
 
-abbrev pub mended_page : Database → (reserved : ℕ) → (there : List ℕ) → (p : ℕ) → List ℕ
-mended_page d reserved there p = if p == 1 then mended_first reserved (kept_page d there p) else kept_page d there p
+abbrev pub mended_page : Database → (size reserved : ℕ) → (there : List ℕ) → (p : ℕ) → List ℕ
+mended_page d size reserved there p = if p == 1 then mended_first reserved (kept_page d size there p) else kept_page d size there p
 
 -- The database of these pages.
-unfoldable pub mended : Database → (reserved : ℕ) → (there : List ℕ) → Database
-mended d reserved there = map (mended_page d reserved there) (range_with_len 1 (length d))
+unfoldable pub mended : Database → (size reserved : ℕ) → (there : List ℕ) → Database
+mended d size reserved there = map (mended_page d size reserved there) (range_with_len 1 (length d))
+
+-- each page has this size
+abbrev pub AreSized : (size : ℕ) → Database → Type 0
+AreSized size d = Every (λ (bytes : List ℕ). length bytes ≡ size) d
 
 -- its type byte is that of an interior page of a tree
 abbrev pub seems_interior : Database → (p : ℕ) → Bool
@@ -42,6 +43,10 @@ used_bytes d size has p = if nat_lt has size then (if seems_interior d p then 0 
 pub record AreThere (d : Database) (size : ℕ) (has : ℕ → ℕ) (there : List ℕ) : Type 0 where
   pub sized : length there ≡ length d
   pub each : (p : ℕ) → IsPage d p → (there_in there p ≡ used_bytes d size (has p) p) ⊎ (there_in there p ≡ 0)
+
+-- whether so many pages are there whole, by page
+abbrev pub whole_of : (size : ℕ) → (there : List ℕ) → List Bool
+whole_of size there = map (λ n. n == size) there
 
 -- The same where each page could be read.
 abbrev pub AreAllThere : Database → (size : ℕ) → (has : ℕ → ℕ) → (there : List ℕ) → Type 0

@@ -4,6 +4,7 @@
 
 mod bytes;
 mod chains;
+mod claims;
 mod cursor;
 mod leaves;
 mod links;

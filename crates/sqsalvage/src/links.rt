@@ -39,12 +39,7 @@ impl<'a> Links<'a> {
 
     /// Follows a chain from the number `from` on, over pages that weren't seen: marks them, and puts them on the path.
     /// Answers the number at which it came out: that of no page that is there whole, or of one that was seen.
-    fn follow(
-        &self,
-        seen: &mut [bool],
-        path: &mut Vec<u32>,
-        from: u32,
-    ) -> Result<u32, AllocError>
+    fn follow(&self, seen: &mut [bool], path: &mut Vec<u32>, from: u32) -> Result<u32, AllocError>
         requires sized { (length self.now.whole.now ≡ length self.now.next.now)
             × (length seen.old ≡ length self.now.next.now) }
         requires empty { path.old.items ≡ [] }
@@ -196,7 +191,8 @@ fn links_read<S: PageSource>(
     ensures keeps { KeepsPages S.pages S.size S.reads_right S.gives_pages source.old source.new }
 {
     let size = source.page_size().get() as usize;
-    let (Ok(mut bytes), Ok(mut next)) = (room(alloc, size), Vec::with_capacity(alloc, whole.len())) else {
+    let (Ok(mut bytes), Ok(mut next)) = (room(alloc, size), Vec::with_capacity(alloc, whole.len()))
+    else {
         return Err(no_memory());
     };
     'pages: for i in 0..whole.len() {
@@ -236,11 +232,9 @@ impl Chains {
         ensures keeps { KeepsPages S.pages S.size S.reads_right S.gives_pages source.old source.new }
     {
         let next = links_read(alloc, source, whole)?;
-        let links = Links {
-            next: &next,
-            whole,
-        };
-        let (Ok(found), Ok(taken)) = (Found::of(alloc, links), vec![in alloc; false; whole.len()]) else {
+        let links = Links { next: &next, whole };
+        let (Ok(found), Ok(taken)) = (Found::of(alloc, links), vec![in alloc; false; whole.len()])
+        else {
             return Err(no_memory());
         };
         let Found { left, last } = found;
