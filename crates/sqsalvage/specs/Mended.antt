@@ -1,6 +1,6 @@
 -- A database as it is read where it may be damaged: its header as one that can be used, and zeros in the place of each page of
 -- which nothing is there (own).
-use Rattle.std.specs.Prelude.{◌≡◌, ◌⊎◌, ℕ, ◌-◌, ◌==◌, ◌||◌, ◌++◌, nat_lt, if◌then◌else◌, Bool, List, length, map, get_or, set, drop, replicate}
+use Rattle.std.specs.Prelude.{◌≡◌, ◌⊎◌, ℕ, ◌-◌, ◌==◌, ◌||◌, ◌++◌, nat_lt, false, if◌then◌else◌, Bool, List, length, map, get_or, set, drop, replicate}
 use Rattle.std.specs.List.{range_with_len}
 use Rattle.sqval.specs.Database.{Database, page}
 use Rattle.sqpage.specs.Freelist.{IsPage}
@@ -12,24 +12,28 @@ use Rattle.sqpage.specs.Page.{head_at}
 abbrev pub mended_first : (reserved : ℕ) → List ℕ → List ℕ
 mended_first reserved bytes = set (magic ++ drop 16 bytes) 20 reserved
 
--- how many bytes of page p are there
-abbrev pub there_in : (there : List ℕ) → (p : ℕ) → ℕ
-there_in there p = get_or there (p - 1) 0
+-- a page, or zeros if it is gone
+abbrev pub kept_page : Database → (size : ℕ) → (gone : List Bool) → (p : ℕ) → List ℕ
+kept_page d size gone p = if get_or gone (p - 1) false then replicate size 0 else page d p
 
--- a page, or zeros if nothing of it is there
-abbrev pub kept_page : Database → (size : ℕ) → (there : List ℕ) → (p : ℕ) → List ℕ
-kept_page d size there p = if there_in there p == 0 then replicate size 0 else page d p
-
-abbrev pub mended_page : Database → (size reserved : ℕ) → (there : List ℕ) → (p : ℕ) → List ℕ
-mended_page d size reserved there p = if p == 1 then mended_first reserved (kept_page d size there p) else kept_page d size there p
+abbrev pub mended_page : Database → (size reserved : ℕ) → (gone : List Bool) → (p : ℕ) → List ℕ
+mended_page d size reserved gone p = if p == 1 then mended_first reserved (kept_page d size gone p) else kept_page d size gone p
 
 -- The database of these pages.
-unfoldable pub mended : Database → (size reserved : ℕ) → (there : List ℕ) → Database
-mended d size reserved there = map (mended_page d size reserved there) (range_with_len 1 (length d))
+unfoldable pub mended : Database → (size reserved : ℕ) → (gone : List Bool) → Database
+mended d size reserved gone = map (mended_page d size reserved gone) (range_with_len 1 (length d))
 
 -- each page has this size
 abbrev pub AreSized : (size : ℕ) → Database → Type 0
 AreSized size d = Every (λ (bytes : List ℕ). length bytes ≡ size) d
+
+-- how many bytes of page p are there
+abbrev pub there_in : (there : List ℕ) → (p : ℕ) → ℕ
+there_in there p = get_or there (p - 1) 0
+
+-- a page of which nothing is there is gone
+abbrev pub gone_of : (there : List ℕ) → List Bool
+gone_of there = map (λ n. n == 0) there
 
 -- its type byte is that of an interior page of a tree
 abbrev pub seems_interior : Database → (p : ℕ) → Bool

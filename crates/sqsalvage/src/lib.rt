@@ -22,7 +22,7 @@ mod tree_page;
 
 pub use chains::{Chains, Claim};
 pub use cursor::{Piece, Salvage};
-pub use mended::Mended;
+pub use mended::{Mended, whole_of};
 pub use page::TreePage;
 pub use part_source::PartSource;
 pub use parts::parts_at;

@@ -1,9 +1,10 @@
 //! A database as it is read where it may be damaged (own).
-ghost use Rattle.std.specs.Prelude.{◌≡◌, ◌⊎◌, ◌<◌, ◌≤◌, ℕ, length, IfOk};
+ghost use Rattle.std.specs.Prelude.{◌≡◌, ◌⊎◌, ◌-◌, ◌<◌, ◌≤◌, ℕ, false, get_or, length, IfOk};
 ghost use Rattle.sqval.specs.Database.{Database, page};
 ghost use Rattle.sqpage.specs.Freelist.{IsPage};
 ghost use Rattle.sqpage.specs.Source.{KeepsPages};
-ghost use Rattle.sqsalvage.specs.Mended.{AreAllThere, AreSized, AreThere, mended, mended_first, there_in, used_bytes};
+ghost use Rattle.sqsalvage.specs.Mended.{AreAllThere, AreSized, AreThere, gone_of, mended, mended_first};
+ghost use Rattle.sqsalvage.specs.Mended.{there_in, used_bytes, whole_of};
 
 use crate::part_source::PartSource;
 use crate::tree_page::room;
@@ -17,15 +18,15 @@ const MAGIC: [u8; 16] = *b"SQLite format 3\0";
 /// Where the header of page 1 as a b-tree page begins, behind the file's header.
 const FIRST_HEAD: usize = 100;
 
-/// A database of which it is known how much of each page is there. Its header is one that can be used: what the file has
-/// in byte 20, which says how many bytes of each page are reserved, and in the first 16, doesn't matter. A page of which
-/// nothing is there, as one that neither file nor log has or that can't be read, is zeros.
+/// A database with a header that can be used: what the file has in byte 20, which says how many bytes of each page are
+/// reserved, and in the first 16, doesn't matter. A page that is gone, as one that neither file nor log has or that can't
+/// be read, is zeros.
 #[derive(Drop)]
 pub struct Mended<S> {
     pub(crate) source: S,
     pub(crate) reserved: u8,
-    /// By page, from 1: how many of its bytes are there.
-    pub(crate) there: Vec<u32>,
+    /// By page, from 1: whether it is gone.
+    pub(crate) gone: Vec<bool>,
 }
 
 /// Makes of these bytes, which are those of page 1, ones with a header that can be used.
@@ -35,17 +36,6 @@ fn mend(bytes: &mut [u8], reserved: u8)
 {
     bytes[..16].copy_from_slice(&MAGIC);
     bytes[20] = reserved;
-}
-
-impl<S> Mended<S> {
-    /// How many bytes of page `p` are there.
-    pub fn there(&self, p: u32) -> u32
-        requires { 0 < p }
-        ensures { result ≡ there_in self.now.there.items p }
-    {
-        let i = p as usize - 1;
-        if i < self.there.len() { self.there[i] } else { 0 }
-    }
 }
 
 /// How much of page `p` is used where so much of it is there: all, but nothing of an interior page that is cut.
@@ -117,41 +107,80 @@ fn looked<S: PageSource>(
     Ok(there)
 }
 
+/// Which pages are gone, of each of which so many bytes are there.
+fn gone_of(alloc: Global, there: &[u32]) -> Result<Vec<bool>, AllocError>
+    ensures { IfOk result (λ gone. gone.items ≡ gone_of there.now) }
+{
+    let mut gone = Vec::with_capacity(alloc, there.len())?;
+    for n in there {
+        gone.push(*n == 0)?;
+    }
+    Ok(gone)
+}
+
+/// Which pages of this size are there whole.
+pub fn whole_of(alloc: Global, size: PageSize, there: &[u32]) -> Result<Vec<bool>, AllocError>
+    ensures { IfOk result (λ whole. whole.items ≡ whole_of size there.now) }
+{
+    let mut whole = Vec::with_capacity(alloc, there.len())?;
+    for n in there {
+        whole.push(*n == size.get())?;
+    }
+    Ok(whole)
+}
+
 impl<S: PartSource + Drop> Mended<S> {
-    /// The database of this source, of which so many bytes of each page are reserved. Each page is read once, to see
-    /// whether it can be.
-    pub fn of(alloc: Global, source: S, reserved: u8) -> Result<Mended<S>, AllocError>
-        ensures right { S.reads_right source → IfOk result (λ m. AreThere (S.pages source) (S.size source)
-            (S.bytes_there source) m.there.items) }
-        ensures all { S.gives_pages source → IfOk result (λ m. AreAllThere (S.pages source) (S.size source)
-            (S.bytes_there source) m.there.items) }
-        ensures same { IfOk result (λ m. (m.reserved ≡ reserved)
-            × KeepsPages S.pages S.size S.reads_right S.gives_pages source m.source) }
+    /// The database of this source, of which so many bytes of each page are reserved, and how many bytes of each page are
+    /// there. Each page is read once, to see whether it can be.
+    pub fn of(
+        alloc: Global,
+        source: S,
+        reserved: u8,
+    ) -> Result<(Mended<S>, Vec<u32>), AllocError>
+        ensures right { S.reads_right source → IfOk result (λ found. AreThere (S.pages source) (S.size source)
+            (S.bytes_there source) found.1.items) }
+        ensures all { S.gives_pages source → IfOk result (λ found. AreAllThere (S.pages source) (S.size source)
+            (S.bytes_there source) found.1.items) }
+        ensures same { IfOk result (λ found. (found.0.reserved ≡ reserved) × (found.0.gone.items ≡ gone_of found.1.items)
+            × KeepsPages S.pages S.size S.reads_right S.gives_pages source found.0.source) }
         // Each page of it has that size.
-        ensures sized { S.reads_right source → IfOk result (λ m. AreSized (S.size source)
-            (mended (S.pages source) (S.size source) reserved m.there.items)) }
+        ensures sized { S.reads_right source → IfOk result (λ found. AreSized (S.size source)
+            (mended (S.pages source) (S.size source) reserved (gone_of found.1.items))) }
     {
         let mut source = source;
         let has = all_there(alloc, &source)?;
         let there = looked(alloc, &mut source, &has)?;
-        Ok(Mended {
+        let gone = gone_of(alloc, &there)?;
+        let mended = Mended {
             source,
             reserved,
-            there,
-        })
+            gone,
+        };
+        Ok((mended, there))
+    }
+}
+
+impl<S> Mended<S> {
+    /// Whether page `p` is gone.
+    fn is_gone(&self, p: u32) -> bool
+        requires { 0 < p }
+        ensures { result ≡ get_or self.now.gone.items (p - 1) false }
+    {
+        let i = p as usize - 1;
+        i < self.gone.len() && self.gone[i]
     }
 }
 
 impl<S: PageSource> PageSource for Mended<S> {
-    ghost pages = { λ m. mended (S.pages m.source) (S.size m.source) m.reserved m.there.items };
+    ghost pages = { λ m. mended (S.pages m.source) (S.size m.source) m.reserved m.gone.items };
 
     ghost size = { λ m. S.size m.source };
 
     ghost reads_right = { λ m. S.reads_right m.source
-        × AreSized (S.size m.source) (mended (S.pages m.source) (S.size m.source) m.reserved m.there.items) };
+        × AreSized (S.size m.source) (mended (S.pages m.source) (S.size m.source) m.reserved m.gone.items) };
 
     ghost gives_pages = { λ m. S.gives_pages m.source
-        × AreSized (S.size m.source) (mended (S.pages m.source) (S.size m.source) m.reserved m.there.items) };
+        × AreSized (S.size m.source) (mended (S.pages m.source) (S.size m.source) m.reserved m.gone.items) };
 
     ghost right = { λ m gives. (S.right m.source gives.0, gives.1) };
 
@@ -164,12 +193,13 @@ impl<S: PageSource> PageSource for Mended<S> {
     }
 
     fn page(&mut self, p: u32, out: &mut [u8]) -> Result<(), SourceError> {
-        if self.there(p) == 0 {
+        let size = self.source.page_size().get() as usize;
+        if self.is_gone(p) {
             out.fill(0);
         } else {
             self.source.page(p, out)?;
         }
-        if p == 1 {
+        if p == 1 && size > 20 {
             mend(out, self.reserved);
         }
         Ok(())
