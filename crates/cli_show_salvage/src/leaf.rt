@@ -1,9 +1,9 @@
-//! Leaves, and the other pieces of trees.
+//! The cells of pages, and of the other pieces of trees.
 ghost use Rattle.std.specs.Prelude.{◌≡◌, ◌≤◌, true, OnOk, IfErr};
 ghost use Rattle.sqpage.specs.Page.{cell_count, has_payload};
 ghost use Rattle.sqpage.specs.Source.{KeepsPages};
 ghost use Rattle.sqsalvage.specs.TreePages.{page_of};
-ghost use Rattle.cli_show_salvage.specs.Cells.{IsRunOut};
+ghost use Rattle.cli_show_salvage.specs.Grounds.{HasChains, IsStopped, KeepsChains, ground_in};
 ghost use Rattle.cli_show_salvage.specs.Leaves.{AreCellsTold};
 ghost use Rattle.cli_show_salvage.specs.internal.Walks.{IsReadTold};
 
@@ -14,7 +14,7 @@ use sqpage::PageSource;
 use sqsalvage::{PieceRead, TreePage};
 use std::io::Write;
 
-/// Writes what stands in the cells of a leaf.
+/// Writes what stands in the cells of a page.
 pub(crate) fn print_leaf<S: PageSource, W: Write>(
     source: &mut S,
     target: &Target<'_>,
@@ -24,9 +24,12 @@ pub(crate) fn print_leaf<S: PageSource, W: Write>(
 ) -> Result<(), Stop>
     requires payload { has_payload page.now.kind ≡ true }
     requires usable { page.now.usable ≤ S.size source.old }
-    ensures ok { S.gives_pages source.old → OnOk result (AreCellsTold (S.pages source.old) target.now (page_of page.now)
+    ensures ok { S.reads_right source.old → HasChains (S.pages source.old) (S.size source.old) book.old → OnOk result
+        (AreCellsTold (ground_in (S.pages source.old) (S.size source.old) book.old) target.now (page_of page.now)
         book.old (W.contents out.old) (cell_count (page_of page.now)) book.new (W.contents out.new)) }
-    ensures err { S.gives_pages source.old → IfErr result IsRunOut }
+    ensures err { S.reads_right source.old → HasChains (S.pages source.old) (S.size source.old) book.old
+        → IfErr result (IsStopped (S.gives_pages source.old)) }
+    ensures chains { KeepsChains book.old book.new }
     ensures keeps { KeepsPages S.pages S.size S.reads_right S.gives_pages source.old source.new }
 {
     'cells: for i in 0..page.cells() {
@@ -48,9 +51,12 @@ pub(crate) fn print_piece<S: PageSource, W: Write>(
 ) -> Result<(), Stop>
     requires payload { has_payload read.now.page.kind ≡ true }
     requires usable { read.now.page.usable ≤ S.size source.old }
-    ensures ok { S.gives_pages source.old → OnOk result (IsReadTold (S.pages source.old) target.now
-        (page_of read.now.page) read.now.cell book.old book.new (W.contents out.old) (W.contents out.new)) }
-    ensures err { S.gives_pages source.old → IfErr result IsRunOut }
+    ensures ok { S.reads_right source.old → HasChains (S.pages source.old) (S.size source.old) book.old → OnOk result
+        (IsReadTold (ground_in (S.pages source.old) (S.size source.old) book.old) target.now (page_of read.now.page)
+        read.now.cell book.old book.new (W.contents out.old) (W.contents out.new)) }
+    ensures err { S.reads_right source.old → HasChains (S.pages source.old) (S.size source.old) book.old
+        → IfErr result (IsStopped (S.gives_pages source.old)) }
+    ensures chains { KeepsChains book.old book.new }
     ensures keeps { KeepsPages S.pages S.size S.reads_right S.gives_pages source.old source.new }
 {
     match read.cell {

@@ -1,15 +1,18 @@
 //! The table of lost rows.
-ghost use Rattle.std.specs.Prelude.{◌≡◌, ◌≤◌, ◌<◌, ◌^◌, ◌++◌, max, IfErr, IfOk, OnOk, codes, length, option_copied};
+ghost use Rattle.std.specs.Prelude.{◌≡◌, ◌++◌, max, IfErr, IfOk, OnOk, codes, length};
 ghost use Rattle.std.specs.Fmt.{decimal};
 ghost use Rattle.std.specs.Io.KnownBytes.{Appends};
 ghost use Rattle.sqval.specs.Datum.{row_of};
-ghost use Rattle.cli_show_salvage.specs.Lost.{IsLostRow, added_text, added_texts, head_text, made_text, named_texts};
-ghost use Rattle.cli_show_salvage.specs.Lost.{id_text, root_text};
+ghost use Rattle.cli_row_text.specs.Lines.{lead_text};
+ghost use Rattle.cli_row_text.specs.declared.form.Notation.TheVariants.{Sql};
+ghost use Rattle.cli_show_salvage.specs.Books.{with_lost};
 ghost use Rattle.cli_show_salvage.specs.Cells.{IsRunOut};
-ghost use Rattle.cli_show_salvage.specs.Lost.{where_text};
+ghost use Rattle.cli_show_salvage.specs.Grounds.{KeepsChains};
+ghost use Rattle.cli_show_salvage.specs.Lost.{IsLostRow, IsMovedRow, added_text, added_texts, head_text, id_text};
+ghost use Rattle.cli_show_salvage.specs.Lost.{made_text, moved_text, named_texts, root_text, where_text};
 
 use crate::book::{Book, Target};
-use cli_row_text::{Form, Notation, write_between, write_line};
+use cli_row_text::{Form, Notation, write_between, write_line, write_values};
 use cli_show_rows::Stop;
 use sqpage::Cell;
 use sqrows::Row;
@@ -122,9 +125,8 @@ fn write_row<W: Write>(
     width: usize,
     out: &mut W,
 ) -> io::Result<()>
-    ensures { OnOk result (IsLostRow target.now.encoding target.now.lost.now target.now.root cell.now (row_of
-        values.now) width
-        (max width (length values.now)) (W.contents out.old) (W.contents out.new)) }
+    ensures { OnOk result (IsLostRow target.now.encoding target.now.lost.now target.now.root cell.now
+        (row_of values.now) width (W.contents out.old) (W.contents out.new)) }
 {
     write_columns(out, target.lost, width, values.len())?;
     write_head(out, target.lost)?;
@@ -147,9 +149,10 @@ pub(crate) fn print_lost<W: Write>(
     out: &mut W,
 ) -> Result<(), Stop>
     ensures ok { OnOk result (IsLostRow target.now.encoding target.now.lost.now target.now.root cell.now
-        row.now.values book.old.width
-        book.new.width (W.contents out.old) (W.contents out.new)) }
-    ensures same { (book.new.rowids ≡ book.old.rowids) × (book.new.objects ≡ book.old.objects) }
+        row.now.values book.old.width (W.contents out.old) (W.contents out.new)) }
+    ensures same { OnOk result (book.new ≡ with_lost (record book.old
+        { width = max book.old.width (length row.now.values) })) }
+    ensures chains { KeepsChains book.old book.new }
     ensures err { IfErr result IsRunOut }
 {
     let values = match stored(book.alloc, row) {
@@ -158,9 +161,103 @@ pub(crate) fn print_lost<W: Write>(
     };
     match write_row(target, cell, &values, book.width, out) {
         Ok(()) => {
-            book.width = book.width.max(values.len());
+            book.widen(values.len());
+            book.count_lost();
             Ok(())
         }
+        Err(error) => Err(Stop::Write(error)),
+    }
+}
+
+/// Adds to the table of lost rows the columns for so many values that it lacks.
+pub(crate) fn print_widened<W: Write>(
+    target: &Target<'_>,
+    count: usize,
+    book: &mut Book,
+    out: &mut W,
+) -> Result<(), Stop>
+    ensures ok { OnOk result (Appends (W.contents out.old) (W.contents out.new)
+        (added_texts target.now.lost.now book.old.width count)) }
+    ensures same { book.new ≡ record book.old { width = max book.old.width count } }
+    ensures err { IfErr result IsRunOut }
+{
+    let width = book.width;
+    book.widen(count);
+    match write_columns(out, target.lost, width, count) {
+        Ok(()) => Ok(()),
+        Err(error) => Err(Stop::Write(error)),
+    }
+}
+
+/// The rowid of a row of so many values, if it has one, before these.
+fn write_id<W: Write>(out: &mut W, rowid: Option<i64>, count: usize) -> io::Result<()>
+    ensures { OnOk result (Appends (W.contents out.old) (W.contents out.new)
+        (id_text rowid count ++ lead_text Sql rowid count)) }
+{
+    match rowid {
+        Some(id) => {
+            write!(out, "{id}")?;
+            out.write_all(if count == 0 { b"" } else { b"," })
+        }
+        None => out.write_all(id_lead(rowid, count)),
+    }
+}
+
+/// The root of the tree of a row of a table, its page, how many values it has, and its rowid.
+fn write_moved<W: Write>(
+    out: &mut W,
+    root: Option<u32>,
+    cell: &Cell,
+    count: usize,
+) -> io::Result<()>
+    ensures { OnOk result (Appends (W.contents out.old) (W.contents out.new) (moved_text root cell.now count)) }
+{
+    out.write_all(b") SELECT ")?;
+    write_root(out, root)?;
+    let page = cell.page;
+    write!(out, ",{page},{count},")?;
+    write_id(out, cell.rowid, count)
+}
+
+/// An INSERT of these values into the table of lost rows, if the one before did nothing.
+fn write_if_ignored<W: Write>(
+    target: &Target<'_>,
+    cell: &Cell,
+    values: &[Value<'_>],
+    out: &mut W,
+) -> io::Result<()>
+    ensures { OnOk result (IsMovedRow target.now.encoding target.now.lost.now target.now.root cell.now
+        (row_of values.now) (W.contents out.old) (W.contents out.new)) }
+{
+    write_head(out, target.lost)?;
+    write_names(out, values.len())?;
+    write_moved(out, target.root, cell, values.len())?;
+    let form = Form {
+        notation: Notation::Sql,
+        encoding: target.encoding,
+    };
+    write_values(out, form, &[], values)?;
+    out.write_all(b" WHERE changes()=0;\n")
+}
+
+/// Writes a row of a table into the table of lost rows, for where SQLite ignored the INSERT before.
+pub(crate) fn print_moved<W: Write>(
+    alloc: Global,
+    target: &Target<'_>,
+    cell: &Cell,
+    row: &Row<'_>,
+    out: &mut W,
+) -> Result<(), Stop>
+    ensures ok { OnOk result (IsMovedRow target.now.encoding target.now.lost.now target.now.root cell.now
+        row.now.values (W.contents out.old) (W.contents out.new)) }
+    ensures err { IfErr result IsRunOut }
+{
+    let values = match stored(alloc, row) {
+        Ok(values) => values,
+        Err(_) => return Err(Stop::NoMemory),
+    };
+    match write_if_ignored(target, cell, &values, out) {
+        Ok(()) => Ok(()),
         Err(error) => Err(Stop::Write(error)),
     }
 }

@@ -3,10 +3,12 @@ ghost use Rattle.std.specs.Prelude.{◌≡◌, ◌≢◌, ℕ, ◌<◌, ◌^◌,
 ghost use Rattle.sqval.specs.Datum.{Datum, integer, text};
 ghost use Rattle.sqtables.specs.Objects.{IsNoObject, IsObjectOf};
 ghost use Rattle.cli_show_salvage.specs.Cells.{IsObjectIn};
+ghost use Rattle.cli_show_salvage.specs.Indexes.{IsIndexRow, IsNoIndexRow};
 
 use cli_show_rows::read_object;
 use sqdeep::Encoding;
 use sqtables::Object;
+use sqtext::decoded;
 use sqval::{Record, Value};
 use std::alloc::{AllocError, Global};
 
@@ -49,6 +51,23 @@ fn copied(
         root,
         sql: Vec::from_slice(alloc, sql)?,
     })
+}
+
+/// The root of a row of the schema, whose texts are stored in this encoding, if it is that of an index, also of one that
+/// a constraint made.
+pub(crate) fn index_root(
+    alloc: Global,
+    encoding: Encoding,
+    values: &Record<'_>,
+) -> Result<Option<u32>, AllocError>
+    ensures { IfOk result (λ found. MatchOption found (IsNoIndexRow encoding values.now)
+        (IsIndexRow encoding values.now)) }
+{
+    let (Some(kind), Some(root)) = (text_at(values, 0), number_at(values, 3)) else {
+        return Ok(None);
+    };
+    let read = decoded(alloc, encoding, kind)?;
+    Ok((read.as_slice() == b"index".as_slice()).then_some(root))
 }
 
 /// The object of a row of the schema. None where it is that of none with a text, as of an index that a constraint made.

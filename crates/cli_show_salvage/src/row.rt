@@ -1,14 +1,18 @@
 //! A row that stands in a cell, as it is written.
-ghost use Rattle.std.specs.Prelude.{◌≡◌, false, List, ℕ, IfErr, IsTrue, OnOk, length};
+ghost use Rattle.std.specs.Prelude.{◌≡◌, ◌≤◌, false, max, [], List, ℕ, IfErr, IsTrue, OnOk, length};
 ghost use Rattle.std.specs.Io.KnownBytes.{Appends};
 ghost use Rattle.cli_row_text.specs.Printed.{IsRowLine};
+ghost use Rattle.cli_show_salvage.specs.Grounds.{KeepsChains};
+ghost use Rattle.cli_show_salvage.specs.Indexes.{IsRootKept};
 ghost use Rattle.cli_show_salvage.specs.Marks.{placed_text};
-ghost use Rattle.cli_show_salvage.specs.Cells.{IsKept, IsLostTold, IsMarked, IsRowTold, IsRunOut, IsTableTold, Takes};
+ghost use Rattle.cli_show_salvage.specs.Cells.{IsKept, IsLostTold, IsMarked, IsRowTold, IsRowWritten, IsRunOut};
+ghost use Rattle.cli_show_salvage.specs.Cells.{IsTableTold, Takes};
+ghost use Rattle.cli_show_salvage.specs.Books.{with_unread};
 
 use crate::book::{Book, Going, Target};
-use crate::lost::print_lost;
+use crate::lost::{print_lost, print_moved, print_widened};
 use crate::marks::{id_of, write_mark, write_placed};
-use crate::object::object_in;
+use crate::object::{index_root, object_in};
 use cli_row_text::{Style, write_line};
 use cli_show_rows::Stop;
 use sqdeep::Encoding;
@@ -82,29 +86,66 @@ fn print_placed<W: Write>(target: &Target<'_>, held: Held<'_>, out: &mut W) -> R
     }
 }
 
+/// Writes a row of a table with few enough values, and behind it the same as a lost one, if SQLite ignores it.
+fn print_both<W: Write>(
+    target: &Target<'_>,
+    style: &Style<'_>,
+    cell: &Cell,
+    row: &Row<'_>,
+    book: &mut Book,
+    out: &mut W,
+) -> Result<(), Stop>
+    requires { length row.now.values ≤ 1996 }
+    ensures ok { OnOk result (IsRowWritten target.now style.now [] cell.now
+        (record { rowid = row.now.rowid; values = row.now.values }) book.old book.new
+        (W.contents out.old) (W.contents out.new)) }
+    ensures same { book.new ≡ record book.old { width = max book.old.width (length row.now.values) } }
+    ensures err { IfErr result IsRunOut }
+{
+    match print_widened(target, row.values.len(), book, out) {
+        Ok(()) => {}
+        Err(stop) => return Err(stop),
+    }
+    match write_taken(book.alloc, style, row, out) {
+        Ok(()) => {}
+        Err(stop) => return Err(stop),
+    }
+    print_moved(book.alloc, target, cell, row, out)
+}
+
 /// Writes a row as one of a table.
 fn print_taken<W: Write>(
     target: &Target<'_>,
-    style: &Style<'_>,
+    styles: (&Style<'_>, &[u8]),
     held: Held<'_>,
     row: &Row<'_>,
     book: &mut Book,
     out: &mut W,
 ) -> Result<(), Stop>
-    ensures ok { OnOk result (IsTableTold target.now.places style.now held.entry.i held.entry.cell.now
-        (record { rowid = row.now.rowid; values = row.now.values }) book.old book.new
+    ensures ok { OnOk result (IsTableTold target.now styles.entry.0.now styles.entry.1.now held.entry.i
+        held.entry.cell.now (record { rowid = row.now.rowid; values = row.now.values }) book.old book.new
         (W.contents out.old) (W.contents out.new)) }
+    ensures chains { KeepsChains book.old book.new }
     ensures err { IfErr result IsRunOut }
 {
+    let (style, plain) = styles;
     match book.add(id_of(held.cell)) {
         Ok(()) => {}
         Err(_) => return Err(Stop::NoMemory),
     }
+    book.count_row();
     match print_placed(target, held, out) {
         Ok(()) => {}
         Err(stop) => return Err(stop),
     }
-    write_taken(book.alloc, style, row, out)
+    if row.values.len() <= MOST_VALUES {
+        return print_both(target, style, held.cell, row, book, out);
+    }
+    let style = Style {
+        insert: plain,
+        ..*style
+    };
+    write_taken(book.alloc, &style, row, out)
 }
 
 /// Writes the line of a cell in the place of its row.
@@ -113,13 +154,15 @@ pub(crate) fn print_mark<W: Write>(
     cell: &Cell,
     why: &str,
     bytes: &[u8],
-    book: &Book,
+    book: &mut Book,
     out: &mut W,
 ) -> Result<(), Stop>
-    ensures ok { OnOk result (IsMarked i cell.now why.now bytes.now book.now book.now
+    ensures ok { OnOk result (IsMarked i cell.now why.now bytes.now book.old book.new
         (W.contents out.old) (W.contents out.new)) }
+    ensures counted { book.new ≡ with_unread book.old }
     ensures err { IfErr result IsRunOut }
 {
+    book.count_unread();
     match write_mark(out, i, cell, why, bytes) {
         Ok(()) => Ok(()),
         Err(error) => Err(Stop::Write(error)),
@@ -137,6 +180,7 @@ fn print_untaken<W: Write>(
     ensures ok { OnOk result (IsLostTold target.now held.entry.i held.entry.cell.now held.entry.bytes.now
         (record { rowid = row.now.rowid; values = row.now.values }) book.old book.new
         (W.contents out.old) (W.contents out.new)) }
+    ensures chains { KeepsChains book.old book.new }
     ensures err { IfErr result IsRunOut }
 {
     let Held { i, cell, bytes } = held;
@@ -150,6 +194,23 @@ fn print_untaken<W: Write>(
     print_lost(target, cell, row, book, out)
 }
 
+/// Keeps the root of a row of the schema, if it is that of an index.
+fn keep_root(encoding: Encoding, row: &Row<'_>, book: &mut Book) -> Result<(), Stop>
+    ensures ok { OnOk result (IsRootKept encoding row.now.values book.old book.new) }
+    ensures chains { KeepsChains book.old book.new }
+    ensures err { IfErr result IsRunOut }
+{
+    let root = match index_root(book.alloc, encoding, &row.values) {
+        Ok(Some(root)) => root,
+        Ok(None) => return Ok(()),
+        Err(_) => return Err(Stop::NoMemory),
+    };
+    match book.keep_root(root) {
+        Ok(()) => Ok(()),
+        Err(_) => Err(Stop::NoMemory),
+    }
+}
+
 /// Keeps the object of a row of the schema.
 fn keep<W: Write>(
     encoding: Encoding,
@@ -161,8 +222,13 @@ fn keep<W: Write>(
     ensures ok { OnOk result (IsKept encoding held.entry.i held.entry.cell.now held.entry.bytes.now
         (record { rowid = row.now.rowid; values = row.now.values }) book.old book.new
         (W.contents out.old) (W.contents out.new)) }
+    ensures chains { KeepsChains book.old book.new }
     ensures err { IfErr result IsRunOut }
 {
+    match keep_root(encoding, row, book) {
+        Ok(()) => {}
+        Err(stop) => return Err(stop),
+    }
     let object = match object_in(book.alloc, encoding, &row.values) {
         Ok(Some(object)) => object,
         Ok(None) => return print_mark(held.i, held.cell, "no statement", held.bytes, book, out),
@@ -185,13 +251,14 @@ pub(crate) fn print_row<W: Write>(
     ensures ok { OnOk result (IsRowTold target.now target.now.going held.entry.i held.entry.cell.now
         held.entry.bytes.now (record { rowid = row.now.rowid; values = row.now.values }) book.old book.new
         (W.contents out.old) (W.contents out.new)) }
+    ensures chains { KeepsChains book.old book.new }
     ensures err { IfErr result IsRunOut }
 {
     match &target.going {
         Going::Schema => keep(target.encoding, held, row, book, out),
         Going::Lost => print_untaken(target, held, row, book, out),
-        Going::Table(style) => if takes(style, held.cell, row, book) {
-            print_taken(target, style, held, row, book, out)
+        Going::Table(style, plain) => if takes(style, held.cell, row, book) {
+            print_taken(target, (style, plain), held, row, book, out)
         } else {
             print_untaken(target, held, row, book, out)
         },

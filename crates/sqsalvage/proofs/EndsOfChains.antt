@@ -2,11 +2,13 @@
 use Rattle.std.proofs.Common.{◌≡◌, ◌≢◌, ◌↔◌, ◌⊎◌, ℕ, zero, suc, ◌+◌, ◌-◌, ◌^◌, ◌<◌, ◌≤◌, List, [], ◌∷◌, ◌++◌, length, get_or, set, Bool, true, false, Option, Some, None, refl, sym, ap, subst, ◌∙◌, inl, inr, arith}
 use Rattle.std.proofs.lemmas.Bool.{cases_eq, cases_lt, false≢true}
 use Rattle.std.proofs.lemmas.List.{get_or-set_other, get_or-set_same, get_or_past}
+use Rattle.sqpage.specs.Freelist.{IsWithin}
 use Rattle.sqpage.specs.Lists.{In}
 use Rattle.sqpage.proofs.chain.ListsByRecursion.{in_cases}
 use Rattle.sqsalvage.specs.Chains.{Ends, IsEndBy, here, on}
 use Rattle.sqsalvage.specs.SalvageCursor.{IsMarked}
 use Rattle.sqsalvage.specs.internal.Links.{EndsBy, IsKnown, IsPath, IsPutDown, IsRight, IsSameAt, count_of, last_of, link_of}
+use Rattle.sqsalvage.specs.internal.Taking.{Marks}
 use Rattle.sqsalvage.proofs.MarkedPages.{marked_or_not}
 
 pub first_whole : (next : ℕ → ℕ) (W : ℕ → Type 0) {p n l : ℕ} → Ends next W p n l → W p
@@ -96,21 +98,27 @@ no_circle next whole from qs at n l path i h =
 -- A number in the place of which this was put down, or of which nothing is known.
 pub known_some : (next : List ℕ) (whole seen : List Bool) (left lasts : List ℕ) (at : ℕ) (found : ℕ × ℕ) → ((q : ℕ) → IsMarked seen q → IsRight next whole left lasts q)
     → ((q : ℕ) → 0 < q → ¬ IsMarked seen q → get_or left (q - 1) 0 ≡ 0) → found.0 < 2 ^ 32 → IsEndBy left lasts at found.0 found.1 → IsKnown next whole at (Some found)
-known_some next whole seen left lasts at found rights unseen small is = inr (is.1, elim (marked_or_not seen at) [
-  | inl m ↦ (rights at m found.0 found.1 small).1 is
-  | inr un ↦ (let zero_left : get_or left (at - 1) 0 ≡ 0 = unseen at is.0 un in let some : 0 < found.0 = is.1 in let same : get_or left (at - 1) 0 ≡ found.0 = is.2 in absurd (omega (arith, zero_left, some, same)))
-])
+known_some next whole seen left lasts at found rights unseen small is = inr (
+  is.1,
+  elim (marked_or_not seen at) [
+    | inl m ↦ (rights at m found.0 found.1 small).1 is
+    | inr un ↦ (let zero_left : get_or left (at - 1) 0 ≡ 0 = unseen at is.0 un in let some : 0 < found.0 = is.1 in let same : get_or left (at - 1) 0 ≡ found.0 = is.2 in absurd (omega (arith, zero_left, some, same)))
+  ],
+)
 
 pub known_none : (next : List ℕ) (whole seen now : List Bool) (left lasts : List ℕ) (from : ℕ) (qs : List ℕ) (at : ℕ) → ((q : ℕ) → IsMarked seen q → IsRight next whole left lasts q)
     → ((q : ℕ) → IsMarked now q ↔ (IsMarked seen q ⊎ In q qs)) → IsPath next whole from qs at → (¬ IsMarked whole at) ⊎ IsMarked now at
     → at ≢ 0 → ((n l : ℕ) → ¬ IsEndBy left lasts at n l) → IsKnown next whole at None
-known_none next whole seen now left lasts from qs at rights same path ended some none = (some, λ n l small h. elim ended [
-  | inl un ↦ un (first_whole (link_of next) (IsMarked whole) h)
-  | inr m ↦ elim ((same at).0 m) [
+known_none next whole seen now left lasts from qs at rights same path ended some none = (
+  some,
+  λ n l small h. elim ended [
+    | inl un ↦ un (first_whole (link_of next) (IsMarked whole) h)
+    | inr m ↦ elim ((same at).0 m) [
       | inl before ↦ none n l ((rights at before n l small).0 h)
       | inr i ↦ no_circle next whole from qs at n l path i h
     ]
-])
+  ],
+)
 
 -- what is known of a page by what it names
 suc_of : (next : List ℕ) (whole : List Bool) (q n m l : ℕ) → n ≡ suc m → EndsBy next whole q (suc m) l → EndsBy next whole q n l
@@ -153,6 +161,12 @@ more_long next whole at q c k known long w e = ((let up : 0 < q = w.0 in λ z. o
         let up : 0 < at = (first_whole (link_of next) (IsMarked whole) there).0 in
         let same : m ≡ c = (ends_once (link_of next) whole there (ends_there up)).0 in
         omega (arith, small, same, long)
+
+-- a page that wasn't marked is
+pub mark_done : (b : Bool) (old new : List Bool) (p : ℕ) → (b ≡ true → Marks old new p) → (b ≡ false → (new ≡ old) × (IsWithin (length old) p → IsMarked old p)) → IsWithin (length old) p → ¬ IsMarked old p
+    → Marks old new p
+mark_done true old new p yes no within un = yes refl
+mark_done false old new p yes no within un = absurd (un ((no refl).1 within))
 
 -- a page that is marked is one of them
 pub marked_within : (whole : List Bool) (q : ℕ) → IsMarked whole q → q ≤ length whole
@@ -244,13 +258,13 @@ settles_on next whole from all old path left lasts new_left new_lasts q known mo
   is = is;
   done = λ r i. elim (s.done r i) [
     | inl o ↦ elim (in_cases r path (q ∷ []) (subst (λ (xs : List ℕ). In r xs) e o)) [
-        | inl left_path ↦ inl left_path
-        | inr here_is ↦ inr (elim here_is [ inl same ↦ subst (λ (x : ℕ). IsRight next whole new_left new_lasts x) (sym same) right_here | inr none ↦ absurd none ])
-      ]
+      | inl left_path ↦ inl left_path
+      | inr here_is ↦ inr (elim here_is [ inl same ↦ subst (λ (x : ℕ). IsRight next whole new_left new_lasts x) (sym same) right_here | inr none ↦ absurd none ])
+    ]
     | inr right ↦ inr (elim (cases_eq r q) [
-        | inl same ↦ subst (λ (x : ℕ). IsRight next whole new_left new_lasts x) (sym same) right_here
-        | inr ne ↦ right_other r ne right
-      ])
+      | inl same ↦ subst (λ (x : ℕ). IsRight next whole new_left new_lasts x) (sym same) right_here
+      | inr ne ↦ right_other r ne right
+    ])
   ];
 }
   where
@@ -298,9 +312,9 @@ found_on next whole seen now left lasts new_left new_lasts path i at f leads sam
   rights = λ q m. elim (either q) [
     | inl in_path ↦ right q in_path
     | inr out ↦ elim ((same q).0 m) [
-        | inl before ↦ right_still next whole left lasts new_left new_lasts q (others q before.0 out) (f.rights q before)
-        | inr in_path ↦ absurd (out in_path)
-      ]
+      | inl before ↦ right_still next whole left lasts new_left new_lasts q (others q before.0 out) (f.rights q before)
+      | inr in_path ↦ absurd (out in_path)
+    ]
   ];
   unseen = λ q up un. (others q up (λ in_path. un ((same q).1 (inr in_path)))).0 ∙ f.unseen q up (λ before. un ((same q).1 (inl before)));
   done = λ q le m. elim (cases_eq q (i + 1)) [

@@ -6,6 +6,7 @@ mod bytes;
 mod chains;
 mod claims;
 mod cursor;
+mod guesses;
 mod leaves;
 mod links;
 mod lost;
@@ -22,6 +23,7 @@ mod tree_page;
 
 pub use chains::{Chains, Claim};
 pub use cursor::{Piece, Salvage};
+pub use guesses::reserved_in;
 pub use mended::{Mended, whole_of};
 pub use page::TreePage;
 pub use part_source::PartSource;

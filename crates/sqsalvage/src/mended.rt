@@ -82,11 +82,7 @@ fn all_there<S: PartSource>(alloc: Global, source: &S) -> Result<Vec<u32>, Alloc
 }
 
 /// How many bytes of each page are used, of which there are so many.
-fn looked<S: PageSource>(
-    alloc: Global,
-    source: &mut S,
-    has: &[u32],
-) -> Result<Vec<u32>, AllocError>
+fn looked<S: PageSource>(alloc: Global, source: &mut S, has: &[u32]) -> Result<Vec<u32>, AllocError>
     requires { length has.now ≡ length (S.pages source.old) }
     ensures right { S.reads_right source.old → IfOk result (λ there. AreThere (S.pages source.old) (S.size source.old)
         (there_in has.now) there.items) }
@@ -132,11 +128,7 @@ pub fn whole_of(alloc: Global, size: PageSize, there: &[u32]) -> Result<Vec<bool
 impl<S: PartSource + Drop> Mended<S> {
     /// The database of this source, of which so many bytes of each page are reserved, and how many bytes of each page are
     /// there. Each page is read once, to see whether it can be.
-    pub fn of(
-        alloc: Global,
-        source: S,
-        reserved: u8,
-    ) -> Result<(Mended<S>, Vec<u32>), AllocError>
+    pub fn of(alloc: Global, source: S, reserved: u8) -> Result<(Mended<S>, Vec<u32>), AllocError>
         ensures right { S.reads_right source → IfOk result (λ found. AreThere (S.pages source) (S.size source)
             (S.bytes_there source) found.1.items) }
         ensures all { S.gives_pages source → IfOk result (λ found. AreAllThere (S.pages source) (S.size source)
