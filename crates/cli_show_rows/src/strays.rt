@@ -7,7 +7,8 @@ ghost use Rattle.sqrows.specs.Cursor.{IsOver};
 ghost use Rattle.sqtables.specs.Objects.{IsNoObject, ListRefused};
 ghost use Rattle.sqtables.specs.Schema.{IsObjectRow};
 ghost use Rattle.sqtables.specs.internal.Listing.{NextRefused};
-ghost use Rattle.cli_show_rows.specs.Strays.{HasStrays, IsKeyIndex, IsStray, bytes_of, index_word, stray_bytes};
+ghost use Rattle.cli_show_rows.specs.Strays.{HasStrays, IsKeyIndex, IsStray, bytes_of, index_word, is_key_name};
+ghost use Rattle.cli_show_rows.specs.Strays.{key_prefix, stray_bytes};
 ghost use Rattle.cli_show_rows.specs.internal.Straying.{AddsStray, TakesStray};
 
 use sqdeep::Encoding;
@@ -86,6 +87,26 @@ fn index_word(encoding: Encoding) -> &'static [u8]
     }
 }
 
+/// What the name of an index that a constraint made begins with, as a database of this encoding stores it.
+fn key_prefix(encoding: Encoding) -> &'static [u8]
+    ensures { result.now ≡ key_prefix encoding }
+{
+    match encoding {
+        Encoding::Utf8 => b"sqlite_autoindex_",
+        Encoding::Utf16Le => b"s\0q\0l\0i\0t\0e\0_\0a\0u\0t\0o\0i\0n\0d\0e\0x\0_\0",
+        Encoding::Utf16Be => b"\0s\0q\0l\0i\0t\0e\0_\0a\0u\0t\0o\0i\0n\0d\0e\0x\0_",
+    }
+}
+
+/// Whether a name begins so. SQLite's names don't tell ASCII's small letters from its capitals.
+fn is_key_name(encoding: Encoding, name: &[u8]) -> bool
+    ensures { result ≡ is_key_name encoding name.now }
+{
+    let prefix = key_prefix(encoding);
+    let end = prefix.len().min(name.len());
+    name[..end].eq_ignore_ascii_case(prefix)
+}
+
 /// Whether a column is NULL.
 fn is_null(values: &Record<'_>, i: usize) -> bool
     ensures yes { IsTrue result → slice_get values.now i ≡ Some null }
@@ -105,10 +126,10 @@ fn is_key_index(encoding: Encoding, values: &Record<'_>) -> bool
     let Some(kind) = text_at(values, 0) else {
         return false;
     };
-    if kind != index_word(encoding) {
+    let Some(name) = text_at(values, 1) else {
         return false;
-    }
-    is_null(values, 4)
+    };
+    kind == index_word(encoding) && is_key_name(encoding, name) && is_null(values, 4)
 }
 
 /// Whether it is that of neither.
