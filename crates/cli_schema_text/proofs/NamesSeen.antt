@@ -6,7 +6,7 @@ use Rattle.std.proofs.Math.Seq.{drop-cons, drop-length}
 use Rattle.std.specs.List.{list_any}
 use Rattle.std.specs.Str.{bytes_eq, str_eq_ignore_ascii_case, str_to_ascii_lowercase}
 use Rattle.cli_schema_text.specs.Names.{are_distinct}
-use Rattle.cli_schema_text.specs.internal.Seen.{has_lowered}
+use Rattle.cli_schema_text.specs.Seen.{has_lowered}
 use Rattle.std.specs.Ordering.{is_eq, nat_cmp}
 use Rattle.std.specs.Cmp.Lexicographic.{slice_cmp}
 use Rattle.std.specs.Set.{KeepsOthers}

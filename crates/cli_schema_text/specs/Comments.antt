@@ -47,6 +47,10 @@ count_text n = if n == 0 then [] else codes "-- texts and tables left out: " ++ 
 abbrev pub stray_text : (bytes : List ℕ) → List ℕ
 stray_text bytes = left_out_text (codes "a row of the schema that is no object") bytes
 
+-- a table whose name one before it has
+abbrev pub second_text : (bytes : List ℕ) → List ℕ
+second_text bytes = left_out_text (codes "a second table of its name") bytes
+
 -- each of these rows, and how much a script leaves out with them
 abbrev pub left_text : (strays : List (List ℕ)) → (count : ℕ) → List ℕ
 left_text strays count = flat_map stray_text strays ++ count_text count

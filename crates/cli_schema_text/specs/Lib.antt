@@ -2,4 +2,4 @@ pub mod Comments
 pub mod Names
 pub mod Texts
 pub mod Keys
-pub mod internal
+pub mod Seen

@@ -3,7 +3,7 @@ ghost use Rattle.std.specs.Prelude.{◌≡◌, OnOk, map};
 ghost use Rattle.std.specs.Io.KnownBytes.{Appends};
 ghost use Rattle.std.specs.List.{flat_map};
 ghost use Rattle.cli_schema_text.specs.Comments.{count_text, hex_line, left_out_text, left_text};
-ghost use Rattle.cli_schema_text.specs.Comments.{stray_text, unnamed_text, unread_text, why_text};
+ghost use Rattle.cli_schema_text.specs.Comments.{second_text, stray_text, unnamed_text, unread_text, why_text};
 
 use cli_text::write_hex;
 use schema_print::Why;
@@ -77,6 +77,24 @@ pub fn write_strays<W: Write>(out: &mut W, strays: &[Vec<u8>]) -> io::Result<()>
 {
     for bytes in strays {
         write_stray(out, bytes.as_slice())?;
+    }
+    Ok(())
+}
+
+/// A comment of one line for a table whose name one before it has, with the bytes of its text.
+fn write_second<W: Write>(out: &mut W, bytes: &[u8]) -> io::Result<()>
+    ensures { OnOk result (Appends (W.contents out.old) (W.contents out.new) (second_text bytes.now)) }
+{
+    write_left_out(out, b"a second table of its name", bytes)
+}
+
+/// The same for each of these. An error of the writer.
+pub fn write_seconds<W: Write>(out: &mut W, seconds: &[Vec<u8>]) -> io::Result<()>
+    ensures { OnOk result (Appends (W.contents out.old) (W.contents out.new)
+        (flat_map second_text (map (λ v. v.items) seconds.now))) }
+{
+    for bytes in seconds {
+        write_second(out, bytes.as_slice())?;
     }
     Ok(())
 }

@@ -8,7 +8,7 @@ ghost use Rattle.std.specs.Str.{bytes_eq, str_to_ascii_lowercase};
 ghost use Rattle.cli_row_text.specs.Inserts.{quoted, columns_text};
 ghost use Rattle.cli_row_text.specs.Lines.{between_marks};
 ghost use Rattle.cli_schema_text.specs.Names.{can_be_named, are_distinct, numbered, column_names, fallback_text};
-ghost use Rattle.cli_schema_text.specs.internal.Seen.{has_lowered};
+ghost use Rattle.cli_schema_text.specs.Seen.{has_lowered};
 
 use cli_row_text::write_between;
 use std::alloc::{AllocError, Global};
@@ -40,14 +40,14 @@ fn lowered(alloc: Global, name: &[u8]) -> Result<Vec<u8>, AllocError>
 }
 
 /// A set without names.
-fn no_names(alloc: Global) -> BTreeSet<Vec<u8>>
+pub fn no_names(alloc: Global) -> BTreeSet<Vec<u8>>
     ensures { (key : List ℕ) → has_lowered result key ≡ false }
 {
     BTreeSet::new(alloc)
 }
 
-/// Adds a name to a set. False if it was there.
-fn add_name(alloc: Global, seen: &mut BTreeSet<Vec<u8>>, name: &[u8]) -> Result<bool, AllocError>
+/// Adds a name to a set. False if it was there. SQLite's names don't tell ASCII's small letters from its capitals.
+pub fn add_name(alloc: Global, seen: &mut BTreeSet<Vec<u8>>, name: &[u8]) -> Result<bool, AllocError>
     ensures fresh { IfOk result (λ fresh. fresh ≡ not (has_lowered seen.old (str_to_ascii_lowercase name.now))) }
     ensures held { OnOk result ((key : List ℕ) → has_lowered seen.new key
         ≡ (has_lowered seen.old key || bytes_eq key (str_to_ascii_lowercase name.now))) }

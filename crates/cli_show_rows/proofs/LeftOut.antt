@@ -45,39 +45,43 @@ pub kept_more : (objects : List Object) (i : ℕ) (x : Object) (n : ℕ) (left :
 kept_more objects i x n left within has is so =
     subst (λ m. HasLeftOut (take (i + 1) objects) m) (ap (λ (b : Bool). counted b n) so) (left_more objects i x n left within has is)
 
-pub no_strays : (strays : List (List ℕ)) (n : ℕ) → n + length strays ≡ 0 → strays ≡ []
-no_strays [] n none = refl
-no_strays (t ∷ strays) n none = absurd (omega arith)
+no_texts : (texts : List (List ℕ)) → length texts ≡ 0 → texts ≡ []
+no_texts [] none = refl
+no_texts (t ∷ texts) none = absurd (omega arith)
 
 -- all was printed, and nothing left out
-pub nothing_left : (d : Database) (notation : Notation) (old ended after : Option (List ℕ)) (strays : List (List ℕ)) (count : ℕ)
-    → AreAllPrinted d notation strays count old ended → count ≡ 0 → ended ≡ after → AreTablesPrinted d notation old after
-nothing_left d notation old ended after strays count w zero same =
-    let none : strays ≡ [] = no_strays strays w.out (sym w.counted ∙ zero) in
-    let bare : AreAllPrinted d notation [] count old ended = subst (λ (ts : List (List ℕ)). AreAllPrinted d notation ts count old ended) none w in
-    let naught : AreAllPrinted d notation [] 0 old ended = subst (λ (n : ℕ). AreAllPrinted d notation [] n old ended) zero bare in
-    subst (λ (z : Option (List ℕ)). AreAllPrinted d notation [] 0 old z) same naught
+pub nothing_left : (d : Database) (notation : Notation) (old ended after : Option (List ℕ)) (seconds strays : List (List ℕ)) (count : ℕ)
+    → AreAllPrinted d notation seconds strays count old ended → count ≡ 0 → ended ≡ after → AreTablesPrinted d notation old after
+nothing_left d notation old ended after seconds strays count w zero same =
+    let sum = w.counted in
+    let unique : seconds ≡ [] = no_texts seconds (omega (arith, sum)) in
+    let none : strays ≡ [] = no_texts strays (omega (arith, sum)) in
+    let one : AreAllPrinted d notation [] strays count old ended = subst (λ (ts : List (List ℕ)). AreAllPrinted d notation ts strays count old ended) unique w in
+    let bare : AreAllPrinted d notation [] [] count old ended = subst (λ (ts : List (List ℕ)). AreAllPrinted d notation [] ts count old ended) none one in
+    let naught : AreAllPrinted d notation [] [] 0 old ended = subst (λ (n : ℕ). AreAllPrinted d notation [] [] n old ended) zero bare in
+    subst (λ (z : Option (List ℕ)). AreAllPrinted d notation [] [] 0 old z) same naught
 
 -- all was printed, and what is left out counted
-pub some_left_out : (d : Database) (notation : Notation) (old ended after : Option (List ℕ)) (strays : List (List ℕ)) (count : ℕ) (stop : Stop)
-    → AreAllPrinted d notation strays count old ended → IsCounted (left_text_in notation strays count) count stop ended after → AreTablesStopped d notation stop old after
-some_left_out d notation old ended after strays count (LeftOut n) w told =
+pub some_left_out : (d : Database) (notation : Notation) (old ended after : Option (List ℕ)) (seconds strays : List (List ℕ)) (count : ℕ) (stop : Stop)
+    → AreAllPrinted d notation seconds strays count old ended → IsCounted (left_text_in notation seconds strays count) count stop ended after → AreTablesStopped d notation stop old after
+some_left_out d notation old ended after seconds strays count (LeftOut n) w told =
     let is : n ≡ count = told.0 in
     inr (inr (inr (
+      seconds,
       strays,
       ended,
-      subst (λ (m : ℕ). AreAllPrinted d notation strays m old ended) (sym is) w,
+      subst (λ (m : ℕ). AreAllPrinted d notation seconds strays m old ended) (sym is) w,
       subst (λ (m : ℕ). 0 < m) (sym is) told.1,
-      subst (λ (m : ℕ). Appends ended after (left_text_in notation strays m)) (sym is) told.2,
+      subst (λ (m : ℕ). Appends ended after (left_text_in notation seconds strays m)) (sym is) told.2,
     )))
-some_left_out d notation old ended after strays count (Write e) w told = inr (inl tt)
-some_left_out d notation old ended after strays count (Fault e) w told = absurd told
-some_left_out d notation old ended after strays count (Record e) w told = absurd told
-some_left_out d notation old ended after strays count TooLong w told = absurd told
-some_left_out d notation old ended after strays count NotUnderstood w told = absurd told
-some_left_out d notation old ended after strays count Default w told = absurd told
-some_left_out d notation old ended after strays count Behind w told = absurd told
-some_left_out d notation old ended after strays count Encoding w told = absurd told
-some_left_out d notation old ended after strays count NotNamed w told = absurd told
-some_left_out d notation old ended after strays count NoSuchTable w told = absurd told
-some_left_out d notation old ended after strays count NoMemory w told = absurd told
+some_left_out d notation old ended after seconds strays count (Write e) w told = inr (inl tt)
+some_left_out d notation old ended after seconds strays count (Fault e) w told = absurd told
+some_left_out d notation old ended after seconds strays count (Record e) w told = absurd told
+some_left_out d notation old ended after seconds strays count TooLong w told = absurd told
+some_left_out d notation old ended after seconds strays count NotUnderstood w told = absurd told
+some_left_out d notation old ended after seconds strays count Default w told = absurd told
+some_left_out d notation old ended after seconds strays count Behind w told = absurd told
+some_left_out d notation old ended after seconds strays count Encoding w told = absurd told
+some_left_out d notation old ended after seconds strays count NotNamed w told = absurd told
+some_left_out d notation old ended after seconds strays count NoSuchTable w told = absurd told
+some_left_out d notation old ended after seconds strays count NoMemory w told = absurd told

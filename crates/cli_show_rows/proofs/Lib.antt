@@ -5,3 +5,4 @@ pub mod DefaultsStored
 pub mod LeftOut
 pub mod Cases
 pub mod StraysTaken
+pub mod Parted

@@ -24,6 +24,7 @@ use Rattle.cli_row_text.specs.Printed.{IsPrintedUntil, PrintRefused, WrittenUnti
 use Rattle.cli_show_rows.specs.declared.stop.Stop.{Stop}
 use Rattle.cli_show_rows.specs.Dumps.{AreCounting, first_text, form_in, settings_text}
 use Rattle.cli_show_rows.specs.Schemas.{AreColumnsIn, HasObjectsRead}
+use Rattle.cli_show_rows.specs.Seconds.{ArePartedIn}
 use Rattle.cli_show_rows.specs.Tables.{IsInsert, IsNameFor, leads_in}
 use Rattle.cli_show_rows.specs.Stops.{AreObjectsStopped, AreTablesStopped, IsBegun, IsEnded, IsHeadedStopped, IsNamedStopped, IsStopTold, StopsAt, SchemaRefused}
 use Rattle.cli_show_rows.specs.Stops.{WrittenUntil as StoppedUntil}
@@ -99,12 +100,12 @@ schema_refused d (list_errors.Record e) h = h
 schema_refused d list_errors.NoMemory h = tt
 
 -- the rows of a database, or of a table, that stopped, as they are told
-pub stopped_ended : (d : Database) (notation : Notation) (old begun mid after : Option (List ℕ)) (objects : List Object) (counting : Bool) (stop ended : Stop)
-    → HasObjectsRead d objects → word (page d 1) 56 ≤ 3 → AreCounting notation objects counting → Appends old begun (first_text (form_in d notation))
+pub stopped_ended : (d : Database) (notation : Notation) (old begun mid after : Option (List ℕ)) (listed objects : List Object) (seconds : List (List ℕ)) (counting : Bool) (stop ended : Stop)
+    → HasObjectsRead d listed → ArePartedIn notation listed objects seconds → word (page d 1) 56 ≤ 3 → AreCounting notation objects counting → Appends old begun (first_text (form_in d notation))
     → AreObjectsStopped d (form_in d notation) counting objects stop begun mid → IsEnded (IsStopTold notation) stop ended mid after → AreTablesStopped d notation ended old after
-stopped_ended d notation old begun mid after objects counting stop ended has encoded counts first stopped (inl w) = inr (inl w)
-stopped_ended d notation old begun mid after objects counting stop ended has encoded counts first stopped (inr w) =
-    inr (inr (inl (objects, counting, begun, mid, has, encoded, counts, first, subst (λ (s : Stop). AreObjectsStopped d (form_in d notation) counting objects s begun mid) (sym w.0) stopped, w.1)))
+stopped_ended d notation old begun mid after listed objects seconds counting stop ended has parted encoded counts first stopped (inl w) = inr (inl w)
+stopped_ended d notation old begun mid after listed objects seconds counting stop ended has parted encoded counts first stopped (inr w) =
+    inr (inr (inl (listed, objects, seconds, counting, begun, mid, has, parted, encoded, counts, first, subst (λ (s : Stop). AreObjectsStopped d (form_in d notation) counting objects s begun mid) (sym w.0) stopped, w.1)))
 
 pub named_ended : (d : Database) (name : List ℕ) (notation : Notation) (old begun mid after : Option (List ℕ)) (objects : List Object) (table : Object) (stop ended : Stop)
     → HasObjectsRead d objects → Contains objects table → IsTableNamed name table → Appends old begun (settings_text notation)

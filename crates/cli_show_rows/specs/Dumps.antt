@@ -1,7 +1,7 @@
 -- All tables of a database as they are printed (own).
 use Rattle.std.specs.Prelude.{◌≡◌, ◌⊎◌, ◌+◌, ◌&&◌, ◌||◌, ℕ, suc, ◌≤◌, All, nat_le, Bool, true, false, not, if◌then◌else◌, MatchBool, List, [], ◌∷◌, ◌++◌, length, take, Option, codes}
 use Rattle.std.specs.Io.KnownBytes.{Appends}
-use Rattle.std.specs.List.{Contains}
+use Rattle.std.specs.List.{Contains, flat_map}
 use Rattle.std.specs.Str.{str_eq_ignore_ascii_case}
 use Rattle.sqval.specs.Bytes.{word}
 use Rattle.sqval.specs.Database.{Database, page}
@@ -18,7 +18,7 @@ use Rattle.cli_row_text.specs.declared.form.Notation.{Notation}
 use Rattle.cli_row_text.specs.declared.form.Notation.TheVariants.{Json, Csv, Sql}
 use Rattle.cli_row_text.specs.Headings.{heading_text}
 use Rattle.cli_row_text.specs.Lines.{form_of}
-use Rattle.cli_schema_text.specs.Comments.{left_text, unnamed_text, unread_text}
+use Rattle.cli_schema_text.specs.Comments.{left_text, second_text, unnamed_text, unread_text}
 use Rattle.cli_schema_text.specs.Keys.{CountsKeys}
 use Rattle.cli_schema_text.specs.Names.{can_be_named, column_names, fallback_text}
 use Rattle.cli_schema_text.specs.Texts.{IsJudged, IsTextPrinted, is_left_out, printed_text, schema_row_text}
@@ -27,6 +27,7 @@ use Rattle.schema_print.specs.declared.refusals.Printed.TheVariants.{RowOfSchema
 use Rattle.cli_show_rows.specs.declared.dump.Turn.{Turn}
 use Rattle.cli_show_rows.specs.declared.dump.Turn.TheVariants.{Tables, Sequence, Indexes, Statistics, Others, Virtual}
 use Rattle.cli_show_rows.specs.Schemas.{AreColumnsIn, HasObjectsRead}
+use Rattle.cli_show_rows.specs.Seconds.{ArePartedIn}
 use Rattle.cli_show_rows.specs.Strays.{HasStrays}
 use Rattle.cli_show_rows.specs.Tables.{IsHeadedPrinted, are_unnamed, is_named_in}
 
@@ -272,17 +273,20 @@ LeavesOutIn Json objects n = n ≡ 0
 LeavesOutIn Csv objects n = n ≡ 0
 LeavesOutIn Sql objects n = HasLeftOut objects n
 
--- behind all else in a script: the rows of the schema that describe no object, and how much is left out with them
-abbrev pub left_text_in : Notation → (strays : List (List ℕ)) → (count : ℕ) → List ℕ
-left_text_in Json strays count = []
-left_text_in Csv strays count = []
-left_text_in Sql strays count = left_text strays count
+-- behind all else in a script: tables that are second of their name, the rows of the schema that describe no object, and how
+-- much is left out with them
+abbrev pub left_text_in : Notation → (seconds strays : List (List ℕ)) → (count : ℕ) → List ℕ
+left_text_in Json seconds strays count = []
+left_text_in Csv seconds strays count = []
+left_text_in Sql seconds strays count = flat_map second_text seconds ++ left_text strays count
 
 -- The objects of a database were printed behind what a script begins with, and so much is left out: rows of the schema that
--- describe no object, and in a script texts and tables.
-pub record AreAllPrinted (d : Database) (notation : Notation) (strays : List (List ℕ)) (left : ℕ) (before after : Option (List ℕ)) : Type 0 where
+-- describe no object, and in a script texts and tables, also those second of their name.
+pub record AreAllPrinted (d : Database) (notation : Notation) (seconds strays : List (List ℕ)) (left : ℕ) (before after : Option (List ℕ)) : Type 0 where
+  pub listed : List Object
+  pub has : HasObjectsRead d listed
   pub objects : List Object
-  pub has : HasObjectsRead d objects
+  pub parted : ArePartedIn notation listed objects seconds
   pub has_strays : HasStrays d (encoding_of d) strays
   pub encoded : word (page d 1) 56 ≤ 3
   pub counting : Bool
@@ -292,11 +296,11 @@ pub record AreAllPrinted (d : Database) (notation : Notation) (strays : List (Li
   pub printed : AreObjectsPrinted d (form_in d notation) counting objects begun after
   pub out : ℕ
   pub leaves_out : LeavesOutIn notation objects out
-  pub counted : left ≡ out + length strays
+  pub counted : left ≡ out + length seconds + length strays
 
 -- They were, and nothing is left out.
 abbrev pub AreTablesPrinted : Database → Notation → (before after : Option (List ℕ)) → Type 0
-AreTablesPrinted d notation before after = AreAllPrinted d notation [] 0 before after
+AreTablesPrinted d notation before after = AreAllPrinted d notation [] [] 0 before after
 
 -- The rows of a table of this name were printed behind its heading.
 pub record IsNamedPrinted (d : Database) (name : List ℕ) (notation : Notation) (before after : Option (List ℕ)) : Type 0 where

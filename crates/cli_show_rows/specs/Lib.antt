@@ -1,5 +1,6 @@
 pub mod Schemas
 pub mod Strays
+pub mod Seconds
 pub mod Tables
 pub mod Dumps
 pub mod Stops

@@ -22,6 +22,7 @@ use Rattle.cli_show_rows.specs.declared.stop.Stop.TheVariants.{Fault, Record, To
 use Rattle.cli_show_rows.specs.declared.dump.Turn.{Turn}
 use Rattle.cli_show_rows.specs.declared.dump.Turn.TheVariants.{Tables, Sequence, Indexes, Statistics, Others, Virtual}
 use Rattle.cli_show_rows.specs.Schemas.{AreColumnsIn, HasObjectsRead}
+use Rattle.cli_show_rows.specs.Seconds.{ArePartedIn}
 use Rattle.cli_show_rows.specs.Tables.{IsInsert, IsNameFor, are_unnamed, is_named_in, leads_in}
 use Rattle.cli_show_rows.specs.Dumps.{AreAllPrinted, AreCounting, AreRowsCommitted, AreTurnsTaken, IsInTurn, IsMadeWritten, IsUnreadIn}
 use Rattle.cli_show_rows.specs.Dumps.{first_text, form_in, left_text_in, settings_text}
@@ -168,8 +169,8 @@ AreObjectsStopped d form counting objects stop before after =
 -- All was printed but what is left out, which the last line of a script counts.
 abbrev pub AreSomeLeftOut : Database → Notation → Stop → (before after : Option (List ℕ)) → Type 0
 AreSomeLeftOut d notation (LeftOut n) before after =
-    (strays : List (List ℕ)) × (ended : Option (List ℕ)) × AreAllPrinted d notation strays n before ended × (0 < n)
-    × Appends ended after (left_text_in notation strays n)
+    (seconds strays : List (List ℕ)) × (ended : Option (List ℕ)) × AreAllPrinted d notation seconds strays n before ended × (0 < n)
+    × Appends ended after (left_text_in notation seconds strays n)
 AreSomeLeftOut d notation _ before after = ⊥
 
 -- The printing of a database stopped: its objects aren't listed, or one isn't printed to its end, which a script tells, or the
@@ -178,6 +179,7 @@ abbrev pub AreTablesStopped : Database → Notation → Stop → (before after :
 AreTablesStopped d notation stop before after =
     (SchemaRefused d stop × (before ≡ after))
     ⊎ IsWriteError stop
-    ⊎ ((objects : List Object) × (counting : Bool) × (begun mid : Option (List ℕ)) × HasObjectsRead d objects × (word (page d 1) 56 ≤ 3) × AreCounting notation objects counting
+    ⊎ ((listed objects : List Object) × (seconds : List (List ℕ)) × (counting : Bool) × (begun mid : Option (List ℕ)) × HasObjectsRead d listed × ArePartedIn notation listed objects seconds
+    × (word (page d 1) 56 ≤ 3) × AreCounting notation objects counting
     × Appends before begun (first_text (form_in d notation)) × AreObjectsStopped d (form_in d notation) counting objects stop begun mid × IsStopTold notation mid after)
     ⊎ AreSomeLeftOut d notation stop before after

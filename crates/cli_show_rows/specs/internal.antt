@@ -1,3 +1,4 @@
 -- What no public clause reaches.
+pub mod Parting
 pub mod Stopping
 pub mod Straying

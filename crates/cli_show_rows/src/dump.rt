@@ -17,6 +17,7 @@ ghost use Rattle.cli_show_rows.specs.internal.Stopping.{IsCounted};
 ghost use Rattle.cli_show_rows.specs.Strays.{bytes_of};
 
 use crate::schema::listed;
+use crate::seconds::parted_in;
 use crate::stop::{Stop, stopped_script};
 use crate::table::is_named_in;
 use crate::tables::print_headed;
@@ -25,7 +26,7 @@ use crate::texts::{
     print_making, print_statement, print_virtual_text,
 };
 use cli_row_text::{Form, Notation, write_heading};
-use cli_schema_text::{write_left, write_unread};
+use cli_schema_text::{write_left, write_seconds, write_unread};
 use sqdeep::Encoding;
 use sqpage::PageSource;
 use sqtables::{Object, table_named};
@@ -426,15 +427,19 @@ fn print_objects<S: PageSource, W: Write>(
 fn write_left_in<W: Write>(
     out: &mut W,
     notation: Notation,
+    seconds: &[Vec<u8>],
     strays: &[Vec<u8>],
     count: usize,
 ) -> io::Result<()>
     ensures { OnOk result (Appends (W.contents out.old) (W.contents out.new)
-        (left_text_in notation (bytes_of strays.now) count)) }
+        (left_text_in notation (bytes_of seconds.now) (bytes_of strays.now) count)) }
 {
     match notation {
         Notation::Json | Notation::Csv => Ok(()),
-        Notation::Sql => write_left(out, strays, count),
+        Notation::Sql => {
+            write_seconds(out, seconds)?;
+            write_left(out, strays, count)
+        }
     }
 }
 
@@ -442,17 +447,18 @@ fn write_left_in<W: Write>(
 fn print_count<W: Write>(
     out: &mut W,
     notation: Notation,
+    seconds: &[Vec<u8>],
     strays: &[Vec<u8>],
     count: usize,
 ) -> Result<(), Stop>
     ensures ok { OnOk result ((count ≡ 0) × (W.contents out.old ≡ W.contents out.new)) }
-    ensures err { IfErr result (λ stop. IsCounted (left_text_in notation (bytes_of strays.now) count) count stop
-        (W.contents out.old) (W.contents out.new)) }
+    ensures err { IfErr result (λ stop. IsCounted (left_text_in notation (bytes_of seconds.now) (bytes_of strays.now)
+        count) count stop (W.contents out.old) (W.contents out.new)) }
 {
     if count == 0 {
         return Ok(());
     }
-    match write_left_in(out, notation, strays, count) {
+    match write_left_in(out, notation, seconds, strays, count) {
         Ok(()) => Err(Stop::LeftOut(count)),
         Err(error) => Err(Stop::Write(error)),
     }
@@ -472,7 +478,8 @@ fn stopped<W: Write>(out: &mut W, notation: Notation, stop: Stop) -> Stop
 /// the encoding UTF-16 if it has that; as one transaction, of each table what makes it (`print_making`) and its rows;
 /// after it indexes, what ANALYZE found, triggers and views by their texts, and virtual tables as rows of the schema.
 /// sqlite_sequence is emptied only if a printed text has AUTOINCREMENT. A comment replaces each text that sqlite3's
-/// shell would read differently from SQLite, and each row of the schema that is no object; the last line counts them.
+/// shell would read differently from SQLite, each table whose name one before it has, and each row of the schema that
+/// is no object; the last line counts them.
 /// In CSV a line `table,"NAME"` stands before the heading of each table. Refused as `print_table` is, by the faults of
 /// the schema, by `Encoding` if the encoding of texts isn't known, and by `LeftOut` if anything is left out: then the
 /// rest was printed. A script that had to stop ends with a statement that fails, except after `LeftOut`.
@@ -493,11 +500,14 @@ pub fn print_tables<S: PageSource, W: Write>(
         Ok(schema) => schema,
         Err(stop) => return Err(stop),
     };
-    let Ok(left) = left_out_in(alloc, notation, &schema.objects) else {
+    let Ok(parted) = parted_in(alloc, notation, schema.objects) else {
         return Err(Stop::NoMemory);
     };
-    let count = left + schema.strays.len();
-    let Ok(counting) = counting_in(alloc, notation, &schema.objects) else {
+    let Ok(left) = left_out_in(alloc, notation, &parted.objects) else {
+        return Err(Stop::NoMemory);
+    };
+    let count = left + parted.seconds.len() + schema.strays.len();
+    let Ok(counting) = counting_in(alloc, notation, &parted.objects) else {
         return Err(Stop::NoMemory);
     };
     let form = Form {
@@ -508,9 +518,9 @@ pub fn print_tables<S: PageSource, W: Write>(
         Ok(()) => {}
         Err(error) => return Err(Stop::Write(error)),
     }
-    let of = (schema.objects.as_slice(), counting);
+    let of = (parted.objects.as_slice(), counting);
     match print_objects(alloc, source, of, form, out) {
-        Ok(()) => print_count(out, notation, &schema.strays, count),
+        Ok(()) => print_count(out, notation, &parted.seconds, &schema.strays, count),
         Err(stop) => Err(stopped(out, notation, stop)),
     }
 }

@@ -4,6 +4,7 @@
 mod columns;
 mod dump;
 mod schema;
+mod seconds;
 mod stop;
 mod strays;
 mod table;

@@ -1,2 +1,0 @@
--- What no public clause reaches.
-pub mod Seen
