@@ -17,7 +17,7 @@ ghost use Rattle.cli_show_rows.specs.internal.Stopping.{IsCounted};
 ghost use Rattle.cli_show_rows.specs.Strays.{bytes_of};
 
 use crate::schema::listed;
-use crate::seconds::parted_in;
+use crate::seconds::part_in;
 use crate::stop::{Stop, stopped_script};
 use crate::table::is_named_in;
 use crate::tables::print_headed;
@@ -500,7 +500,7 @@ pub fn print_tables<S: PageSource, W: Write>(
         Ok(schema) => schema,
         Err(stop) => return Err(stop),
     };
-    let Ok(parted) = parted_in(alloc, notation, schema.objects) else {
+    let Ok(parted) = part_in(alloc, notation, schema.objects) else {
         return Err(Stop::NoMemory);
     };
     let Ok(left) = left_out_in(alloc, notation, &parted.objects) else {

@@ -37,7 +37,7 @@ fn is_second(
 }
 
 /// Parts objects from the tables that are second of their name. Takes time like n log n.
-fn parted(alloc: Global, objects: Vec<Object>) -> Result<Parted, AllocError>
+fn part(alloc: Global, objects: Vec<Object>) -> Result<Parted, AllocError>
     ensures parted { IfOk result (λ p. AreParted [] objects.items p.objects.items (bytes_of p.seconds.items)) }
     ensures few { IfOk result (λ p. length p.objects.items + length p.seconds.items ≤ length objects.items) }
 {
@@ -58,7 +58,7 @@ fn parted(alloc: Global, objects: Vec<Object>) -> Result<Parted, AllocError>
 }
 
 /// The same in a notation: only a script leaves tables out.
-pub(crate) fn parted_in(
+pub(crate) fn part_in(
     alloc: Global,
     notation: Notation,
     objects: Vec<Object>,
@@ -71,6 +71,6 @@ pub(crate) fn parted_in(
             objects,
             seconds: Vec::new(alloc),
         }),
-        Notation::Sql => parted(alloc, objects),
+        Notation::Sql => part(alloc, objects),
     }
 }

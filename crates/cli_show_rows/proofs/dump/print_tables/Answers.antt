@@ -25,15 +25,15 @@ returns-clause-err g c = λ gives.
     let keeps = c.in-Ok.ensures.keeps in
     let listed = c.in-Ok.ensures.ok gives in
     let stop = c.in-Err-print_objects.stop in
-    let objects = c.in-Ok-parted_in.parted.objects.items in
+    let objects = c.in-Ok-part_in.parted.objects.items in
     let counting = c.in-Ok-counting_in.counting in
     let form = form_of notation c.in-Ok.schema.encoding in
     let stopped = subst (λ (p : Database). AreObjectsStopped p form counting c.as_slice.result.now stop begun mid) keeps.same_pages (c.in-Err-print_objects.ensures.err (keeps.still_gives gives)) in
     let own = subst (λ (os : List Object). AreObjectsStopped d form counting os stop begun mid) c.as_slice.ensures.value stopped in
     let counts = subst (λ (os : List Object). AreCounting notation os counting) c.deref-2.ensures.value c.in-Ok-counting_in.ensures in
     let first = subst (λ (e : Encoding). Appends old begun (first_text (form_of notation e))) listed.1 c.in-Ok-write_first.ensures in
-    stopped_ended d notation old begun mid after c.in-Ok.schema.objects.items objects (bytes_of c.in-Ok-parted_in.parted.seconds.items) counting stop c.stopped.result listed.0
-    c.in-Ok-parted_in.ensures.parted listed.2 counts first
+    stopped_ended d notation old begun mid after c.in-Ok.schema.objects.items objects (bytes_of c.in-Ok-part_in.parted.seconds.items) counting stop c.stopped.result listed.0
+    c.in-Ok-part_in.ensures.parted listed.2 counts first
     (subst (λ (e : Encoding). AreObjectsStopped d (form_of notation e) counting objects stop begun mid) listed.1 own) c.stopped.ensures
 
 pub returns-in-Ok-print_objects-clause-ok : goal.returns-in-Ok-print_objects-clause-ok
@@ -46,8 +46,8 @@ returns-in-Ok-print_objects-clause-ok g c = λ gives.
     let notation = c.args.notation in
     let keeps = c.in-Ok.ensures.keeps in
     let listed = c.in-Ok.ensures.ok gives in
-    let objects = c.in-Ok-parted_in.parted.objects.items in
-    let seconds = bytes_of c.in-Ok-parted_in.parted.seconds.items in
+    let objects = c.in-Ok-part_in.parted.objects.items in
+    let seconds = bytes_of c.in-Ok-part_in.parted.seconds.items in
     let strays = bytes_of c.in-Ok.schema.strays.items in
     let counting = c.in-Ok-counting_in.counting in
     let form = form_of notation c.in-Ok.schema.encoding in
@@ -55,13 +55,13 @@ returns-in-Ok-print_objects-clause-ok g c = λ gives.
     let printed = subst (λ (p : Database). AreObjectsPrinted p form counting c.as_slice.result.now begun ended) keeps.same_pages (c.in-Ok-print_objects.ensures.ok (keeps.still_gives gives)) in
     let own = subst (λ (os : List Object). AreObjectsPrinted d form counting os begun ended) c.as_slice.ensures.value printed in
     let count = left + c.len.result + c.len-2.result in
-    let few = c.len.ensures ∙ c.in-Ok-parted_in.parted.seconds.ok.0 ∙ sym (length-map c.in-Ok-parted_in.parted.seconds.items (λ v. v.items)) in
+    let few = c.len.ensures ∙ c.in-Ok-part_in.parted.seconds.ok.0 ∙ sym (length-map c.in-Ok-part_in.parted.seconds.items (λ v. v.items)) in
     let others = c.len-2.ensures ∙ c.in-Ok.schema.strays.ok.0 ∙ sym (length-map c.in-Ok.schema.strays.items (λ v. v.items)) in
     let all : AreAllPrinted d notation seconds strays count old ended = record {
       listed = c.in-Ok.schema.objects.items;
       has = listed.0;
       objects = objects;
-      parted = c.in-Ok-parted_in.ensures.parted;
+      parted = c.in-Ok-part_in.ensures.parted;
       has_strays = c.in-Ok.ensures.strays gives;
       encoded = listed.2;
       counting = counting;
@@ -86,8 +86,8 @@ returns-in-Ok-print_objects-clause-err g c = λ gives.
     let notation = c.args.notation in
     let keeps = c.in-Ok.ensures.keeps in
     let listed = c.in-Ok.ensures.ok gives in
-    let objects = c.in-Ok-parted_in.parted.objects.items in
-    let seconds = bytes_of c.in-Ok-parted_in.parted.seconds.items in
+    let objects = c.in-Ok-part_in.parted.objects.items in
+    let seconds = bytes_of c.in-Ok-part_in.parted.seconds.items in
     let strays = bytes_of c.in-Ok.schema.strays.items in
     let counting = c.in-Ok-counting_in.counting in
     let form = form_of notation c.in-Ok.schema.encoding in
@@ -95,13 +95,13 @@ returns-in-Ok-print_objects-clause-err g c = λ gives.
     let printed = subst (λ (p : Database). AreObjectsPrinted p form counting c.as_slice.result.now begun ended) keeps.same_pages (c.in-Ok-print_objects.ensures.ok (keeps.still_gives gives)) in
     let own = subst (λ (os : List Object). AreObjectsPrinted d form counting os begun ended) c.as_slice.ensures.value printed in
     let count = left + c.len.result + c.len-2.result in
-    let few = c.len.ensures ∙ c.in-Ok-parted_in.parted.seconds.ok.0 ∙ sym (length-map c.in-Ok-parted_in.parted.seconds.items (λ v. v.items)) in
+    let few = c.len.ensures ∙ c.in-Ok-part_in.parted.seconds.ok.0 ∙ sym (length-map c.in-Ok-part_in.parted.seconds.items (λ v. v.items)) in
     let others = c.len-2.ensures ∙ c.in-Ok.schema.strays.ok.0 ∙ sym (length-map c.in-Ok.schema.strays.items (λ v. v.items)) in
     let all : AreAllPrinted d notation seconds strays count old ended = record {
       listed = c.in-Ok.schema.objects.items;
       has = listed.0;
       objects = objects;
-      parted = c.in-Ok-parted_in.ensures.parted;
+      parted = c.in-Ok-part_in.ensures.parted;
       has_strays = c.in-Ok.ensures.strays gives;
       encoded = listed.2;
       counting = counting;
